@@ -1,0 +1,113 @@
+-- Sequences as trees. A run is an ordered forest of labelled nodes, a fold a forest that may hold repetition nodes as well
+-- (the report's repetition representation tree, source 001 section 3.1, without its root).
+use mathlib.Core.Path.{_≡_}
+use mathlib.Core.List.{List, [], _∷_, _++_}
+use Prim.Native.Nat.{ℕ, zero, suc, _+_, _*_, _/_, _%_, _≤_, _<_, max}
+use Rattle.format.specs.Limits.{Prices, of-repeat}
+
+-- A sequence: nothing, or its first item and the rest.
+pub data Forest : Type 0 where
+  end : Forest
+  step : (label : ℕ) → Forest → Forest
+  group : (label : ℕ) → Forest → Forest → Forest
+  repeat : (count width : ℕ) → Forest → Forest → Forest
+  deriving Discrete as Forest-discrete
+
+-- One sequence after another.
+unfoldable pub join : Forest → Forest → Forest
+join end g = g
+join (step l f) g = step l (join f g)
+join (group l b f) g = group l b (join f g)
+join (repeat h w b f) g = repeat h w b (join f g)
+
+-- h copies of a sequence, end to end.
+unfoldable pub copies : ℕ → Forest → Forest
+unfolding join
+copies zero f = end
+copies (suc h) f = join f (copies h f)
+
+-- Unrolling writes a repeat's unrolled body count times and every other item as it stands.
+unfoldable pub unroll : Forest → Forest
+unfolding copies join
+unroll end = end
+unroll (step l f) = step l (unroll f)
+unroll (group l b f) = group l (unroll b) (unroll f)
+unroll (repeat h w b f) = join (copies h (unroll b)) (unroll f)
+
+-- The siblings: the nodes of the sequence's own level after unrolling.
+unfoldable pub siblings : Forest → ℕ
+siblings end = 0
+siblings (step l f) = 1 + siblings f
+siblings (group l b f) = 1 + siblings f
+siblings (repeat h w b f) = h * siblings b + siblings f
+
+-- The nodes after unrolling, those inside groups among them.
+unfoldable pub nodes : Forest → ℕ
+nodes end = 0
+nodes (step l f) = 1 + nodes f
+nodes (group l b f) = 1 + nodes b + nodes f
+nodes (repeat h w b f) = h * nodes b + nodes f
+
+-- The cost of a fold: the sum over its own commands, a body's cost not multiplied.
+unfoldable pub cost : Prices → Forest → ℕ
+cost P end = 0
+cost P (step l f) = P .of-step l + cost P f
+cost P (group l b f) = P .of-group l + cost P b + cost P f
+cost P (repeat h w b f) = of-repeat P h + cost P b + cost P f
+
+-- Two bytes, the high one first.
+abbrev pub two-bytes : ℕ → List ℕ → List ℕ
+two-bytes n s = n / 256 ∷ n % 256 ∷ s
+
+-- The byte form.
+unfoldable pub bytes : Forest → List ℕ
+bytes end = []
+bytes (step l f) = 0x10 ∷ l ∷ bytes f
+bytes (group l b f) = 0x11 ∷ l ∷ bytes b ++ 0x12 ∷ bytes f
+bytes (repeat h w b f) = 0x20 ∷ two-bytes h (two-bytes w (bytes b ++ 0x21 ∷ bytes f))
+
+-- A run: no repeat anywhere.
+abbrev pub Plain : Forest → Type 0
+Plain end = Unit
+Plain (step l f) = Plain f
+Plain (group l b f) = Plain b × Plain f
+Plain (repeat h w b f) = ⊥
+
+-- What folds may be used: the widest width that a repeat may have.
+pub record Allowed : Type 0 where
+  pub widest : ℕ
+
+-- A repeat of count h and width w over the body b is sound: at least two copies, the width operand is the number of
+-- siblings of one pass, within the limit, and the body is not empty.
+pub record Repeats (A : Allowed) (h w : ℕ) (b : Forest) : Type 0 where
+  pub twice : 2 ≤ h
+  pub true-width : siblings b ≡ w
+  pub within : w ≤ A .widest
+  pub some : 0 < siblings b
+
+-- A sound fold: each repeat is, and no group is empty.
+abbrev pub Sound : Allowed → Forest → Type 0
+Sound A end = Unit
+Sound A (step l f) = Sound A f
+Sound A (group l b f) = (0 < siblings b) × Sound A b × Sound A f
+Sound A (repeat h w b f) = Repeats A h w b × Sound A b × Sound A f
+
+-- Labels that are bytes and counts of two bytes: what the byte form can hold.
+abbrev pub Coded : Forest → Type 0
+Coded end = Unit
+Coded (step l f) = (l < 256) × Coded f
+Coded (group l b f) = (l < 256) × Coded b × Coded f
+Coded (repeat h w b f) = (h < 65536) × (w < 65536) × Coded b × Coded f
+
+-- The most groups, and the most repeats, that stand inside each other.
+unfoldable pub group-depth : Forest → ℕ
+group-depth end = 0
+group-depth (step l f) = group-depth f
+group-depth (group l b f) = max (suc (group-depth b)) (group-depth f)
+group-depth (repeat h w b f) = max (group-depth b) (group-depth f)
+
+unfoldable pub repeat-depth : Forest → ℕ
+repeat-depth end = 0
+repeat-depth (step l f) = repeat-depth f
+repeat-depth (group l b f) = max (repeat-depth b) (repeat-depth f)
+repeat-depth (repeat h w b f) = max (suc (repeat-depth b)) (repeat-depth f)

@@ -1,0 +1,7 @@
+-- The definitions that a reader must believe, in the order in which they build on each other.
+pub mod Limits
+pub mod Order
+pub mod Forest
+pub mod Machine
+pub mod Readings
+pub mod Shape

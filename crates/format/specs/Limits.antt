@@ -1,0 +1,28 @@
+-- The limits of the format and the lent prices.
+use Prim.Native.Nat.{ℕ, _+_, _-_, _*_}
+use mathlib.Core.List.{List}
+use lib.ListN.{getD}
+
+-- What the format bounds: the nodes of a run, the groups and the repeats open together, the width limit.
+pub record Limits : Type 0 where
+  pub nodes : ℕ
+  pub groups : ℕ
+  pub repeats : ℕ
+  pub width : ℕ
+
+abbrev pub limits : Limits
+limits = record { nodes = 1024; groups = 8; repeats = 10; width = 1024 }
+
+-- The weights of the report's length: of a step's label, of a group's label, and of a repeat, first + each × (h − 2) for h copies.
+pub record Prices : Type 0 where
+  pub of-step : ℕ → ℕ
+  pub of-group : ℕ → ℕ
+  pub first : ℕ
+  pub each : ℕ
+
+abbrev pub of-repeat : Prices → ℕ → ℕ
+of-repeat P h = P .first + P .each * (h - 2)
+
+-- One lent table prices the labels of steps and groups alike.
+abbrev pub priced : List ℕ → ℕ → ℕ → Prices
+priced table first each = record { of-step = λ l. getD table l 0; of-group = λ l. getD table l 0; first = first; each = each }

@@ -1,0 +1,235 @@
+-- The command machine: one pass over the bytes that passes each command or refuses it by the first row of document 01's
+-- table that applies, and counts.
+use mathlib.Core.Path.{_≡_}
+use mathlib.Core.Bool.{Bool, true, false, not, cond, _&&_, _||_}
+use mathlib.Core.List.{List, [], _∷_, _++_}
+use Prim.Native.Nat.{ℕ, zero, suc, _+_, _-_, _*_}
+use lib.Dec.{ltb, leb, eqb}
+use lib.ListN.{length, getD, drop}
+use Rattle.format.specs.Limits.{Limits, Prices, of-repeat}
+use Rattle.format.specs.declared.Tally.{Tally}
+
+-- The commands: `10` a step, `11` opens a group, `12` closes it, `20` opens a repeat, `21` closes it.
+abbrev pub is-node : ℕ → Bool
+is-node c = eqb c 0x10 || eqb c 0x11
+
+abbrev pub is-close : ℕ → Bool
+is-close c = eqb c 0x12 || eqb c 0x21
+
+abbrev pub is-known : ℕ → Bool
+is-known c = is-node c || is-close c || eqb c 0x20
+
+-- The number of operand bytes.
+abbrev pub operands : ℕ → ℕ
+operands c = cond (is-node c) 1 (cond (eqb c 0x20) 4 0)
+
+-- The operands, of the bytes behind the command: a label; a count and a width, the high byte first.
+abbrev pub label : List ℕ → ℕ
+label s = getD s 0 0
+
+abbrev pub word : List ℕ → ℕ → ℕ
+word s i = getD s i 0 * 256 + getD s (suc i) 0
+
+abbrev pub count : List ℕ → ℕ
+count s = word s 0
+
+abbrev pub width : List ℕ → ℕ
+width s = word s 2
+
+-- What is open, with the counts outside it: a group, or a repeat with its operands.
+pub data Open : Type 0 where
+  a-group : (outer : Tally) → Open
+  a-repeat : (count width : ℕ) (outer : Tally) → Open
+
+-- By what rules bytes are read: the format's limits, whether repeats may stand in them (a fold) or not (a run), the width
+-- limit, and the prices.
+pub record Rules : Type 0 where
+  pub limits : Limits
+  pub folds : Bool
+  pub widest : ℕ
+  pub prices : Prices
+
+-- Groups and repeats that are open.
+abbrev pub open-groups : List Open → ℕ
+open-groups [] = 0
+open-groups (a-group t ∷ os) = suc (open-groups os)
+open-groups (a-repeat h w t ∷ os) = open-groups os
+
+abbrev pub open-repeats : List Open → ℕ
+open-repeats [] = 0
+open-repeats (a-group t ∷ os) = open-repeats os
+open-repeats (a-repeat h w t ∷ os) = suc (open-repeats os)
+
+-- The innermost open thing is a group; is a repeat.
+abbrev pub in-group : List Open → Bool
+in-group [] = false
+in-group (a-group t ∷ os) = true
+in-group (a-repeat h w t ∷ os) = false
+
+abbrev pub in-repeat : List Open → Bool
+in-repeat [] = false
+in-repeat (a-group t ∷ os) = false
+in-repeat (a-repeat h w t ∷ os) = true
+
+-- The width operand of the innermost repeat.
+abbrev pub claimed : List Open → ℕ
+claimed [] = 0
+claimed (a-group t ∷ os) = 0
+claimed (a-repeat h w t ∷ os) = w
+
+-- A total after a repeat of count h, where it was o at the open and is n at the close: the other h − 1 passes are added.
+abbrev pub repeated : ℕ → (o n : ℕ) → ℕ
+repeated h o n = n + (h - 1) * (n - o)
+
+abbrev pub total-of : List Open → ℕ → ℕ
+total-of [] n = n
+total-of (a-group t ∷ os) n = n
+total-of (a-repeat h w t ∷ os) n = repeated h (t .nodes) n
+
+-- The node total that a command makes.
+abbrev pub node-total : ℕ → List Open → ℕ → ℕ
+node-total c os n = cond (is-node c) (n + 1) (cond (eqb c 0x21) (total-of os n) n)
+
+-- The counts after one more node of that many bytes and that price.
+abbrev pub with-node : Tally → ℕ → ℕ → Tally
+with-node t bytes price =
+    record { siblings = t .siblings + 1; nodes = t .nodes + 1; size = t .size + bytes; cost = t .cost + price }
+
+-- The counts inside what is opened at a price: no sibling yet.
+abbrev pub inside : Tally → ℕ → Tally
+inside t price = record { siblings = 0; nodes = t .nodes; size = t .size; cost = t .cost + price }
+
+-- The counts after a group: outside it, it is one sibling.
+abbrev pub after-group : (outer inner : Tally) → Tally
+after-group o t = record { siblings = o .siblings + 1; nodes = t .nodes; size = t .size + 1; cost = t .cost }
+
+-- The counts after a repeat: all but the cost are those of h passes.
+abbrev pub after-repeat : ℕ → (outer inner : Tally) → Tally
+after-repeat h o t =
+    record {
+      siblings = o .siblings + h * t .siblings;
+      nodes = repeated h (o .nodes) (t .nodes);
+      size = repeated h (o .size) (t .size);
+      cost = t .cost;
+    }
+
+-- n copies of a list, end to end.
+unfoldable pub times : ℕ → List ℕ → List ℕ
+times zero s = []
+times (suc n) s = s ++ times n s
+
+-- What stands at a point of the reading: what is open, innermost first, the counts, and the unrolled bytes so far (an open
+-- repeat at one pass).
+pub record State : Type 0 where
+  pub opens : List Open
+  pub tally : Tally
+  pub text : List ℕ
+
+-- The state after a passed command.
+unfoldable pub put-step : Prices → ℕ → State → State
+put-step P l st =
+    record { opens = st .opens; tally = with-node (st .tally) 2 (P .of-step l); text = st .text ++ 0x10 ∷ l ∷ [] }
+
+unfoldable pub enter-group : Prices → ℕ → State → State
+enter-group P l st =
+    record {
+      opens = a-group (st .tally) ∷ st .opens;
+      tally = inside (with-node (st .tally) 2 (P .of-group l)) 0;
+      text = st .text ++ 0x11 ∷ l ∷ [];
+    }
+
+unfoldable pub leave-group : List Open → State → State
+leave-group [] st = st
+leave-group (a-group o ∷ os) st = record { opens = os; tally = after-group o (st .tally); text = st .text ++ 0x12 ∷ [] }
+leave-group (a-repeat h w o ∷ os) st = st
+
+unfoldable pub enter-repeat : Prices → (count width : ℕ) → State → State
+enter-repeat P h w st =
+    record { opens = a-repeat h w (st .tally) ∷ st .opens; tally = inside (st .tally) (of-repeat P h); text = st .text }
+
+unfoldable pub leave-repeat : List Open → State → State
+unfolding times
+leave-repeat [] st = st
+leave-repeat (a-group o ∷ os) st = st
+leave-repeat (a-repeat h w o ∷ os) st =
+    record {
+      opens = os;
+      tally = after-repeat h o (st .tally);
+      text = st .text ++ times (h - 1) (drop (o .size) (st .text));
+    }
+
+unfoldable pub advance : Prices → (command : ℕ) → (rest : List ℕ) → State → State
+unfolding put-step enter-group leave-group enter-repeat leave-repeat
+advance P c rest st =
+    cond (eqb c 0x10) (put-step P (label rest) st)
+    (cond (eqb c 0x11) (enter-group P (label rest) st)
+    (cond (eqb c 0x12) (leave-group (st .opens) st)
+    (cond (eqb c 0x20) (enter-repeat P (count rest) (width rest) st)
+    (leave-repeat (st .opens) st))))
+
+-- A row of the table: the number, and whether its condition holds.
+pub data Row : Type 0 where
+  _when_ : ℕ → Bool → Row
+
+infix 68 _when_
+-- Document 01's refusals 1 to 10 at one command, in its order. `rest` is what follows the command's byte.
+unfoldable pub rows : Rules → State → (command : ℕ) → (rest : List ℕ) → List Row
+rows R st c rest =
+    1 when not (is-known c)
+    ∷ 2 when ((eqb c 0x20 || eqb c 0x21) && not (R .folds))
+    ∷ 3 when ltb (length rest) (operands c)
+    ∷ 4 when ((eqb c 0x12 && not (in-group (st .opens))) || (eqb c 0x21 && not (in-repeat (st .opens))))
+    ∷ 5 when (is-close c && eqb (st .tally .siblings) 0)
+    ∷ 6 when (eqb c 0x20 && ltb (count rest) 2)
+    ∷ 7 when (eqb c 0x20 && ltb (R .widest) (width rest))
+    ∷ 8 when ((eqb c 0x11 && leb (R .limits .groups) (open-groups (st .opens)))
+    || (eqb c 0x20 && leb (R .limits .repeats) (open-repeats (st .opens))))
+    ∷ 9 when (eqb c 0x21 && not (eqb (st .tally .siblings) (claimed (st .opens))))
+    ∷ 10 when ltb (R .limits .nodes) (node-total c (st .opens) (st .tally .nodes))
+    ∷ []
+
+-- The number of the first row that applies, or 0.
+abbrev pub first-of : List Row → ℕ
+first-of [] = 0
+first-of (n when b ∷ rs) = cond b n (first-of rs)
+
+-- The refusal at a command, 0 where it is passed.
+unfoldable pub refusal : Rules → State → (command : ℕ) → (rest : List ℕ) → ℕ
+unfolding rows
+refusal R st c rest = first-of (rows R st c rest)
+
+-- The outcome of a reading: a refusal with its number and place, or the counts and the unrolled bytes.
+pub data Outcome : Type 0 where
+  refused : (number place : ℕ) → Outcome
+  accepted : (tally : Tally) (text : List ℕ) → Outcome
+
+-- The place of a refusal at a command: the command's offset, but for 3 the input's length.
+abbrev pub place-of : ℕ → (offset length : ℕ) → ℕ
+place-of n p e = cond (eqb n 3) e p
+
+-- Go on, or refuse.
+abbrev pub unless : ℕ → (offset length : ℕ) → Outcome → Outcome
+unless zero p e next = next
+unless (suc n) p e next = refused (suc n) (place-of (suc n) p e)
+
+-- At the end of the input nothing may be open.
+abbrev pub at-end : ℕ → List Open → State → Outcome
+at-end p [] st = accepted (st .tally) (st .text)
+at-end p (o ∷ os) st = refused 3 p
+
+-- Read on from offset p with `skip` operand bytes to pass over first.
+unfoldable pub scan : Rules → (p skip : ℕ) → State → List ℕ → Outcome
+unfolding advance refusal
+scan R p k st [] = at-end p (st .opens) st
+scan R p zero st (c ∷ s) =
+    unless (refusal R st c s) p (p + suc (length s)) (scan R (suc p) (operands c) (advance (R .prices) c s st) s)
+scan R p (suc k) st (c ∷ s) = scan R (suc p) k st s
+
+-- Before anything is read.
+abbrev pub start : State
+start = record { opens = []; tally = record { siblings = 0; nodes = 0; size = 0; cost = 0 }; text = [] }
+
+-- The reading of whole bytes.
+unfoldable pub read : Rules → List ℕ → Outcome
+unfolding scan
+read R s = scan R 0 0 start s

@@ -1,0 +1,55 @@
+-- What the readers answer: document 01's numbers, places and values for every input.
+use mathlib.Core.Path.{_≡_}
+use mathlib.Core.Bool.{Bool, true, false, not, cond}
+use mathlib.Core.List.{List, []}
+use Prim.Native.Nat.{ℕ, _≤_, _<_}
+use lib.Dec.{ltb, eqb}
+use lib.ListN.{length}
+use Rattle.format.specs.Limits.{Limits, limits, Prices, priced}
+use Rattle.format.specs.Machine.{Rules, Outcome, refused, accepted, read}
+use Rattle.format.specs.declared.Tally.{Tally}
+use Rattle.format.specs.declared.RunReading.{RunReading}
+use Rattle.format.specs.declared.FoldReading.{FoldReading}
+
+-- Nothing has a price.
+abbrev pub free : Prices
+free = priced [] 0 0
+
+-- The rules of runs: no repeats, so neither width limit nor prices matter.
+abbrev pub run-rules : Rules
+run-rules = record { limits = limits; folds = false; widest = 0; prices = free }
+
+-- The rules of folds at a width limit and prices.
+abbrev pub fold-rules : ℕ → Prices → Rules
+fold-rules k P = record { limits = limits; folds = true; widest = k; prices = P }
+
+-- A fold is well formed when none of refusals 1 and 3 to 10 applies to it at limit 1,024.
+pub record WellFormed (s : List ℕ) : Type 0 where
+  pub tally : Tally
+  pub text : List ℕ
+  pub reading : read (fold-rules (limits .width) free) s ≡ accepted tally text
+
+-- The run reader.
+abbrev pub run-answer : Outcome → RunReading
+run-answer (refused n p) = record { refusal = n; place = p; nodes = 0 }
+run-answer (accepted t x) = record { refusal = 0; place = 0; nodes = t .nodes }
+
+unfoldable pub run-reading : List ℕ → RunReading
+unfolding read
+run-reading s = run-answer (read run-rules s)
+
+-- The fold reader: 11 for the table, then 12 for the limit, then the commands.
+abbrev pub fold-answer : Outcome → FoldReading
+fold-answer (refused n p) = record { refusal = n; place = p; nodes = 0; length = 0; cost = 0 }
+fold-answer (accepted t x) = record { refusal = 0; place = 0; nodes = t .nodes; length = t .size; cost = t .cost }
+
+unfoldable pub fold-outcome : List ℕ → (limit : ℕ) → (table : List ℕ) → (first each : ℕ) → Outcome
+unfolding read
+fold-outcome s k table first each =
+    cond (not (eqb (length table) 256)) (refused 11 0)
+    (cond (ltb (limits .width) k) (refused 12 0)
+    (read (fold-rules k (priced table first each)) s))
+
+unfoldable pub fold-reading : List ℕ → (limit : ℕ) → (table : List ℕ) → (first each : ℕ) → FoldReading
+unfolding fold-outcome
+fold-reading s k table first each = fold-answer (fold-outcome s k table first each)

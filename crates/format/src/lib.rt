@@ -1,0 +1,52 @@
+// The format: its limits and its commands, each named once. Readers, unroller and folder use these names and the
+// contracts cite them.
+
+// The format of runs and folds. A run is an ordered forest, a fold its repetition representation (source 001).
+pub struct Format {}
+
+impl Format {
+    // The most nodes that a run, or the run of a fold, may have.
+    pub const NODES: usize = 1024;
+    // The most groups open at a time.
+    pub const GROUPS: usize = 8;
+    // The most repeats open at a time.
+    pub const REPEATS: usize = 10;
+    // The largest width limit.
+    pub const WIDTH: usize = 1024;
+
+    // A step: its label follows.
+    pub const STEP: u8 = 0x10;
+    // Opens a group: its label follows.
+    pub const GROUP: u8 = 0x11;
+    // Closes a group.
+    pub const GROUP_END: u8 = 0x12;
+    // Opens a repeat: count and width follow, two bytes each, the high byte first.
+    pub const REPEAT: u8 = 0x20;
+    // Closes a repeat.
+    pub const REPEAT_END: u8 = 0x21;
+}
+
+// What is counted while a sequence is read: the siblings of the innermost level, and of all that was read the nodes,
+// the run's length in bytes and the cost, an open repeat at one pass.
+pub struct Tally {
+    pub siblings: usize,
+    pub nodes: usize,
+    pub size: usize,
+    pub cost: u64,
+}
+
+// The run reader's answer: refusal number and place (0 and 0 on success), and the nodes of the run.
+pub struct RunReading {
+    pub refusal: u8,
+    pub place: usize,
+    pub nodes: usize,
+}
+
+// The fold reader's answer: refusal number and place, the nodes and the bytes of the run, and the fold's cost.
+pub struct FoldReading {
+    pub refusal: u8,
+    pub place: usize,
+    pub nodes: usize,
+    pub length: usize,
+    pub cost: u64,
+}
