@@ -1,0 +1,133 @@
+-- Laws of sequences: what joining, copying and unrolling do to byte form, counts and cost.
+use mathlib.Core.Path.{_≡_, refl, sym, ap, ap₂, _∙_}
+use mathlib.Core.List.{List, [], _∷_, _++_, append-assoc, append-nil}
+use Prim.Native.Nat.{ℕ, zero, suc, _+_, _*_, _≤_, _<_}
+use native.Mathlib.Nat.{zero-mul, suc-mul, add-assoc, mul-add, zero-add}
+use native.Mathlib.Omega.{arith}
+use Rattle.format.specs.Limits.{Prices, of-repeat}
+use Rattle.format.specs.Forest.{Forest, end, step, group, repeat, join, copies, unroll, siblings, nodes, cost, bytes, Plain, Allowed, Repeats, Sound}
+use Rattle.format.specs.Machine.{times}
+
+pub join-end : (f : Forest) → join f end ≡ f
+unfolding join
+join-end end = refl
+join-end (step l f) = ap (step l) (join-end f)
+join-end (group l b f) = ap (group l b) (join-end f)
+join-end (repeat h w b f) = ap (repeat h w b) (join-end f)
+
+pub join-assoc : (f g k : Forest) → join (join f g) k ≡ join f (join g k)
+unfolding join
+join-assoc end g k = refl
+join-assoc (step l f) g k = ap (step l) (join-assoc f g k)
+join-assoc (group l b f) g k = ap (group l b) (join-assoc f g k)
+join-assoc (repeat h w b f) g k = ap (repeat h w b) (join-assoc f g k)
+
+pub bytes-join : (f g : Forest) → bytes (join f g) ≡ bytes f ++ bytes g
+unfolding join bytes
+bytes-join end g = refl
+bytes-join (step l f) g = rw (bytes-join f g)
+bytes-join (group l b f) g = rw (bytes-join f g, append-assoc (bytes b) (0x12 ∷ bytes f) (bytes g))
+bytes-join (repeat h w b f) g = rw (bytes-join f g, append-assoc (bytes b) (0x21 ∷ bytes f) (bytes g))
+
+pub siblings-join : (f g : Forest) → siblings (join f g) ≡ siblings f + siblings g
+unfolding join siblings
+siblings-join end g = omega arith
+siblings-join (step l f) g = omega (arith, siblings-join f g)
+siblings-join (group l b f) g = omega (arith, siblings-join f g)
+siblings-join (repeat h w b f) g = omega (arith, siblings-join f g)
+
+pub nodes-join : (f g : Forest) → nodes (join f g) ≡ nodes f + nodes g
+unfolding join nodes
+nodes-join end g = omega arith
+nodes-join (step l f) g = omega (arith, nodes-join f g)
+nodes-join (group l b f) g = omega (arith, nodes-join f g)
+nodes-join (repeat h w b f) g = omega (arith, nodes-join f g)
+
+pub cost-join : (P : Prices) (f g : Forest) → cost P (join f g) ≡ cost P f + cost P g
+unfolding join cost
+cost-join P end g = omega arith
+cost-join P (step l f) g = omega (arith, cost-join P f g)
+cost-join P (group l b f) g = omega (arith, cost-join P f g)
+cost-join P (repeat h w b f) g = omega (arith, cost-join P f g)
+
+pub unroll-join : (f g : Forest) → unroll (join f g) ≡ join (unroll f) (unroll g)
+unfolding join unroll
+unroll-join end g = refl
+unroll-join (step l f) g = ap (step l) (unroll-join f g)
+unroll-join (group l b f) g = ap (group l (unroll b)) (unroll-join f g)
+unroll-join (repeat h w b f) g =
+    ap (join (copies h (unroll b))) (unroll-join f g) ∙ sym (join-assoc (copies h (unroll b)) (unroll f) (unroll g))
+
+pub bytes-copies : (h : ℕ) (f : Forest) → bytes (copies h f) ≡ times h (bytes f)
+unfolding copies times bytes
+bytes-copies zero f = refl
+bytes-copies (suc h) f = bytes-join f (copies h f) ∙ ap (λ (s : List ℕ). bytes f ++ s) (bytes-copies h f)
+
+pub siblings-copies : (h : ℕ) (f : Forest) → siblings (copies h f) ≡ h * siblings f
+unfolding copies siblings
+siblings-copies zero f = omega arith
+siblings-copies (suc h) f = omega (arith, siblings-join f (copies h f), siblings-copies h f)
+
+pub nodes-copies : (h : ℕ) (f : Forest) → nodes (copies h f) ≡ h * nodes f
+unfolding copies nodes
+nodes-copies zero f = omega arith
+nodes-copies (suc h) f = omega (arith, nodes-join f (copies h f), nodes-copies h f)
+
+pub copies-add : (m n : ℕ) (f : Forest) → join (copies m f) (copies n f) ≡ copies (m + n) f
+unfolding copies join
+copies-add zero n f = rw zero-add
+copies-add (suc m) n f = rw native.Mathlib.Nat.suc-add (join-assoc f (copies m f) (copies n f) ∙ ap (join f) (copies-add m n f))
+
+pub siblings-unroll : (f : Forest) → siblings (unroll f) ≡ siblings f
+unfolding unroll siblings
+siblings-unroll end = refl
+siblings-unroll (step l f) = ap (λ (n : ℕ). 1 + n) (siblings-unroll f)
+siblings-unroll (group l b f) = ap (λ (n : ℕ). 1 + n) (siblings-unroll f)
+siblings-unroll (repeat h w b f) =
+    siblings-join (copies h (unroll b)) (unroll f)
+    ∙ ap₂ (λ (m n : ℕ). m + n) (siblings-copies h (unroll b) ∙ ap (λ (n : ℕ). h * n) (siblings-unroll b)) (siblings-unroll f)
+
+pub nodes-unroll : (f : Forest) → nodes (unroll f) ≡ nodes f
+unfolding unroll nodes
+nodes-unroll end = refl
+nodes-unroll (step l f) = ap (λ (n : ℕ). 1 + n) (nodes-unroll f)
+nodes-unroll (group l b f) = ap₂ (λ (m n : ℕ). 1 + m + n) (nodes-unroll b) (nodes-unroll f)
+nodes-unroll (repeat h w b f) =
+    nodes-join (copies h (unroll b)) (unroll f)
+    ∙ ap₂ (λ (m n : ℕ). m + n) (nodes-copies h (unroll b) ∙ ap (λ (n : ℕ). h * n) (nodes-unroll b)) (nodes-unroll f)
+
+-- Joining and copying runs gives runs, and so does unrolling anything.
+pub plain-join : (f g : Forest) → Plain f → Plain g → Plain (join f g)
+unfolding join
+plain-join end g p q = q
+plain-join (step l f) g p q = plain-join f g p q
+plain-join (group l b f) g p q = (p .0, plain-join f g (p .1) q)
+plain-join (repeat h w b f) g p q = p
+
+pub plain-copies : (h : ℕ) (f : Forest) → Plain f → Plain (copies h f)
+unfolding copies
+plain-copies zero f p = tt
+plain-copies (suc h) f p = plain-join f (copies h f) p (plain-copies h f p)
+
+pub plain-unroll : (f : Forest) → Plain (unroll f)
+unfolding unroll
+plain-unroll end = tt
+plain-unroll (step l f) = plain-unroll f
+plain-unroll (group l b f) = (plain-unroll b, plain-unroll f)
+plain-unroll (repeat h w b f) =
+    plain-join (copies h (unroll b)) (unroll f) (plain-copies h (unroll b) (plain-unroll b)) (plain-unroll f)
+
+-- A run unrolls to itself.
+pub unroll-plain : (f : Forest) → Plain f → unroll f ≡ f
+unfolding unroll
+unroll-plain end p = refl
+unroll-plain (step l f) p = ap (step l) (unroll-plain f p)
+unroll-plain (group l b f) p = ap₂ (group l) (unroll-plain b (p .0)) (unroll-plain f (p .1))
+unroll-plain (repeat h w b f) p = absurd p
+
+pub sound-join : (A : Allowed) (f g : Forest) → Sound A f → Sound A g → Sound A (join f g)
+unfolding join
+sound-join A end g p q = q
+sound-join A (step l f) g p q = sound-join A f g p q
+sound-join A (group l b f) g p q = (p .0, p .1, sound-join A f g (p .2) q)
+sound-join A (repeat h w b f) g p q = (p .0, p .1, sound-join A f g (p .2) q)

@@ -1,0 +1,2 @@
+-- The theorems about the format's definitions.
+pub mod Forests
