@@ -1,0 +1,2 @@
+-- What a fold of a run is, and which one is the cheapest.
+pub mod Optimal
