@@ -1,2 +1,4 @@
 -- The theorems about the format's definitions.
 pub mod Forests
+pub mod Machine
+pub mod Order

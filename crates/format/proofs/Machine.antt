@@ -1,0 +1,275 @@
+-- Laws of the machine, one command at a time: each command's own short table, when it is passed, and what a passed command,
+-- a refused one and the end do to the scan.
+use mathlib.Core.Path.{_≡_, refl, sym, _∙_}
+use mathlib.Core.Bool.{Bool, true, false, not, or-false}
+use mathlib.Core.List.{List, [], _∷_, _++_}
+use mathlib.Core.Logic.{_≢_}
+use Prim.Native.Nat.{ℕ, zero, suc, _+_, _*_, _≤_, _<_}
+use native.Mathlib.Omega.{arith}
+use lib.Dec.{ltb, leb, eqb}
+use lib.ListN.{length}
+use borrow.Author.Tests.{le-ltb, eq-eqb, ne-eqb, ltb-false, eqb-true, eqb-false, leb-false, lt-leb, not-false}
+use Rattle.format.specs.Machine.{Rules, State, Row, _when_, first-of, refusal, scan, advance, operands, count, width, is-known, place-of, unless, at-end, open-groups, open-repeats, in-group, in-repeat, claimed, total-of, refused, accepted, put-step, enter-group, leave-group, enter-repeat, leave-repeat}
+use Rattle.format.specs.declared.Tally.{Tally}
+
+-- Rows of which none applies, and rows whose numbers are not 0.
+abbrev pub None : List Row → Type 0
+None [] = Unit
+None (n when b ∷ rs) = (b ≡ false) × None rs
+
+abbrev pub Numbered : List Row → Type 0
+Numbered [] = Unit
+Numbered (n when b ∷ rs) = (0 < n) × Numbered rs
+
+pub none-first : (rs : List Row) → None rs → first-of rs ≡ 0
+none-first [] z = refl
+none-first (n when b ∷ rs) z = rw (z .0) (none-first rs (z .1))
+
+pub first-none : (rs : List Row) → Numbered rs → first-of rs ≡ 0 → None rs
+first-none [] m e = tt
+first-none (n when true ∷ rs) m e = absurd (omega arith)
+first-none (n when false ∷ rs) m e = (refl, first-none rs (m .1) e)
+
+-- The rows that can apply to each command, in the table's order. A command that adds no node is never refused with 10 where
+-- the total was within the limit before it.
+module _ (R : Rules) (st : State) (rest : List ℕ) where
+  abbrev pub step-rows : List Row
+  step-rows = 3 when ltb (length rest) 1 ∷ 10 when ltb (R .limits .nodes) (st .tally .nodes + 1) ∷ []
+
+  abbrev pub group-rows : List Row
+  group-rows =
+      3 when ltb (length rest) 1
+      ∷ 8 when leb (R .limits .groups) (open-groups (st .opens))
+      ∷ 10 when ltb (R .limits .nodes) (st .tally .nodes + 1)
+      ∷ []
+
+  abbrev pub repeat-rows : List Row
+  repeat-rows =
+      2 when not (R .folds)
+      ∷ 3 when ltb (length rest) 4
+      ∷ 6 when ltb (count rest) 2
+      ∷ 7 when ltb (R .widest) (width rest)
+      ∷ 8 when leb (R .limits .repeats) (open-repeats (st .opens))
+      ∷ []
+
+abbrev pub group-end-rows : State → List Row
+group-end-rows st = 4 when not (in-group (st .opens)) ∷ 5 when eqb (st .tally .siblings) 0 ∷ []
+
+abbrev pub repeat-end-rows : Rules → State → List Row
+repeat-end-rows R st =
+    2 when not (R .folds)
+    ∷ 4 when not (in-repeat (st .opens))
+    ∷ 5 when eqb (st .tally .siblings) 0
+    ∷ 9 when not (eqb (st .tally .siblings) (claimed (st .opens)))
+    ∷ 10 when ltb (R .limits .nodes) (total-of (st .opens) (st .tally .nodes))
+    ∷ []
+
+module _ (R : Rules) (st : State) (rest : List ℕ) where
+  pub refusal-step : refusal R st 0x10 rest ≡ first-of (step-rows R st rest)
+  unfolding refusal
+  refusal-step = refl
+
+  pub refusal-group : refusal R st 0x11 rest ≡ first-of (group-rows R st rest)
+  unfolding refusal
+  refusal-group = rw or-false
+
+  pub refusal-group-end : st .tally .nodes ≤ R .limits .nodes → refusal R st 0x12 rest ≡ first-of (group-end-rows st)
+  unfolding refusal
+  refusal-group-end h =
+      rw (le-ltb (length rest) 0 (omega arith), le-ltb (R .limits .nodes) (st .tally .nodes) h, or-false)
+
+  pub refusal-repeat : st .tally .nodes ≤ R .limits .nodes → refusal R st 0x20 rest ≡ first-of (repeat-rows R st rest)
+  unfolding refusal
+  refusal-repeat h = rw (le-ltb (R .limits .nodes) (st .tally .nodes) h)
+
+  pub refusal-repeat-end : refusal R st 0x21 rest ≡ first-of (repeat-end-rows R st)
+  unfolding refusal
+  refusal-repeat-end = rw (le-ltb (length rest) 0 (omega arith))
+
+  pub refusal-unknown : (c : ℕ) → is-known c ≡ false → refusal R st c rest ≡ 1
+  unfolding refusal
+  refusal-unknown c e = rw e
+
+-- When each command is passed.
+pub record StepPasses (R : Rules) (st : State) (rest : List ℕ) : Type 0 where
+  pub operand : 1 ≤ length rest
+  pub total : st .tally .nodes + 1 ≤ R .limits .nodes
+
+pub record GroupPasses (R : Rules) (st : State) (rest : List ℕ) : Type 0 where
+  pub operand : 1 ≤ length rest
+  pub room : open-groups (st .opens) < R .limits .groups
+  pub total : st .tally .nodes + 1 ≤ R .limits .nodes
+
+pub record GroupEndPasses (st : State) : Type 0 where
+  pub inner : in-group (st .opens) ≡ true
+  pub some : 0 < st .tally .siblings
+
+pub record RepeatPasses (R : Rules) (st : State) (rest : List ℕ) : Type 0 where
+  pub folds : R .folds ≡ true
+  pub operand : 4 ≤ length rest
+  pub twice : 2 ≤ count rest
+  pub narrow : width rest ≤ R .widest
+  pub room : open-repeats (st .opens) < R .limits .repeats
+
+pub record RepeatEndPasses (R : Rules) (st : State) : Type 0 where
+  pub folds : R .folds ≡ true
+  pub inner : in-repeat (st .opens) ≡ true
+  pub some : 0 < st .tally .siblings
+  pub true-width : st .tally .siblings ≡ claimed (st .opens)
+  pub total : total-of (st .opens) (st .tally .nodes) ≤ R .limits .nodes
+
+not-zero : (n : ℕ) → eqb n 0 ≡ false → 0 < n
+not-zero n e = let h : ¬ (n ≡ 0) = eqb-false n 0 e in omega arith
+
+zero-not : (n : ℕ) → 0 < n → eqb n 0 ≡ false
+zero-not n h = ne-eqb n 0 (omega arith)
+
+not-true : (b : Bool) → b ≡ true → not b ≡ false
+not-true b e = rw e
+
+module _ (R : Rules) (st : State) (rest : List ℕ) where
+  pub step-passed : refusal R st 0x10 rest ≡ 0 → StepPasses R st rest
+  step-passed e =
+      let z = first-none (step-rows R st rest) (omega arith) (sym (refusal-step R st rest) ∙ e) in
+      record { operand = ltb-false _ _ (z .0); total = ltb-false _ _ (z .1 .0) }
+
+  pub step-passes : StepPasses R st rest → refusal R st 0x10 rest ≡ 0
+  step-passes h =
+      refusal-step R st rest
+      ∙ none-first (step-rows R st rest) (le-ltb _ _ (h .operand), (le-ltb _ _ (h .total), tt))
+
+  pub group-passed : refusal R st 0x11 rest ≡ 0 → GroupPasses R st rest
+  group-passed e =
+      let z = first-none (group-rows R st rest) (omega arith) (sym (refusal-group R st rest) ∙ e) in
+      record { operand = ltb-false _ _ (z .0); room = leb-false _ _ (z .1 .0); total = ltb-false _ _ (z .1 .1 .0) }
+
+  pub group-passes : GroupPasses R st rest → refusal R st 0x11 rest ≡ 0
+  group-passes h =
+      refusal-group R st rest
+      ∙ none-first (group-rows R st rest) (le-ltb _ _ (h .operand), (lt-leb _ _ (h .room), (le-ltb _ _ (h .total), tt)))
+
+  pub repeat-end-passed : refusal R st 0x21 rest ≡ 0 → RepeatEndPasses R st
+  repeat-end-passed e =
+      let z = first-none (repeat-end-rows R st) (omega arith) (sym (refusal-repeat-end R st rest) ∙ e) in
+      record {
+        folds = not-false _ (z .0);
+        inner = not-false _ (z .1 .0);
+        some = not-zero _ (z .1 .1 .0);
+        true-width = eqb-true _ _ (not-false _ (z .1 .1 .1 .0));
+        total = ltb-false _ _ (z .1 .1 .1 .1 .0);
+      }
+
+  pub repeat-end-passes : RepeatEndPasses R st → refusal R st 0x21 rest ≡ 0
+  repeat-end-passes h =
+      refusal-repeat-end R st rest
+      ∙ none-first (repeat-end-rows R st)
+      (not-true _ (h .folds), (not-true _ (h .inner), (zero-not _ (h .some), (not-true _ (eq-eqb _ _ (h .true-width)), (le-ltb _ _ (h .total), tt)))))
+
+  module _ (within : st .tally .nodes ≤ R .limits .nodes) where
+    pub group-end-passed : refusal R st 0x12 rest ≡ 0 → GroupEndPasses st
+    group-end-passed e =
+        let z = first-none (group-end-rows st) (omega arith) (sym (refusal-group-end R st rest within) ∙ e) in
+        record { inner = not-false _ (z .0); some = not-zero _ (z .1 .0) }
+
+    pub group-end-passes : GroupEndPasses st → refusal R st 0x12 rest ≡ 0
+    group-end-passes h =
+        refusal-group-end R st rest within
+        ∙ none-first (group-end-rows st) (not-true _ (h .inner), (zero-not _ (h .some), tt))
+
+    pub repeat-passed : refusal R st 0x20 rest ≡ 0 → RepeatPasses R st rest
+    repeat-passed e =
+        let z = first-none (repeat-rows R st rest) (omega arith) (sym (refusal-repeat R st rest within) ∙ e) in
+        record {
+          folds = not-false _ (z .0);
+          operand = ltb-false _ _ (z .1 .0);
+          twice = ltb-false _ _ (z .1 .1 .0);
+          narrow = ltb-false _ _ (z .1 .1 .1 .0);
+          room = leb-false _ _ (z .1 .1 .1 .1 .0);
+        }
+
+    pub repeat-passes : RepeatPasses R st rest → refusal R st 0x20 rest ≡ 0
+    repeat-passes h =
+        refusal-repeat R st rest within
+        ∙ none-first (repeat-rows R st rest)
+        (not-true _ (h .folds), (le-ltb _ _ (h .operand), (le-ltb _ _ (h .twice), (le-ltb _ _ (h .narrow), (lt-leb _ _ (h .room), tt)))))
+
+-- A byte is one of the five commands, or none.
+pub data Command : ℕ → Type 0 where
+  a-step : Command 0x10
+  a-group : Command 0x11
+  a-group-end : Command 0x12
+  a-repeat : Command 0x20
+  a-repeat-end : Command 0x21
+  unknown : {c : ℕ} → is-known c ≡ false → Command c
+
+sorted : (c : ℕ) (a b d e f : Bool) → eqb c 0x10 ≡ a → eqb c 0x11 ≡ b → eqb c 0x12 ≡ d → eqb c 0x20 ≡ e → eqb c 0x21 ≡ f → Command c
+sorted c true b d e f p q r s t = rw (eqb-true c 0x10 p) a-step
+sorted c false true d e f p q r s t = rw (eqb-true c 0x11 q) a-group
+sorted c false false true e f p q r s t = rw (eqb-true c 0x12 r) a-group-end
+sorted c false false false true f p q r s t = rw (eqb-true c 0x20 s) a-repeat
+sorted c false false false false true p q r s t = rw (eqb-true c 0x21 t) a-repeat-end
+sorted c false false false false false p q r s t = unknown {c = c} (rw (p, q, r, t, s))
+
+pub command : (c : ℕ) → Command c
+command c = sorted c _ _ _ _ _ refl refl refl refl refl
+
+-- The scan: the end, one command, and operands passed over.
+module _ (R : Rules) (p : ℕ) (st : State) where
+  pub scan-end : scan R p 0 st [] ≡ at-end p (st .opens) st
+  unfolding scan
+  scan-end = refl
+
+  module _ (c : ℕ) (s : List ℕ) where
+    scan-command : scan R p 0 st (c ∷ s) ≡ unless (refusal R st c s) p (p + suc (length s)) (scan R (suc p) (operands c) (advance (R .prices) c s st) s)
+    unfolding scan
+    scan-command = refl
+
+    pub scan-pass : refusal R st c s ≡ 0 → scan R p 0 st (c ∷ s) ≡ scan R (suc p) (operands c) (advance (R .prices) c s st) s
+    scan-pass e = rw (scan-command, e)
+
+    pub scan-refuse : (n : ℕ) → n ≢ 0 → refusal R st c s ≡ n → scan R p 0 st (c ∷ s) ≡ refused n (place-of n p (p + suc (length s)))
+    scan-refuse zero h e = absurd (h refl)
+    scan-refuse (suc n) h e = rw (scan-command, e)
+
+    -- Where the scan is accepted the command is passed.
+    pub scan-passed : {t : Tally} {x : List ℕ} → scan R p 0 st (c ∷ s) ≡ accepted t x → refusal R st c s ≡ 0
+    scan-passed {t} {x} e = passed (refusal R st c s) refl
+      where
+        passed : (n : ℕ) → refusal R st c s ≡ n → n ≡ 0
+        passed zero f = refl
+        passed (suc n) f = cc (e, scan-refuse (suc n) (omega arith) f)
+
+pub scan-skip : (R : Rules) (p : ℕ) (st : State) (xs s : List ℕ) → scan R p (length xs) st (xs ++ s) ≡ scan R (p + length xs) 0 st s
+unfolding scan
+scan-skip R p st [] s = let e : p + 0 ≡ p = omega arith in rw e
+scan-skip R p st (x ∷ xs) s =
+    let e : p + suc (length xs) ≡ suc p + length xs = omega arith in
+    rw e (scan-skip R (suc p) st xs s)
+
+module _ (R : Rules) (p : ℕ) (st : State) where
+  -- A passed command with its operands.
+  pub scan-on : (c : ℕ) (xs s : List ℕ) → operands c ≡ length xs → refusal R st c (xs ++ s) ≡ 0 → scan R p 0 st (c ∷ xs ++ s) ≡ scan R (p + suc (length xs)) 0 (advance (R .prices) c (xs ++ s) st) s
+  scan-on c xs s o e =
+      let q : suc p + length xs ≡ p + suc (length xs) = omega arith in
+      rw (scan-pass R p st c (xs ++ s) e, o, ← q) (scan-skip R (suc p) (advance (R .prices) c (xs ++ s) st) xs s)
+
+  module _ (s : List ℕ) where
+    pub scan-step : (l : ℕ) → refusal R st 0x10 (l ∷ s) ≡ 0 → scan R p 0 st (0x10 ∷ l ∷ s) ≡ scan R (p + 2) 0 (put-step (R .prices) l st) s
+    unfolding advance
+    scan-step l e = scan-on 0x10 (l ∷ []) s refl e
+
+    pub scan-group : (l : ℕ) → refusal R st 0x11 (l ∷ s) ≡ 0 → scan R p 0 st (0x11 ∷ l ∷ s) ≡ scan R (p + 2) 0 (enter-group (R .prices) l st) s
+    unfolding advance
+    scan-group l e = scan-on 0x11 (l ∷ []) s refl e
+
+    pub scan-group-end : refusal R st 0x12 s ≡ 0 → scan R p 0 st (0x12 ∷ s) ≡ scan R (p + 1) 0 (leave-group (st .opens) st) s
+    unfolding advance
+    scan-group-end e = scan-on 0x12 [] s refl e
+
+    pub scan-repeat : (a b c d : ℕ) → refusal R st 0x20 (a ∷ b ∷ c ∷ d ∷ s) ≡ 0 → scan R p 0 st (0x20 ∷ a ∷ b ∷ c ∷ d ∷ s) ≡ scan R (p + 5) 0 (enter-repeat (R .prices) (a * 256 + b) (c * 256 + d) st) s
+    unfolding advance
+    scan-repeat a b c d e = scan-on 0x20 (a ∷ b ∷ c ∷ d ∷ []) s refl e
+
+    pub scan-repeat-end : refusal R st 0x21 s ≡ 0 → scan R p 0 st (0x21 ∷ s) ≡ scan R (p + 1) 0 (leave-repeat (st .opens) st) s
+    unfolding advance
+    scan-repeat-end e = scan-on 0x21 [] s refl e

@@ -1,0 +1,2 @@
+-- The theorems about the cheapest fold.
+pub mod Pieces

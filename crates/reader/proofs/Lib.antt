@@ -1,0 +1,3 @@
+-- What the readers' function proofs share.
+pub mod Walking
+pub mod Commands

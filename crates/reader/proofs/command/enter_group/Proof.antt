@@ -1,0 +1,66 @@
+use borrow.Author.Needs.{needs}
+use Rattle.reader.proofs.command.enter_group.Statement.{statement}
+use Rattle.reader.proofs.command.enter_group.Tie as tie
+use Rattle.reader.proofs.command.enter_group.Reads as reads
+use Rattle.reader.proofs.command.enter_group.Lts as lts
+use Rattle.reader.proofs.command.price.Reads as price-reads
+
+-- src/command.rt:105:8
+sub-if1 : tie.Need-sub-if1
+sub-if1 c = search needs
+
+-- src/command.rt:106:9
+returns : tie.Need-returns
+returns c = ?
+
+-- src/command.rt:113:9
+returns-2 : tie.Need-returns-2
+returns-2 c = ?
+
+-- src/command.rt:120:9
+returns-3 : tie.Need-returns-3
+returns-3 c = ?
+
+-- src/command.rt:126:29
+add-price : tie.Need-add-price
+add-price c = search needs
+
+-- src/command.rt:126:9
+price-requires : tie.Need-price-requires
+price-requires c κs = search needs
+
+-- src/command.rt:129:13
+add-t9 : tie.Need-add-t9
+add-t9 c = search needs
+
+-- src/command.rt:132:20
+add-t8 : tie.Need-add-t8
+add-t8 c = search needs
+
+-- src/command.rt:133:19
+add-t12 : tie.Need-add-t12
+add-t12 c = search needs
+
+-- src/command.rt:134:19
+add-t13 : tie.Need-add-t13
+add-t13 c = search needs
+
+-- src/command.rt:100:1
+returns-4 : tie.Need-returns-4
+returns-4 c = ?
+
+pub enter-group-spec : {M : Type 1} → statement M
+enter-group-spec =
+    tie.close
+    (tie.spec
+    sub-if1
+    returns
+    returns-2
+    returns-3
+    add-price
+    price-requires
+    add-t9
+    add-t8
+    add-t12
+    add-t13
+    returns-4)

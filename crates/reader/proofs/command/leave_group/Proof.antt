@@ -1,0 +1,55 @@
+use borrow.Author.Needs.{needs}
+use Rattle.reader.proofs.command.leave_group.Statement.{statement}
+use Rattle.reader.proofs.command.leave_group.Tie as tie
+use Rattle.reader.proofs.command.leave_group.Reads as reads
+use Rattle.reader.proofs.command.leave_group.Lts as lts
+
+-- src/command.rt:157:9
+returns : tie.Need-returns
+returns c = ?
+
+-- src/command.rt:163:8
+shared-slice-read-if2 : tie.Need-shared-slice-read-if2
+shared-slice-read-if2 c = search needs
+
+-- src/command.rt:165:13
+returns-2 : tie.Need-returns-2
+returns-2 c = ?
+
+-- src/command.rt:173:17
+add-t13 : tie.Need-add-t13
+add-t13 c = search needs
+
+-- src/command.rt:175:27
+add-t14 : tie.Need-add-t14
+add-t14 c = search needs
+
+-- src/command.rt:177:23
+add-t15 : tie.Need-add-t15
+add-t15 c = search needs
+
+-- src/command.rt:171:9
+returns-3 : tie.Need-returns-3
+returns-3 c = ?
+
+-- src/command.rt:183:9
+returns-4 : tie.Need-returns-4
+returns-4 c = ?
+
+-- src/command.rt:140:1
+returns-5 : tie.Need-returns-5
+returns-5 c = ?
+
+pub leave-group-spec : {M : Type 1} → statement M
+leave-group-spec =
+    tie.close
+    (tie.spec
+    returns
+    shared-slice-read-if2
+    returns-2
+    add-t13
+    add-t14
+    add-t15
+    returns-3
+    returns-4
+    returns-5)

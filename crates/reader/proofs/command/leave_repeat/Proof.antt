@@ -1,0 +1,110 @@
+use borrow.Author.Needs.{needs}
+use Rattle.reader.proofs.command.leave_repeat.Statement.{statement}
+use Rattle.reader.proofs.command.leave_repeat.Tie as tie
+use Rattle.reader.proofs.command.leave_repeat.Reads as reads
+use Rattle.reader.proofs.command.leave_repeat.Lts as lts
+
+-- src/command.rt:274:9
+returns : tie.Need-returns
+returns c = ?
+
+-- src/command.rt:280:8
+shared-slice-read-if2 : tie.Need-shared-slice-read-if2
+shared-slice-read-if2 c = search needs
+
+-- src/command.rt:281:9
+returns-2 : tie.Need-returns-2
+returns-2 c = ?
+
+-- src/command.rt:288:9
+returns-3 : tie.Need-returns-3
+returns-3 c = ?
+
+-- src/command.rt:295:9
+returns-4 : tie.Need-returns-4
+returns-4 c = ?
+
+-- src/command.rt:301:16
+sub-more : tie.Need-sub-more
+sub-more c = search needs
+
+-- src/command.rt:302:42
+sub-if5 : tie.Need-sub-if5
+sub-if5 c = search needs
+
+-- src/command.rt:302:34
+mul-if5 : tie.Need-mul-if5
+mul-if5 c = ?
+
+-- src/command.rt:302:24
+add-if5 : tie.Need-add-if5
+add-if5 c = ?
+
+-- src/command.rt:303:9
+returns-5 : tie.Need-returns-5
+returns-5 c = ?
+
+-- src/command.rt:311:13
+add-t11 : tie.Need-add-t11
+add-t11 c = search needs
+
+-- src/command.rt:313:36
+mul-t15 : tie.Need-mul-t15
+mul-t15 c = ?
+
+-- src/command.rt:313:23
+add-t16 : tie.Need-add-t16
+add-t16 c = ?
+
+-- src/command.rt:314:38
+sub-t17 : tie.Need-sub-t17
+sub-t17 c = ?
+
+-- src/command.rt:314:30
+mul-t18 : tie.Need-mul-t18
+mul-t18 c = search needs
+
+-- src/command.rt:314:20
+add-t19 : tie.Need-add-t19
+add-t19 c = search needs
+
+-- src/command.rt:315:36
+sub-t20 : tie.Need-sub-t20
+sub-t20 c = ?
+
+-- src/command.rt:315:28
+mul-t21 : tie.Need-mul-t21
+mul-t21 c = ?
+
+-- src/command.rt:315:19
+add-t22 : tie.Need-add-t22
+add-t22 c = ?
+
+-- src/command.rt:255:1
+returns-6 : tie.Need-returns-6
+returns-6 c = ?
+
+pub leave-repeat-spec : {M : Type 1} → statement M
+leave-repeat-spec =
+    tie.close
+    (tie.spec
+    returns
+    shared-slice-read-if2
+    returns-2
+    returns-3
+    returns-4
+    sub-more
+    sub-if5
+    mul-if5
+    add-if5
+    returns-5
+    add-t11
+    mul-t15
+    add-t16
+    sub-t17
+    mul-t18
+    add-t19
+    sub-t20
+    mul-t21
+    add-t22
+    returns-6)

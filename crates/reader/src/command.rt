@@ -1,0 +1,319 @@
+// One command at a time: each function makes the tests of document 01's table for one command, in its order, and counts.
+// The walk over sequences and items (walk.rt) makes no test of its own.
+use format::Format;
+use format::Tally;
+ghost use mathlib.Core.Path.{_≡_};
+ghost use mathlib.Core.Bool.{true};
+ghost use mathlib.Core.List.{List, _∷_};
+ghost use Prim.Native.Nat.{ℕ, suc, _+_, _*_, _<_, _≤_};
+ghost use lib.ListN.{length, getD, drop};
+ghost use Rattle.format.specs.Machine.{Open, a-group, a-repeat};
+ghost use Rattle.reader.specs.Walk.{At, Room, Grown, Halted, Sane, Item, Entered, Left, rules-of, word-at, repeat-at};
+
+// What the reader was asked: whether repeats may stand in the input, the width limit, and the repeat prices.
+pub struct Terms {
+    pub folds: bool,
+    pub widest: usize,
+    pub first: u64,
+    pub each: u64,
+}
+
+// The groups and the repeats that are open.
+pub struct Depth {
+    pub groups: usize,
+    pub repeats: usize,
+}
+
+// Where a walk has come to: at the offset `at` with these counts, or refused with this number at the place `at`.
+pub struct Walk {
+    pub refusal: u8,
+    pub at: usize,
+    pub tally: Tally,
+}
+
+fn wide(x: u8) -> usize
+    ensures { λ r. ⌜ (r ≡ x) × (r < 256) ⌝ }
+{
+    x as usize
+}
+
+fn wide_cost(x: u16) -> u64
+    ensures { λ r. ⌜ (r ≡ x) × (r < 65536) ⌝ }
+{
+    x as u64
+}
+
+// The price of the label that stands at an offset.
+fn price(s: &[u8], costs: &[u16], at: usize) -> u64
+    requires { ⌜ at < length (now s) ⌝ }
+    ensures { λ r. ⌜ (r ≡ getD (now (costs .entry)) (getD (now (s .entry)) at 0) 0) × (r < 65536) ⌝ }
+{
+    let label = wide(s[at]);
+    if label < costs.len() {
+        return wide_cost(costs[label]);
+    }
+    0
+}
+
+// The operand of two bytes at an offset, the high byte first.
+fn operand(s: &[u8], at: usize) -> usize
+    requires { ⌜ at + 1 < length (now s) ⌝ }
+    ensures { λ r. ⌜ (r ≡ word-at (now (s .entry)) at) × (r < 65536) ⌝ }
+{
+    wide(s[at]) * 256 + wide(s[at + 1])
+}
+
+// A step: refusals 3 and 10.
+pub fn step(s: &[u8], costs: &[u16], a: Terms, at: usize, d: Depth, t: Tally) -> Walk
+    requires { ⌜ At (now s) at 0x10 ⌝ }
+    requires { ⌜ Room d t ⌝ }
+    ensures { λ r. ⌜ Item (rules-of a (now (costs .entry))) (now (s .entry)) d at t r ⌝ }
+{
+    if s.len() - at < 2 {
+        return Walk {
+            refusal: 3,
+            at: s.len(),
+            tally: t,
+        };
+    }
+    if Format::NODES <= t.nodes {
+        return Walk {
+            refusal: 10,
+            at,
+            tally: t,
+        };
+    }
+    let p = price(s, costs, at + 1);
+    Walk {
+        refusal: 0,
+        at: at + 2,
+        tally: Tally {
+            siblings: t.siblings + 1,
+            nodes: t.nodes + 1,
+            size: t.size + 2,
+            cost: t.cost + p,
+        },
+    }
+}
+
+// The open of a group: refusals 3, 8 and 10.
+pub fn enter_group(s: &[u8], costs: &[u16], a: Terms, at: usize, d: Depth, t: Tally) -> Walk
+    requires { ⌜ At (now s) at 0x11 ⌝ }
+    requires { ⌜ Room d t ⌝ }
+    ensures { λ r. ⌜ Entered (rules-of a (now (costs .entry))) (now (s .entry)) d at t (a-group t) 2 1 65535 r ⌝ }
+{
+    if s.len() - at < 2 {
+        return Walk {
+            refusal: 3,
+            at: s.len(),
+            tally: t,
+        };
+    }
+    if Format::GROUPS <= d.groups {
+        return Walk {
+            refusal: 8,
+            at,
+            tally: t,
+        };
+    }
+    if Format::NODES <= t.nodes {
+        return Walk {
+            refusal: 10,
+            at,
+            tally: t,
+        };
+    }
+    let p = price(s, costs, at + 1);
+    Walk {
+        refusal: 0,
+        at: at + 2,
+        tally: Tally {
+            siblings: 0,
+            nodes: t.nodes + 1,
+            size: t.size + 2,
+            cost: t.cost + p,
+        },
+    }
+}
+
+// The close of a group whose outer counts are t and inner counts i: refusals 3 at the end, 2, 4 and 5.
+pub fn leave_group(
+    s: &[u8],
+    costs: &[u16],
+    a: Terms,
+    at: usize,
+    d: Depth,
+    t: Tally,
+    i: Tally,
+) -> Walk
+    requires { ⌜ Halted (now s) at ⌝ }
+    requires { ⌜ Room d t ⌝ }
+    requires { ⌜ (t .nodes + 1 ≤ i .nodes) × (i .nodes ≤ 1024) ⌝ }
+    requires { ⌜ (t .size ≤ i .size) × (i .size + 3 * t .nodes + 1 ≤ t .size + 3 * i .nodes) ⌝ }
+    requires { ⌜ i .cost + 4294967296 * t .nodes ≤ t .cost + 4294967296 * i .nodes ⌝ }
+    ensures { λ r. ⌜ Left (rules-of a (now (costs .entry))) (now (s .entry)) d at t i (a-group t) r ⌝ }
+{
+    if at == s.len() {
+        return Walk {
+            refusal: 3,
+            at,
+            tally: t,
+        };
+    }
+    if s[at] == Format::GROUP_END {
+        if i.siblings == 0 {
+            return Walk {
+                refusal: 5,
+                at,
+                tally: t,
+            };
+        }
+        return Walk {
+            refusal: 0,
+            at: at + 1,
+            tally: Tally {
+                siblings: t.siblings + 1,
+                nodes: i.nodes,
+                size: i.size + 1,
+                cost: i.cost,
+            },
+        };
+    }
+    if a.folds {
+        return Walk {
+            refusal: 4,
+            at,
+            tally: t,
+        };
+    }
+    Walk {
+        refusal: 2,
+        at,
+        tally: t,
+    }
+}
+
+// The open of a repeat: refusals 2, 3, 6, 7 and 8.
+pub fn enter_repeat(s: &[u8], costs: &[u16], a: Terms, at: usize, d: Depth, t: Tally) -> Walk
+    requires { ⌜ At (now s) at 0x20 ⌝ }
+    requires { ⌜ Room d t ⌝ }
+    requires { ⌜ Sane a ⌝ }
+    ensures { λ r. ⌜ Entered (rules-of a (now (costs .entry))) (now (s .entry)) d at t (repeat-at (now (s .entry)) at t) 0 0 4294967295 r ⌝ }
+    ensures { λ r. ⌜ (r .refusal ≡ 0 → (a .folds ≡ true) × (2 ≤ word-at (now (s .entry)) (at + 1)) × (at + 5 ≤ length (now (s .entry)))) ⌝ }
+{
+    if !a.folds {
+        return Walk {
+            refusal: 2,
+            at,
+            tally: t,
+        };
+    }
+    if s.len() - at < 5 {
+        return Walk {
+            refusal: 3,
+            at: s.len(),
+            tally: t,
+        };
+    }
+    let count = operand(s, at + 1);
+    if count < 2 {
+        return Walk {
+            refusal: 6,
+            at,
+            tally: t,
+        };
+    }
+    let width = operand(s, at + 3);
+    if a.widest < width {
+        return Walk {
+            refusal: 7,
+            at,
+            tally: t,
+        };
+    }
+    if Format::REPEATS <= d.repeats {
+        return Walk {
+            refusal: 8,
+            at,
+            tally: t,
+        };
+    }
+    let p = a.first + a.each * ((count - 2) as u64);
+    Walk {
+        refusal: 0,
+        at: at + 5,
+        tally: Tally {
+            siblings: 0,
+            nodes: t.nodes,
+            size: t.size,
+            cost: t.cost + p,
+        },
+    }
+}
+
+// The close of a repeat whose outer counts are t and inner counts i: refusals 3 at the end, 4, 5, 9 and 10.
+pub fn leave_repeat(
+    s: &[u8],
+    costs: &[u16],
+    a: Terms,
+    at: usize,
+    d: Depth,
+    count: usize,
+    width: usize,
+    t: Tally,
+    i: Tally,
+) -> Walk
+    requires { ⌜ Halted (now s) at ⌝ }
+    requires { ⌜ Room d t ⌝ }
+    requires { ⌜ (a .folds ≡ true) × (2 ≤ count) × (count < 65536) ⌝ }
+    requires { ⌜ (t .nodes + i .siblings ≤ i .nodes) × (i .nodes ≤ 1024) ⌝ }
+    requires { ⌜ (t .size ≤ i .size) × (i .size + 3 * t .nodes ≤ t .size + 3 * i .nodes) × (i .cost + 4294967296 * t .nodes ≤ t .cost + 4294967296 * i .nodes + 4294967296) ⌝ }
+    ensures { λ r. ⌜ Left (rules-of a (now (costs .entry))) (now (s .entry)) d at t i (a-repeat count width t) r ⌝ }
+{
+    if at == s.len() {
+        return Walk {
+            refusal: 3,
+            at,
+            tally: t,
+        };
+    }
+    if s[at] == Format::GROUP_END {
+        return Walk {
+            refusal: 4,
+            at,
+            tally: t,
+        };
+    }
+    if i.siblings == 0 {
+        return Walk {
+            refusal: 5,
+            at,
+            tally: t,
+        };
+    }
+    if i.siblings != width {
+        return Walk {
+            refusal: 9,
+            at,
+            tally: t,
+        };
+    }
+    let more = count - 1;
+    if Format::NODES < i.nodes + more * (i.nodes - t.nodes) {
+        return Walk {
+            refusal: 10,
+            at,
+            tally: t,
+        };
+    }
+    Walk {
+        refusal: 0,
+        at: at + 1,
+        tally: Tally {
+            siblings: t.siblings + count * i.siblings,
+            nodes: i.nodes + more * (i.nodes - t.nodes),
+            size: i.size + more * (i.size - t.size),
+            cost: i.cost,
+        },
+    }
+}
