@@ -2,3 +2,5 @@
 pub mod Forests
 pub mod Machine
 pub mod Order
+pub mod Expansion
+pub mod Report

@@ -5,3 +5,4 @@ pub mod Forest
 pub mod Machine
 pub mod Readings
 pub mod Shape
+pub mod Report

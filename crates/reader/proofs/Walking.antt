@@ -7,10 +7,11 @@ use native.Mathlib.Numerals.{add-one}
 use native.Mathlib.Omega.{arith}
 use lib.ListN.{length, getD, drop, length-drop}
 use lib.Seq.{drop-cons, drop-length}
-use Rattle.format.specs.Machine.{Rules, Open, Outcome, State, refused, scan, refusal, place-of, at-end}
+use borrow.Author.Tests.{ne-eqb}
+use Rattle.format.specs.Machine.{Rules, Open, a-group, a-repeat, Outcome, State, refused, scan, refusal, place-of, at-end}
 use Rattle.format.specs.declared.Tally.{Tally}
-use Rattle.format.proofs.Machine.{scan-refuse, scan-end}
-use Rattle.reader.specs.Walk.{from, Leads, Stops, OpenAt, Moves, Item, Sequence, Entered, Left}
+use Rattle.format.proofs.Machine.{scan-refuse, scan-end, refusal-unknown}
+use Rattle.reader.specs.Walk.{from, Leads, Stops, OpenAt, Moves, Halted, Room, Grown, Item, Sequence, Entered, Left, NoClose, in-group-of, in-repeat-of}
 use Rattle.reader.specs.declared.command.Depth.{Depth}
 use Rattle.reader.specs.declared.command.Walk.{Walk}
 
@@ -54,7 +55,8 @@ module _ (R : Rules) (s : List ℕ) (d : Depth) (p : ℕ) (t : Tally) (w : Walk)
         moves = record { goes = λ e. absurd (no e); stops = λ e. h };
         ahead = λ e. absurd (no e);
         within = λ e. absurd (no e);
-        grown = λ e. absurd (no e) }
+        grown = λ e. absurd (no e);
+      }
 
   pub sequence-refused : ((os : List Open) → OpenAt d os → Stops R s p os t (w .refusal) (w .at)) → Sequence R s d p t w
   sequence-refused h =
@@ -62,19 +64,21 @@ module _ (R : Rules) (s : List ℕ) (d : Depth) (p : ℕ) (t : Tally) (w : Walk)
         moves = record { goes = λ e. absurd (no e); stops = λ e. h };
         ahead = λ e. absurd (no e);
         halted = λ e. absurd (no e);
-        grown = λ e. absurd (no e) }
+        grown = λ e. absurd (no e);
+      }
 
-  pub entered-refused : (o : Open) (size nodes price : ℕ) → ((os : List Open) → OpenAt d os → Stops R s p os t (w .refusal) (w .at)) → Entered R s d p t o size nodes price w
-  entered-refused o size nodes price h =
+  pub entered-refused : (d′ : Depth) (o : Open) (size nodes price : ℕ) → ((os : List Open) → OpenAt d os → Stops R s p os t (w .refusal) (w .at)) → Entered R s d d′ p t o size nodes price w
+  entered-refused d′ o size nodes price h =
       record {
         moves = record { goes = λ e. absurd (no e); stops = λ e. h };
         ahead = λ e. absurd (no e);
         within = λ e. absurd (no e);
         siblings = λ e. absurd (no e);
         nodes-inside = λ e. absurd (no e);
-        total = λ e. absurd (no e);
+        room = λ e. absurd (no e);
         size-inside = λ e. absurd (no e);
-        cost-inside = λ e. absurd (no e) }
+        cost-inside = λ e. absurd (no e);
+      }
 
   pub left-refused : (i : Tally) (o : Open) → ((os : List Open) → OpenAt d os → Stops R s p (o ∷ os) i (w .refusal) (w .at)) → Left R s d p t i o w
   left-refused i o h =
@@ -82,4 +86,98 @@ module _ (R : Rules) (s : List ℕ) (d : Depth) (p : ℕ) (t : Tally) (w : Walk)
         moves = record { goes = λ e. absurd (no e); stops = λ e. h };
         ahead = λ e. absurd (no e);
         within = λ e. absurd (no e);
-        grown = λ e. absurd (no e) }
+        grown = λ e. absurd (no e);
+      }
+
+-- A command that opens o, the sequence inside it, and the close of o.
+module _ (R : Rules) (s : List ℕ) (d d′ : Depth) (p : ℕ) (t : Tally) (o : Open) (deeper : (os : List Open) → OpenAt d os → OpenAt d′ (o ∷ os)) (size nodes price : ℕ) (e : Walk) (entered : Entered R s d d′ p t o size nodes price e) where
+  pub entry-refused : (e .refusal ≡ 0 → ⊥) → Item R s d p t e
+  entry-refused ends = item-refused R s d p t e ends (entered .moves .stops ends)
+
+  module _ (in-it : e .refusal ≡ 0) (w : Walk) (read : Sequence R s d′ (e .at) (e .tally) w) where
+    pub inside-refused : (w .refusal ≡ 0 → ⊥) → Item R s d p t w
+    inside-refused ends =
+        item-refused R s d p t w ends
+        (λ os m x.
+        let a = entered .moves .goes in-it os m x in
+        a .1 ∙ read .moves .stops ends (o ∷ os) (deeper os m) (a .0))
+
+    pub through : w .refusal ≡ 0 → (l : Walk) → Left R s d (w .at) t (w .tally) o l → Item R s d p t l
+    through all l left =
+        record {
+          moves = record {
+            goes = λ z os m x.
+                let a = entered .moves .goes in-it os m x in
+                let b = read .moves .goes all (o ∷ os) (deeper os m) (a .0) in
+                let c = left .moves .goes z os m (b .0) in
+                (c .0, a .1 ∙ (b .1 ∙ c .1));
+            stops = λ z os m x.
+                let a = entered .moves .goes in-it os m x in
+                let b = read .moves .goes all (o ∷ os) (deeper os m) (a .0) in
+                a .1 ∙ (b .1 ∙ left .moves .stops z os m (b .0));
+          };
+          ahead = λ z. omega (arith, entered .ahead in-it, read .ahead all, left .ahead z);
+          within = left .within;
+          grown = left .grown;
+        }
+
+-- The items passed so far of a sequence that began at p with the counts t.
+pub record Along (R : Rules) (s : List ℕ) (d : Depth) (p : ℕ) (t : Tally) (q : ℕ) (r : Tally) : Type 0 where
+  pub goes : (os : List Open) → OpenAt d os → Leads R s p os t q os r
+  pub ahead : p ≤ q
+  pub within : q ≤ length s
+  pub grown : Grown t r
+
+module _ (R : Rules) (s : List ℕ) (d : Depth) (p : ℕ) (t : Tally) where
+  pub along-none : p ≤ length s → t .nodes ≤ 1024 → Along R s d p t p t
+  along-none h k =
+      record { goes = λ os m x. (x, refl); ahead = omega arith; within = h; grown = omega arith }
+
+  module _ (q : ℕ) (r : Tally) (so-far : Along R s d p t q r) where
+    pub along-ends : Halted s q → Sequence R s d p t (record { refusal = 0; at = q; tally = r })
+    along-ends h =
+        record {
+          moves = record { goes = λ z. so-far .goes; stops = λ z. absurd (z refl) };
+          ahead = λ z. so-far .ahead;
+          halted = λ z. h;
+          grown = λ z. so-far .grown;
+        }
+
+    module _ (w : Walk) (next : Item R s d q r w) where
+      pub along-refused : (w .refusal ≡ 0 → ⊥) → Sequence R s d p t w
+      along-refused ends =
+          sequence-refused R s d p t w ends
+          (λ os m x.
+          let a = so-far .goes os m x in
+          a .1 ∙ next .moves .stops ends os m (a .0))
+
+      pub along-more : w .refusal ≡ 0 → Along R s d p t (w .at) (w .tally)
+      along-more z =
+          record {
+            goes = λ os m x.
+                let a = so-far .goes os m x in
+                let b = next .moves .goes z os m (a .0) in
+                (b .0, a .1 ∙ b .1);
+            ahead = omega (arith, so-far .ahead, next .ahead z);
+            within = next .within z;
+            grown = omega (arith, so-far .grown, next .grown z);
+          }
+
+-- Room stays while the counts grow by whole items.
+pub room-grown : (d : Depth) (t r : Tally) → Room d t → Grown t r → Room d r
+room-grown d t r h g = omega (arith, h, g)
+
+pub group-deeper : (d : Depth) (t : Tally) (os : List Open) → OpenAt d os → OpenAt (in-group-of d) (a-group t ∷ os)
+group-deeper d t os m = record { groups = omega (arith, m .groups); repeats = m .repeats }
+
+pub repeat-deeper : (d : Depth) (h w : ℕ) (t : Tally) (os : List Open) → OpenAt d os → OpenAt (in-repeat-of d) (a-repeat h w t ∷ os)
+repeat-deeper d h w t os m = record { groups = m .groups; repeats = omega (arith, m .repeats) }
+
+-- A byte that is no command.
+pub item-unknown : (R : Rules) (s : List ℕ) (d : Depth) (p : ℕ) (t u : Tally) → NoClose s p → (getD s p 0 ≡ 0x10 → ⊥) → (getD s p 0 ≡ 0x11 → ⊥) → (getD s p 0 ≡ 0x20 → ⊥) → Item R s d p t (record { refusal = 1; at = p; tally = u })
+item-unknown R s d p t u n a b c =
+    item-refused R s d p t _ (λ z. omega arith)
+    (λ os m x.
+    stop R s p os t x 1 (n .below) (omega arith)
+    (refusal-unknown R (at os t x) (drop (p + 1) s) (getD s p 0)
+    (rw (ne-eqb _ _ a, ne-eqb _ _ b, ne-eqb _ _ (n .no-group-end), ne-eqb _ _ (n .no-repeat-end), ne-eqb _ _ c))))

@@ -42,6 +42,12 @@ pub record At (s : List ℕ) (p c : ℕ) : Type 0 where
   pub below : p < length s
   pub byte : getD s p 0 ≡ c
 
+-- A command stands at p that is no close.
+pub record NoClose (s : List ℕ) (p : ℕ) : Type 0 where
+  pub below : p < length s
+  pub no-group-end : getD s p 0 ≡ 0x12 → ⊥
+  pub no-repeat-end : getD s p 0 ≡ 0x21 → ⊥
+
 -- A sequence ends at p: at the end of the input, or at a close.
 pub record Halted (s : List ℕ) (p : ℕ) : Type 0 where
   pub within : p ≤ length s
@@ -93,14 +99,21 @@ pub record Sequence (R : Rules) (s : List ℕ) (d : Depth) (p : ℕ) (t : Tally)
   pub halted : w .refusal ≡ 0 → Halted s (w .at)
   pub grown : w .refusal ≡ 0 → Grown t (w .tally)
 
+-- The depth inside a group, and inside a repeat.
+abbrev pub in-group-of : Depth → Depth
+in-group-of d = record { groups = d .groups + 1; repeats = d .repeats }
+
+abbrev pub in-repeat-of : Depth → Depth
+in-repeat-of d = record { groups = d .groups; repeats = d .repeats + 1 }
+
 -- The command at p opened o, and the counts inside are those.
-pub record Entered (R : Rules) (s : List ℕ) (d : Depth) (p : ℕ) (t : Tally) (o : Open) (size nodes price : ℕ) (w : Walk) : Type 0 where
+pub record Entered (R : Rules) (s : List ℕ) (d d′ : Depth) (p : ℕ) (t : Tally) (o : Open) (size nodes price : ℕ) (w : Walk) : Type 0 where
   pub moves : Moves R s d p t (λ os. os) (λ os. o ∷ os) w
   pub ahead : w .refusal ≡ 0 → p < w .at
   pub within : w .refusal ≡ 0 → w .at ≤ length s
   pub siblings : w .refusal ≡ 0 → w .tally .siblings ≡ 0
   pub nodes-inside : w .refusal ≡ 0 → w .tally .nodes ≡ t .nodes + nodes
-  pub total : w .refusal ≡ 0 → w .tally .nodes ≤ 1024
+  pub room : w .refusal ≡ 0 → Room d′ (w .tally)
   pub size-inside : w .refusal ≡ 0 → w .tally .size ≡ t .size + size
   pub cost-inside : w .refusal ≡ 0 → w .tally .cost ≤ t .cost + price
 

@@ -8,7 +8,7 @@ ghost use mathlib.Core.List.{List, _∷_};
 ghost use Prim.Native.Nat.{ℕ, suc, _+_, _*_, _<_, _≤_};
 ghost use lib.ListN.{length, getD, drop};
 ghost use Rattle.format.specs.Machine.{Open, a-group, a-repeat};
-ghost use Rattle.reader.specs.Walk.{At, Room, Grown, Halted, Sane, Item, Entered, Left, rules-of, word-at, repeat-at};
+ghost use Rattle.reader.specs.Walk.{At, Room, Grown, Halted, Sane, Item, Entered, Left, in-group-of, in-repeat-of, rules-of, word-at, repeat-at};
 
 // What the reader was asked: whether repeats may stand in the input, the width limit, and the repeat prices.
 pub struct Terms {
@@ -56,7 +56,7 @@ fn price(s: &[u8], costs: &[u16], at: usize) -> u64
 }
 
 // The operand of two bytes at an offset, the high byte first.
-fn operand(s: &[u8], at: usize) -> usize
+pub fn operand(s: &[u8], at: usize) -> usize
     requires { ⌜ at + 1 < length (now s) ⌝ }
     ensures { λ r. ⌜ (r ≡ word-at (now (s .entry)) at) × (r < 65536) ⌝ }
 {
@@ -100,7 +100,7 @@ pub fn step(s: &[u8], costs: &[u16], a: Terms, at: usize, d: Depth, t: Tally) ->
 pub fn enter_group(s: &[u8], costs: &[u16], a: Terms, at: usize, d: Depth, t: Tally) -> Walk
     requires { ⌜ At (now s) at 0x11 ⌝ }
     requires { ⌜ Room d t ⌝ }
-    ensures { λ r. ⌜ Entered (rules-of a (now (costs .entry))) (now (s .entry)) d at t (a-group t) 2 1 65535 r ⌝ }
+    ensures { λ r. ⌜ Entered (rules-of a (now (costs .entry))) (now (s .entry)) d (in-group-of d) at t (a-group t) 2 1 65535 r ⌝ }
 {
     if s.len() - at < 2 {
         return Walk {
@@ -198,7 +198,7 @@ pub fn enter_repeat(s: &[u8], costs: &[u16], a: Terms, at: usize, d: Depth, t: T
     requires { ⌜ At (now s) at 0x20 ⌝ }
     requires { ⌜ Room d t ⌝ }
     requires { ⌜ Sane a ⌝ }
-    ensures { λ r. ⌜ Entered (rules-of a (now (costs .entry))) (now (s .entry)) d at t (repeat-at (now (s .entry)) at t) 0 0 4294967295 r ⌝ }
+    ensures { λ r. ⌜ Entered (rules-of a (now (costs .entry))) (now (s .entry)) d (in-repeat-of d) at t (repeat-at (now (s .entry)) at t) 0 0 4294967295 r ⌝ }
     ensures { λ r. ⌜ (r .refusal ≡ 0 → (a .folds ≡ true) × (2 ≤ word-at (now (s .entry)) (at + 1)) × (at + 5 ≤ length (now (s .entry)))) ⌝ }
 {
     if !a.folds {

@@ -1,4 +1,6 @@
 use borrow.Author.Needs.{needs}
+use native.Mathlib.Omega.{arith}
+use Rattle.reader.proofs.Commands.{group-short, group-deep, group-full, group-on}
 use Rattle.reader.proofs.command.enter_group.Statement.{statement}
 use Rattle.reader.proofs.command.enter_group.Tie as tie
 use Rattle.reader.proofs.command.enter_group.Reads as reads
@@ -11,15 +13,18 @@ sub-if1 c = search needs
 
 -- src/command.rt:106:9
 returns : tie.Need-returns
-returns c = ?
+returns c =
+    let S = c .before .before .before in group-short (S .args .a) (S .args .costs .now) (S .args .s .now) (S .args .d) (S .args .at) (S .args .t) (S .pre .0) (omega (arith, S .pre .0 .below)) _ _
 
 -- src/command.rt:113:9
 returns-2 : tie.Need-returns-2
-returns-2 c = ?
+returns-2 c =
+    let S = c .before .before .before .before .before in group-deep (S .args .a) (S .args .costs .now) (S .args .s .now) (S .args .d) (S .args .at) (S .args .t) (S .pre .0) (omega (arith, S .pre .0 .below)) (omega arith) _ _
 
 -- src/command.rt:120:9
 returns-3 : tie.Need-returns-3
-returns-3 c = ?
+returns-3 c =
+    let S = c .before .before .before .before .before .before .before in group-full (S .args .a) (S .args .costs .now) (S .args .s .now) (S .args .d) (S .args .at) (S .args .t) (S .pre .0) (omega (arith, S .pre .0 .below)) (omega arith) (omega arith) _ _
 
 -- src/command.rt:126:29
 add-price : tie.Need-add-price
@@ -47,7 +52,8 @@ add-t13 c = search needs
 
 -- src/command.rt:100:1
 returns-4 : tie.Need-returns-4
-returns-4 c = ?
+returns-4 c =
+    let S = c .before .before .before .before .before .before .before .before .before .before .before in group-on (S .args .a) (S .args .costs .now) (S .args .s .now) (S .args .d) (S .args .at) (S .args .t) (S .pre .1) (S .pre .0) (omega (arith, S .pre .0 .below)) (omega arith) (omega arith) _ (search) (search)
 
 pub enter-group-spec : {M : Type 1} → statement M
 enter-group-spec =

@@ -1,4 +1,6 @@
 use borrow.Author.Needs.{needs}
+use native.Mathlib.Omega.{arith}
+use Rattle.reader.proofs.Commands.{step-short, step-full, step-on}
 use Rattle.reader.proofs.command.step.Statement.{statement}
 use Rattle.reader.proofs.command.step.Tie as tie
 use Rattle.reader.proofs.command.step.Reads as reads
@@ -11,11 +13,13 @@ sub-if1 c = search needs
 
 -- src/command.rt:73:9
 returns : tie.Need-returns
-returns c = ?
+returns c =
+    let S = c .before .before .before in step-short (S .args .a) (S .args .costs .now) (S .args .s .now) (S .args .d) (S .args .at) (S .args .t) (S .pre .0) (omega (arith, S .pre .0 .below)) _
 
 -- src/command.rt:80:9
 returns-2 : tie.Need-returns-2
-returns-2 c = ?
+returns-2 c =
+    let S = c .before .before .before .before .before in step-full (S .args .a) (S .args .costs .now) (S .args .s .now) (S .args .d) (S .args .at) (S .args .t) (S .pre .0) (omega (arith, S .pre .0 .below)) (omega arith) _
 
 -- src/command.rt:86:29
 add-price : tie.Need-add-price
@@ -47,7 +51,8 @@ add-t14 c = search needs
 
 -- src/command.rt:67:1
 returns-3 : tie.Need-returns-3
-returns-3 c = ?
+returns-3 c =
+    let S = c .before .before .before .before .before .before .before .before .before .before in step-on (S .args .a) (S .args .costs .now) (S .args .s .now) (S .args .d) (S .args .at) (S .args .t) (S .pre .0) (omega (arith, S .pre .0 .below)) (omega arith) _ (search) (search)
 
 pub step-spec : {M : Type 1} → statement M
 step-spec =

@@ -1,0 +1,229 @@
+-- Our folds are the report's trees: unrolling is its expansion, a width operand its width, the cost its size, and so it is
+-- for the bytes that the fold reader accepts. The report's definitions decide: its index i − (j − 1)h near Proposition 4,
+-- where i − j(h − 1) is meant, plays no part.
+use mathlib.Core.Path.{_≡_, refl, sym, ap, ap₂, _∙_}
+use mathlib.Core.Logic.{_↔_}
+use mathlib.Core.List.{List}
+use Prim.Native.Nat.{ℕ, zero, suc, _+_, _-_, _*_, _≤_, _<_}
+use native.Mathlib.Nat.{mul-le-mul-right}
+use native.Mathlib.Omega.{arith}
+use lib.ListN.{getD}
+use Rattle.format.specs.Limits.{Prices, of-repeat, priced}
+use Rattle.format.specs.Forest.{Forest, end, step, group, repeat, join, copies, unroll, siblings, cost, bytes, Plain, Allowed, Sound}
+use Rattle.format.specs.Readings.{fold-rules}
+use Rattle.format.specs.Shape.{Reads, tally-of}
+use Rattle.format.specs.Report.{RRT, empty, letter, repetition, count, Valid, append, row, Represents, Width, WidthAtMost, size}
+use Rattle.format.specs.declared.Tally.{Tally}
+use Rattle.format.proofs.Forests.{siblings-unroll, plain-unroll, sound-join}
+use Rattle.format.proofs.Expansion.{expand, represents, width}
+
+-- The report's tree of a sequence, less its root. A step and a group of one label bear one letter: the step is a leaf.
+unfoldable pub report : Forest → RRT ℕ
+report end = empty
+report (step l f) = letter l empty (report f)
+report (group l b f) = letter l (report b) (report f)
+report (repeat h w b f) = repetition h (report b) (report f)
+
+report-join : (f g : Forest) → report (join f g) ≡ append (report f) (report g)
+unfolding report join append
+report-join end g = refl
+report-join (step l f) g = ap (letter l empty) (report-join f g)
+report-join (group l b f) g = ap (letter l (report b)) (report-join f g)
+report-join (repeat h w b f) g = ap (repetition h (report b)) (report-join f g)
+
+report-copies : (h : ℕ) (f : Forest) → report (copies h f) ≡ row h (report f)
+unfolding report copies row
+report-copies zero f = refl
+report-copies (suc h) f = rw (report-join, report-copies h f)
+
+-- Unrolling is expansion.
+pub expand-report : (f : Forest) → expand (report f) ≡ report (unroll f)
+unfolding report unroll expand
+expand-report end = refl
+expand-report (step l f) = rw (expand-report f)
+expand-report (group l b f) = rw (expand-report b, expand-report f)
+expand-report (repeat h w b f) = rw (expand-report b, expand-report f, report-join, report-copies)
+
+pub represents-unroll : (f : Forest) → Represents (report f) (report (unroll f))
+represents-unroll f = represents (report f) (report (unroll f)) .1 (sym (expand-report f))
+
+-- The siblings of a body are the report's width of its repetition.
+count-plain : (f : Forest) → Plain f → count (report f) ≡ siblings f
+unfolding report count siblings
+count-plain end p = refl
+count-plain (step l f) p = rw (count-plain f p)
+count-plain (group l b f) p = rw (count-plain f (p .1))
+count-plain (repeat h w b f) p = absurd p
+
+count-expand : (b : Forest) → count (expand (report b)) ≡ siblings b
+count-expand b = rw (expand-report b) (count-plain (unroll b) (plain-unroll b) ∙ siblings-unroll b)
+
+pub width-siblings : (b : Forest) → Width (report b) (siblings b)
+width-siblings b = width (report b) (siblings b) .1 (count-expand b)
+
+-- Every width operand is the report's width of its repetition.
+abbrev pub TrueWidths : Forest → Type 0
+TrueWidths end = Unit
+TrueWidths (step l f) = TrueWidths f
+TrueWidths (group l b f) = TrueWidths b × TrueWidths f
+TrueWidths (repeat h w b f) = Width (report b) w × TrueWidths b × TrueWidths f
+
+-- The cost is the size, the label prices as weights of the letters and the repeat prices as weights of the numbers.
+pub cost-report :
+    (P : Prices) → ((l : ℕ) → P .of-group l ≡ P .of-step l) → (f : Forest) →
+    cost P f ≡ size (P .of-step) (of-repeat P) (report f)
+unfolding report cost size
+cost-report P same end = refl
+cost-report P same (step l f) = omega (arith, cost-report P same f)
+cost-report P same (group l b f) = omega (arith, same l, cost-report P same b, cost-report P same f)
+cost-report P same (repeat h w b f) = omega (arith, cost-report P same b, cost-report P same f)
+
+-- The fold of a tree: a letter with children becomes a group, one without a step.
+unfoldable pub fold-of : RRT ℕ → Forest
+fold-of empty = end
+fold-of (letter a empty r) = step a (fold-of r)
+fold-of (letter a (letter b c d) r) = group a (fold-of (letter b c d)) (fold-of r)
+fold-of (letter a (repetition h c d) r) = group a (fold-of (repetition h c d)) (fold-of r)
+fold-of (repetition h c r) = repeat h (siblings (fold-of c)) (fold-of c) (fold-of r)
+
+pub report-fold-of : (r : RRT ℕ) → report (fold-of r) ≡ r
+unfolding report fold-of
+report-fold-of empty = refl
+report-fold-of (letter a empty r) = ap (letter a empty) (report-fold-of r)
+report-fold-of (letter a (letter b c d) r) = ap₂ (letter a) (report-fold-of (letter b c d)) (report-fold-of r)
+report-fold-of (letter a (repetition h c d) r) = ap₂ (letter a) (report-fold-of (repetition h c d)) (report-fold-of r)
+report-fold-of (repetition h c r) = ap₂ (repetition h) (report-fold-of c) (report-fold-of r)
+
+-- What has siblings has nodes.
+some-children : (b : Forest) → 0 < siblings b → 0 < count (report b)
+unfolding report count siblings
+some-children end p = p
+some-children (step l f) p = omega arith
+some-children (group l b f) p = omega arith
+some-children (repeat h w b f) p = omega arith
+
+module _ (A : Allowed) where
+  -- A sound fold is one of the report's trees, with its width operands true and within the limit.
+  pub true-widths : (f : Forest) → Sound A f → TrueWidths f
+  true-widths end s = tt
+  true-widths (step l f) s = true-widths f s
+  true-widths (group l b f) s = (true-widths b (s .1), true-widths f (s .2))
+  true-widths (repeat h w b f) s = (rw (s .0 .true-width) at (width-siblings b), true-widths b (s .1), true-widths f (s .2))
+
+  pub valid-report : (f : Forest) → Sound A f → Valid (report f)
+  unfolding report
+  valid-report end s = tt
+  valid-report (step l f) s = (tt, valid-report f s)
+  valid-report (group l b f) s = (valid-report b (s .1), valid-report f (s .2))
+  valid-report (repeat h w b f) s = (s .0 .twice, some-children b (s .0 .some), valid-report b (s .1), valid-report f (s .2))
+
+  pub within-report : (f : Forest) → Sound A f → WidthAtMost (A .widest) (report f)
+  unfolding report
+  within-report end s = tt
+  within-report (step l f) s = (tt, within-report f s)
+  within-report (group l b f) s = (within-report b (s .1), within-report f (s .2))
+  within-report (repeat h w b f) s =
+      (λ v p. omega (arith, width (report b) v .0 p, count-expand b), within-report b (s .1), within-report f (s .2))
+
+  -- Each of the report's trees within the limit is the tree of one sound fold, and of one only.
+  pub fold-of-report : (f : Forest) → Sound A f → fold-of (report f) ≡ f
+  unfolding report fold-of siblings
+  fold-of-report end s = refl
+  fold-of-report (step l f) s = ap (step l) (fold-of-report f s)
+  fold-of-report (group l end f) s = let none : ⊥ = omega arith in absurd none
+  fold-of-report (group l (step m b) f) s = ap₂ (group l) (fold-of-report (step m b) (s .1)) (fold-of-report f (s .2))
+  fold-of-report (group l (group m c b) f) s = ap₂ (group l) (fold-of-report (group m c b) (s .1)) (fold-of-report f (s .2))
+  fold-of-report (group l (repeat h w c b) f) s =
+      ap₂ (group l) (fold-of-report (repeat h w c b) (s .1)) (fold-of-report f (s .2))
+  fold-of-report (repeat h w b f) s = rw (fold-of-report b (s .1), fold-of-report f (s .2), s .0 .true-width)
+
+  pub report-injective : (f g : Forest) → Sound A f → Sound A g → report f ≡ report g → f ≡ g
+  report-injective f g p q e = cc (fold-of-report f p, fold-of-report g q)
+
+  some-siblings : (r : RRT ℕ) → Sound A (fold-of r) → 0 < count r → 0 < siblings (fold-of r)
+  unfolding fold-of count siblings
+  some-siblings empty s p = p
+  some-siblings (letter a empty r) s p = omega arith
+  some-siblings (letter a (letter b c d) r) s p = omega arith
+  some-siblings (letter a (repetition h c d) r) s p = omega arith
+  some-siblings (repetition h c r) s p = omega (arith, mul-le-mul-right (siblings (fold-of c)) (s .0 .twice))
+
+  pub sound-fold-of : (r : RRT ℕ) → Valid r → WidthAtMost (A .widest) r → Sound A (fold-of r)
+  unfolding fold-of count
+  sound-fold-of empty v k = tt
+  sound-fold-of (letter a empty r) v k = sound-fold-of r (v .1) (k .1)
+  sound-fold-of (letter a (letter b c d) r) v k =
+      let s = sound-fold-of (letter b c d) (v .0) (k .0) in
+      (some-siblings (letter b c d) s (omega arith), s, sound-fold-of r (v .1) (k .1))
+  sound-fold-of (letter a (repetition h c d) r) v k =
+      let s = sound-fold-of (repetition h c d) (v .0) (k .0) in
+      (some-siblings (repetition h c d) s (omega arith), s, sound-fold-of r (v .1) (k .1))
+  sound-fold-of (repetition h c r) v k =
+      let s = sound-fold-of c (v .2) (k .1) in
+      let w = siblings (fold-of c) in
+      let wide : Width c w = rw report-fold-of at (width-siblings (fold-of c)) in (
+        record { twice = v .0; true-width = refl; within = k .0 w wide; some = some-siblings c s (v .1) },
+        s,
+        sound-fold-of r (v .3) (k .2),
+      )
+
+  -- Unrolling keeps a fold sound.
+  sound-copies : (h : ℕ) (f : Forest) → Sound A f → Sound A (copies h f)
+  unfolding copies
+  sound-copies zero f s = tt
+  sound-copies (suc h) f s = sound-join A f (copies h f) s (sound-copies h f s)
+
+  sound-unroll : (f : Forest) → Sound A f → Sound A (unroll f)
+  unfolding unroll
+  sound-unroll end s = tt
+  sound-unroll (step l f) s = sound-unroll f s
+  sound-unroll (group l b f) s = (rw (siblings-unroll b) (s .0), sound-unroll b (s .1), sound-unroll f (s .2))
+  sound-unroll (repeat h w b f) s =
+      sound-join A (copies h (unroll b)) (unroll f) (sound-copies h (unroll b) (sound-unroll b (s .1))) (sound-unroll f (s .2))
+
+  -- The tree of a fold represents the tree of a run exactly when the fold unrolls to the run.
+  pub represents-run : (f t : Forest) → Sound A f → Sound A t → Represents (report f) (report t) ↔ unroll f ≡ t
+  represents-run f t p q = (
+    λ r. report-injective (unroll f) t (sound-unroll f p) q (sym (represents (report f) (report t) .0 r ∙ expand-report f)),
+    λ e. rw (← e) (represents-unroll f),
+  )
+
+  -- So a fold no dearer than any sound fold of the run is no larger than any tree, of the report's within the limit, that
+  -- represents the run (Problem 2, Corollary 1).
+  pub minimum :
+      (P : Prices) → ((l : ℕ) → P .of-group l ≡ P .of-step l) → (f t : Forest) → Sound A t →
+      ((g : Forest) → Sound A g → unroll g ≡ t → cost P f ≤ cost P g) →
+      (r : RRT ℕ) → Valid r → WidthAtMost (A .widest) r → Represents r (report t) →
+      size (P .of-step) (of-repeat P) (report f) ≤ size (P .of-step) (of-repeat P) r
+  minimum P same f t q best r v k p =
+      let s : Sound A (fold-of r) = sound-fold-of r v k in
+      let e : unroll (fold-of r) ≡ t = represents-run (fold-of r) t s q .0 (rw report-fold-of p) in
+      rw (← cost-report P same f, ← report-fold-of r, ← cost-report P same (fold-of r)) (best (fold-of r) s e)
+
+-- What the fold reader's acceptance says of the bytes s, the counts t and the run's bytes x in the report's words: s is the
+-- byte form of f, and f's tree is one of the report's, of width k, represents the tree of the run, and has the cost for its
+-- size, the lent table weighing the letters.
+pub record Means (k : ℕ) (table : List ℕ) (first each : ℕ) (s : List ℕ) (t : Tally) (x : List ℕ) (f : Forest) : Type 0 where
+  pub form : bytes f ≡ s
+  pub text : bytes (unroll f) ≡ x
+  pub valid : Valid (report f)
+  pub represented : Represents (report f) (report (unroll f))
+  pub sized : t .cost ≡ size (λ l. getD table l 0) (λ h. first + each * (h - 2)) (report f)
+  pub widths : TrueWidths f
+  pub within : WidthAtMost k (report f)
+
+pub fold-means :
+    {k : ℕ} {table : List ℕ} {first each : ℕ} {s x : List ℕ} {t : Tally} →
+    (r : Reads (fold-rules k (priced table first each)) s t x) → Means k table first each s t x (r .tree)
+unfolding tally-of
+fold-means {k} {table} {first} {each} r =
+    let A : Allowed = record { widest = k } in
+    record {
+      form = r .form;
+      text = r .text;
+      valid = valid-report A (r .tree) (r .shape .sound);
+      represented = represents-unroll (r .tree);
+      sized = sym (ap (λ (u : Tally). u .cost) (r .counts)) ∙ cost-report (priced table first each) (λ l. refl) (r .tree);
+      widths = true-widths A (r .tree) (r .shape .sound);
+      within = within-report A (r .tree) (r .shape .sound);
+    }
