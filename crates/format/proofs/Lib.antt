@@ -1,6 +1,10 @@
 -- The theorems about the format's definitions.
 pub mod Forests
 pub mod Machine
+pub mod Bridge
+pub mod Depth
+pub mod Refusals
 pub mod Order
 pub mod Expansion
 pub mod Report
+pub mod Tree

@@ -7,9 +7,10 @@ use mathlib.Core.Logic.{_≢_}
 use Prim.Native.Nat.{ℕ, zero, suc, _+_, _*_, _≤_, _<_}
 use native.Mathlib.Omega.{arith}
 use lib.Dec.{ltb, leb, eqb}
-use lib.ListN.{length}
+use lib.ListN.{length, drop, length-append}
+use lib.Seq.{drop-append-seam}
 use borrow.Author.Tests.{le-ltb, eq-eqb, ne-eqb, ltb-false, eqb-true, eqb-false, leb-false, lt-leb, not-false}
-use Rattle.format.specs.Machine.{Rules, State, Row, _when_, first-of, refusal, scan, advance, operands, count, width, is-known, place-of, unless, at-end, open-groups, open-repeats, in-group, in-repeat, claimed, total-of, refused, accepted, put-step, enter-group, leave-group, enter-repeat, leave-repeat}
+use Rattle.format.specs.Machine.{Rules, State, Row, _when_, first-of, rows, refusal, scan, advance, operands, count, width, is-known, place-of, unless, at-end, open-groups, open-repeats, in-group, in-repeat, claimed, total-of, refused, accepted, put-step, enter-group, leave-group, enter-repeat, leave-repeat}
 use Rattle.format.specs.declared.Tally.{Tally}
 
 -- Rows of which none applies, and rows whose numbers are not 0.
@@ -20,10 +21,6 @@ None (n when b ∷ rs) = (b ≡ false) × None rs
 abbrev pub Numbered : List Row → Type 0
 Numbered [] = Unit
 Numbered (n when b ∷ rs) = (0 < n) × Numbered rs
-
-pub none-first : (rs : List Row) → None rs → first-of rs ≡ 0
-none-first [] z = refl
-none-first (n when b ∷ rs) z = rw (z .0) (none-first rs (z .1))
 
 pub first-none : (rs : List Row) → Numbered rs → first-of rs ≡ 0 → None rs
 first-none [] m e = tt
@@ -90,6 +87,15 @@ module _ (R : Rules) (st : State) (rest : List ℕ) where
   unfolding refusal
   refusal-unknown c e = rw e
 
+  pub refusal-other : (c : ℕ) → c ≢ 0x10 → c ≢ 0x11 → c ≢ 0x12 → c ≢ 0x20 → c ≢ 0x21 → refusal R st c rest ≡ 1
+  refusal-other c p q r s t =
+      refusal-unknown c (rw (ne-eqb c 0x10 p, ne-eqb c 0x11 q, ne-eqb c 0x12 r, ne-eqb c 0x21 t, ne-eqb c 0x20 s))
+
+  -- A passed command has its operands.
+  pub operands-there : (c : ℕ) → refusal R st c rest ≡ 0 → operands c ≤ length rest
+  unfolding refusal
+  operands-there c e = ltb-false _ _ (first-none (rows R st c rest) (omega arith) e .1 .1 .0)
+
 -- When each command is passed.
 pub record StepPasses (R : Rules) (st : State) (rest : List ℕ) : Type 0 where
   pub operand : 1 ≤ length rest
@@ -124,9 +130,6 @@ not-zero n e = let h : ¬ (n ≡ 0) = eqb-false n 0 e in omega arith
 zero-not : (n : ℕ) → 0 < n → eqb n 0 ≡ false
 zero-not n h = ne-eqb n 0 (omega arith)
 
-not-true : (b : Bool) → b ≡ true → not b ≡ false
-not-true b e = rw e
-
 module _ (R : Rules) (st : State) (rest : List ℕ) where
   pub step-passed : refusal R st 0x10 rest ≡ 0 → StepPasses R st rest
   step-passed e =
@@ -134,9 +137,7 @@ module _ (R : Rules) (st : State) (rest : List ℕ) where
       record { operand = ltb-false _ _ (z .0); total = ltb-false _ _ (z .1 .0) }
 
   pub step-passes : StepPasses R st rest → refusal R st 0x10 rest ≡ 0
-  step-passes h =
-      refusal-step R st rest
-      ∙ none-first (step-rows R st rest) (le-ltb _ _ (h .operand), (le-ltb _ _ (h .total), tt))
+  step-passes h = refusal-step R st rest ∙ rw (le-ltb _ _ (h .operand), le-ltb _ _ (h .total))
 
   pub group-passed : refusal R st 0x11 rest ≡ 0 → GroupPasses R st rest
   group-passed e =
@@ -144,9 +145,7 @@ module _ (R : Rules) (st : State) (rest : List ℕ) where
       record { operand = ltb-false _ _ (z .0); room = leb-false _ _ (z .1 .0); total = ltb-false _ _ (z .1 .1 .0) }
 
   pub group-passes : GroupPasses R st rest → refusal R st 0x11 rest ≡ 0
-  group-passes h =
-      refusal-group R st rest
-      ∙ none-first (group-rows R st rest) (le-ltb _ _ (h .operand), (lt-leb _ _ (h .room), (le-ltb _ _ (h .total), tt)))
+  group-passes h = refusal-group R st rest ∙ rw (le-ltb _ _ (h .operand), lt-leb _ _ (h .room), le-ltb _ _ (h .total))
 
   pub repeat-end-passed : refusal R st 0x21 rest ≡ 0 → RepeatEndPasses R st
   repeat-end-passed e =
@@ -162,8 +161,7 @@ module _ (R : Rules) (st : State) (rest : List ℕ) where
   pub repeat-end-passes : RepeatEndPasses R st → refusal R st 0x21 rest ≡ 0
   repeat-end-passes h =
       refusal-repeat-end R st rest
-      ∙ none-first (repeat-end-rows R st)
-      (not-true _ (h .folds), (not-true _ (h .inner), (zero-not _ (h .some), (not-true _ (eq-eqb _ _ (h .true-width)), (le-ltb _ _ (h .total), tt)))))
+      ∙ rw (h .folds, h .inner, zero-not _ (h .some), eq-eqb _ _ (h .true-width), le-ltb _ _ (h .total))
 
   module _ (within : st .tally .nodes ≤ R .limits .nodes) where
     pub group-end-passed : refusal R st 0x12 rest ≡ 0 → GroupEndPasses st
@@ -172,9 +170,7 @@ module _ (R : Rules) (st : State) (rest : List ℕ) where
         record { inner = not-false _ (z .0); some = not-zero _ (z .1 .0) }
 
     pub group-end-passes : GroupEndPasses st → refusal R st 0x12 rest ≡ 0
-    group-end-passes h =
-        refusal-group-end R st rest within
-        ∙ none-first (group-end-rows st) (not-true _ (h .inner), (zero-not _ (h .some), tt))
+    group-end-passes h = refusal-group-end R st rest within ∙ rw (h .inner, zero-not _ (h .some))
 
     pub repeat-passed : refusal R st 0x20 rest ≡ 0 → RepeatPasses R st rest
     repeat-passed e =
@@ -190,25 +186,25 @@ module _ (R : Rules) (st : State) (rest : List ℕ) where
     pub repeat-passes : RepeatPasses R st rest → refusal R st 0x20 rest ≡ 0
     repeat-passes h =
         refusal-repeat R st rest within
-        ∙ none-first (repeat-rows R st rest)
-        (not-true _ (h .folds), (le-ltb _ _ (h .operand), (le-ltb _ _ (h .twice), (le-ltb _ _ (h .narrow), (lt-leb _ _ (h .room), tt)))))
+        ∙ rw (h .folds, le-ltb _ _ (h .operand), le-ltb _ _ (h .twice), le-ltb _ _ (h .narrow), lt-leb _ _ (h .room))
 
 -- A byte is one of the five commands, or none.
 pub data Command : ℕ → Type 0 where
-  a-step : Command 0x10
-  a-group : Command 0x11
-  a-group-end : Command 0x12
-  a-repeat : Command 0x20
-  a-repeat-end : Command 0x21
-  unknown : {c : ℕ} → is-known c ≡ false → Command c
+  step-byte : Command 0x10
+  group-byte : Command 0x11
+  group-end-byte : Command 0x12
+  repeat-byte : Command 0x20
+  repeat-end-byte : Command 0x21
+  other-byte : {c : ℕ} → is-known c ≡ false → Command c
 
-sorted : (c : ℕ) (a b d e f : Bool) → eqb c 0x10 ≡ a → eqb c 0x11 ≡ b → eqb c 0x12 ≡ d → eqb c 0x20 ≡ e → eqb c 0x21 ≡ f → Command c
-sorted c true b d e f p q r s t = rw (eqb-true c 0x10 p) a-step
-sorted c false true d e f p q r s t = rw (eqb-true c 0x11 q) a-group
-sorted c false false true e f p q r s t = rw (eqb-true c 0x12 r) a-group-end
-sorted c false false false true f p q r s t = rw (eqb-true c 0x20 s) a-repeat
-sorted c false false false false true p q r s t = rw (eqb-true c 0x21 t) a-repeat-end
-sorted c false false false false false p q r s t = unknown {c = c} (rw (p, q, r, t, s))
+sorted : (c : ℕ) (a b d e f : Bool) → eqb c 0x10 ≡ a → eqb c 0x11 ≡ b → eqb c 0x12 ≡ d → eqb c 0x20 ≡ e → eqb c 0x21 ≡ f
+    → Command c
+sorted c true b d e f p q r s t = rw (eqb-true c 0x10 p) step-byte
+sorted c false true d e f p q r s t = rw (eqb-true c 0x11 q) group-byte
+sorted c false false true e f p q r s t = rw (eqb-true c 0x12 r) group-end-byte
+sorted c false false false true f p q r s t = rw (eqb-true c 0x20 s) repeat-byte
+sorted c false false false false true p q r s t = rw (eqb-true c 0x21 t) repeat-end-byte
+sorted c false false false false false p q r s t = other-byte {c = c} (rw (p, q, r, t, s))
 
 pub command : (c : ℕ) → Command c
 command c = sorted c _ _ _ _ _ refl refl refl refl refl
@@ -220,14 +216,17 @@ module _ (R : Rules) (p : ℕ) (st : State) where
   scan-end = refl
 
   module _ (c : ℕ) (s : List ℕ) where
-    scan-command : scan R p 0 st (c ∷ s) ≡ unless (refusal R st c s) p (p + suc (length s)) (scan R (suc p) (operands c) (advance (R .prices) c s st) s)
+    scan-command : scan R p 0 st (c ∷ s)
+        ≡ unless (refusal R st c s) p (p + suc (length s)) (scan R (suc p) (operands c) (advance (R .prices) c s st) s)
     unfolding scan
     scan-command = refl
 
-    pub scan-pass : refusal R st c s ≡ 0 → scan R p 0 st (c ∷ s) ≡ scan R (suc p) (operands c) (advance (R .prices) c s st) s
+    pub scan-pass : refusal R st c s ≡ 0
+        → scan R p 0 st (c ∷ s) ≡ scan R (suc p) (operands c) (advance (R .prices) c s st) s
     scan-pass e = rw (scan-command, e)
 
-    pub scan-refuse : (n : ℕ) → n ≢ 0 → refusal R st c s ≡ n → scan R p 0 st (c ∷ s) ≡ refused n (place-of n p (p + suc (length s)))
+    pub scan-refuse : (n : ℕ) → n ≢ 0 → refusal R st c s ≡ n
+        → scan R p 0 st (c ∷ s) ≡ refused n (place-of n p (p + suc (length s)))
     scan-refuse zero h e = absurd (h refl)
     scan-refuse (suc n) h e = rw (scan-command, e)
 
@@ -239,37 +238,56 @@ module _ (R : Rules) (p : ℕ) (st : State) where
         passed zero f = refl
         passed (suc n) f = cc (e, scan-refuse (suc n) (omega arith) f)
 
-pub scan-skip : (R : Rules) (p : ℕ) (st : State) (xs s : List ℕ) → scan R p (length xs) st (xs ++ s) ≡ scan R (p + length xs) 0 st s
+pub scan-drop : (R : Rules) (p k : ℕ) (st : State) (s : List ℕ) → k ≤ length s
+    → scan R p k st s ≡ scan R (p + k) 0 st (drop k s)
 unfolding scan
-scan-skip R p st [] s = let e : p + 0 ≡ p = omega arith in rw e
-scan-skip R p st (x ∷ xs) s =
-    let e : p + suc (length xs) ≡ suc p + length xs = omega arith in
-    rw e (scan-skip R (suc p) st xs s)
+scan-drop R p zero st s h = let e : p + 0 ≡ p = omega arith in rw e
+scan-drop R p (suc k) st [] h = absurd (omega arith)
+scan-drop R p (suc k) st (x ∷ s) h =
+    let e : p + suc k ≡ suc p + k = omega arith in
+    rw e (scan-drop R (suc p) k st s (omega arith))
+
+pub scan-skip : (R : Rules) (p : ℕ) (st : State) (xs s : List ℕ)
+    → scan R p (length xs) st (xs ++ s) ≡ scan R (p + length xs) 0 st s
+scan-skip R p st xs s =
+    scan-drop R p (length xs) st (xs ++ s) (simp length-append (omega arith)) ∙ rw drop-append-seam
 
 module _ (R : Rules) (p : ℕ) (st : State) where
   -- A passed command with its operands.
-  pub scan-on : (c : ℕ) (xs s : List ℕ) → operands c ≡ length xs → refusal R st c (xs ++ s) ≡ 0 → scan R p 0 st (c ∷ xs ++ s) ≡ scan R (p + suc (length xs)) 0 (advance (R .prices) c (xs ++ s) st) s
+  pub scan-on : (c : ℕ) (xs s : List ℕ) → operands c ≡ length xs → refusal R st c (xs ++ s) ≡ 0
+      → scan R p 0 st (c ∷ xs ++ s) ≡ scan R (p + suc (length xs)) 0 (advance (R .prices) c (xs ++ s) st) s
   scan-on c xs s o e =
       let q : suc p + length xs ≡ p + suc (length xs) = omega arith in
       rw (scan-pass R p st c (xs ++ s) e, o, ← q) (scan-skip R (suc p) (advance (R .prices) c (xs ++ s) st) xs s)
 
+  pub scan-past : (c : ℕ) (s : List ℕ) → refusal R st c s ≡ 0
+      → scan R p 0 st (c ∷ s) ≡ scan R (suc p + operands c) 0 (advance (R .prices) c s st) (drop (operands c) s)
+  scan-past c s e =
+      scan-pass R p st c s e
+      ∙ scan-drop R (suc p) (operands c) (advance (R .prices) c s st) s (operands-there R st s c e)
+
   module _ (s : List ℕ) where
-    pub scan-step : (l : ℕ) → refusal R st 0x10 (l ∷ s) ≡ 0 → scan R p 0 st (0x10 ∷ l ∷ s) ≡ scan R (p + 2) 0 (put-step (R .prices) l st) s
+    pub scan-step : (l : ℕ) → refusal R st 0x10 (l ∷ s) ≡ 0
+        → scan R p 0 st (0x10 ∷ l ∷ s) ≡ scan R (p + 2) 0 (put-step (R .prices) l st) s
     unfolding advance
     scan-step l e = scan-on 0x10 (l ∷ []) s refl e
 
-    pub scan-group : (l : ℕ) → refusal R st 0x11 (l ∷ s) ≡ 0 → scan R p 0 st (0x11 ∷ l ∷ s) ≡ scan R (p + 2) 0 (enter-group (R .prices) l st) s
+    pub scan-group : (l : ℕ) → refusal R st 0x11 (l ∷ s) ≡ 0
+        → scan R p 0 st (0x11 ∷ l ∷ s) ≡ scan R (p + 2) 0 (enter-group (R .prices) l st) s
     unfolding advance
     scan-group l e = scan-on 0x11 (l ∷ []) s refl e
 
-    pub scan-group-end : refusal R st 0x12 s ≡ 0 → scan R p 0 st (0x12 ∷ s) ≡ scan R (p + 1) 0 (leave-group (st .opens) st) s
+    pub scan-group-end : refusal R st 0x12 s ≡ 0
+        → scan R p 0 st (0x12 ∷ s) ≡ scan R (p + 1) 0 (leave-group (st .opens) st) s
     unfolding advance
     scan-group-end e = scan-on 0x12 [] s refl e
 
-    pub scan-repeat : (a b c d : ℕ) → refusal R st 0x20 (a ∷ b ∷ c ∷ d ∷ s) ≡ 0 → scan R p 0 st (0x20 ∷ a ∷ b ∷ c ∷ d ∷ s) ≡ scan R (p + 5) 0 (enter-repeat (R .prices) (a * 256 + b) (c * 256 + d) st) s
+    pub scan-repeat : (a b c d : ℕ) → refusal R st 0x20 (a ∷ b ∷ c ∷ d ∷ s) ≡ 0
+        → scan R p 0 st (0x20 ∷ a ∷ b ∷ c ∷ d ∷ s) ≡ scan R (p + 5) 0 (enter-repeat (R .prices) (a * 256 + b) (c * 256 + d) st) s
     unfolding advance
     scan-repeat a b c d e = scan-on 0x20 (a ∷ b ∷ c ∷ d ∷ []) s refl e
 
-    pub scan-repeat-end : refusal R st 0x21 s ≡ 0 → scan R p 0 st (0x21 ∷ s) ≡ scan R (p + 1) 0 (leave-repeat (st .opens) st) s
+    pub scan-repeat-end : refusal R st 0x21 s ≡ 0
+        → scan R p 0 st (0x21 ∷ s) ≡ scan R (p + 1) 0 (leave-repeat (st .opens) st) s
     unfolding advance
     scan-repeat-end e = scan-on 0x21 [] s refl e

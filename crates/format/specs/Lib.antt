@@ -5,4 +5,6 @@ pub mod Forest
 pub mod Machine
 pub mod Readings
 pub mod Shape
+pub mod Parts
+pub mod Tree
 pub mod Report

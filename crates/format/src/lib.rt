@@ -50,3 +50,18 @@ pub struct FoldReading {
     pub length: usize,
     pub cost: u64,
 }
+
+// The unroller's answer: refusal number and place, and the length written.
+pub struct Unrolled {
+    pub refusal: u8,
+    pub place: usize,
+    pub length: usize,
+}
+
+// The folder's answer: refusal number and place, the length written, and the fold's cost.
+pub struct Folded {
+    pub refusal: u8,
+    pub place: usize,
+    pub length: usize,
+    pub cost: u64,
+}

@@ -1,3 +1,4 @@
 -- What the readers' function proofs share.
 pub mod Walking
 pub mod Commands
+pub mod Wholes

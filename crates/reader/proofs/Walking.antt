@@ -8,7 +8,7 @@ use native.Mathlib.Omega.{arith}
 use lib.ListN.{length, getD, drop, length-drop}
 use lib.Seq.{drop-cons, drop-length}
 use borrow.Author.Tests.{ne-eqb}
-use Rattle.format.specs.Machine.{Rules, Open, a-group, a-repeat, Outcome, State, refused, scan, refusal, place-of, at-end}
+use Rattle.format.specs.Machine.{Rules, Open, a-group, a-repeat, Outcome, State, refused, accepted, scan, refusal, place-of, at-end}
 use Rattle.format.specs.declared.Tally.{Tally}
 use Rattle.format.proofs.Machine.{scan-refuse, scan-end, refusal-unknown}
 use Rattle.reader.specs.Walk.{from, Leads, Stops, OpenAt, Moves, Halted, Room, Grown, Item, Sequence, Entered, Left, NoClose, in-group-of, in-repeat-of}
@@ -46,6 +46,9 @@ stop R s p os t x n h z e =
 -- Something open at the end.
 pub stop-end : (R : Rules) (s : List ℕ) (p : ℕ) (o : Open) (os : List Open) (t : Tally) (x : List ℕ) → p ≡ length s → from R s p (o ∷ os) t x ≡ refused 3 p
 stop-end R s p o os t x e = rw (e, drop-length, scan-end R (length s) (at (o ∷ os) t x))
+
+pub pass-end : (R : Rules) (s : List ℕ) (p : ℕ) (t : Tally) (x : List ℕ) → p ≡ length s → from R s p [] t x ≡ accepted t x
+pass-end R s p t x e = rw (e, drop-length, scan-end R (length s) (at [] t x))
 
 -- Refused walks.
 module _ (R : Rules) (s : List ℕ) (d : Depth) (p : ℕ) (t : Tally) (w : Walk) (no : w .refusal ≡ 0 → ⊥) where

@@ -1,10 +1,12 @@
 -- What the inner functions of the readers promise: reading on from here is reading on from there, or refusing.
 use mathlib.Core.Path.{_≡_}
-use mathlib.Core.List.{List, _∷_}
+use mathlib.Core.Bool.{cond}
+use mathlib.Core.List.{List, [], _∷_}
 use Prim.Native.Nat.{ℕ, _+_, _*_, _<_, _≤_}
+use lib.Dec.{eqb}
 use lib.ListN.{length, getD, drop}
 use Rattle.format.specs.Limits.{limits, priced}
-use Rattle.format.specs.Machine.{Rules, Open, a-repeat, Outcome, refused, scan, open-groups, open-repeats}
+use Rattle.format.specs.Machine.{Rules, Open, a-repeat, Outcome, refused, accepted, scan, read, open-groups, open-repeats}
 use Rattle.format.specs.declared.Tally.{Tally}
 use Rattle.reader.specs.declared.command.Terms.{Terms}
 use Rattle.reader.specs.declared.command.Depth.{Depth}
@@ -123,3 +125,12 @@ pub record Left (R : Rules) (s : List ℕ) (d : Depth) (p : ℕ) (t i : Tally) (
   pub ahead : w .refusal ≡ 0 → p < w .at
   pub within : w .refusal ≡ 0 → w .at ≤ length s
   pub grown : w .refusal ≡ 0 → Grown t (w .tally)
+
+-- The whole input was read, or refused.
+pub record Whole (R : Rules) (s : List ℕ) (w : Walk) : Type 0 where
+  pub reads : w .refusal ≡ 0 → (x : List ℕ) × (read R s ≡ accepted (w .tally) x)
+  pub refuses : (w .refusal ≡ 0 → ⊥) → read R s ≡ refused (w .refusal) (w .at)
+
+-- What a walk over the whole input says of it, the unrolled bytes aside.
+abbrev pub outcome : Walk → Outcome
+outcome w = cond (eqb (w .refusal) 0) (accepted (w .tally) []) (refused (w .refusal) (w .at))

@@ -37,7 +37,7 @@ fn wide(x: u8) -> usize
     x as usize
 }
 
-fn wide_cost(x: u16) -> u64
+pub fn wide_cost(x: u16) -> u64
     ensures { λ r. ⌜ (r ≡ x) × (r < 65536) ⌝ }
 {
     x as u64

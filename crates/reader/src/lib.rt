@@ -1,3 +1,187 @@
-// The readers: run reader, part of a node, fold reader with cost. One walk serves them all.
+// The readers: run reader, part of a node, fold reader with cost. One walk serves them all. Each answers for every input
+// whatsoever, and none writes anywhere.
 mod command;
+mod node;
 mod walk;
+
+use command::Depth;
+use command::Terms;
+use command::Walk;
+use command::wide_cost;
+use format::FoldReading;
+use format::Format;
+use format::RunReading;
+use format::Tally;
+use node::node_end;
+use node::starts_at;
+use walk::sequence;
+ghost use mathlib.Core.Path.{_≡_};
+ghost use mathlib.Core.Bool.{true};
+ghost use Rattle.format.specs.Machine.{read};
+ghost use Rattle.format.specs.Readings.{run-reading, fold-reading, fold-answer, fold-rules, free};
+ghost use Rattle.format.specs.Parts.{part-of};
+ghost use Rattle.reader.specs.Walk.{Sane, Whole, outcome, rules-of};
+
+// The whole input: the top sequence, then the end and no close.
+fn whole(s: &[u8], costs: &[u16], a: Terms) -> Walk
+    requires { ⌜ Sane a ⌝ }
+    ensures { λ r. ⌜ Whole (rules-of a (now (costs .entry))) (now (s .entry)) r ⌝ }
+{
+    let none = Tally {
+        siblings: 0,
+        nodes: 0,
+        size: 0,
+        cost: 0,
+    };
+    let top = Depth {
+        groups: 0,
+        repeats: 0,
+    };
+    let w = sequence(s, costs, a, 0, top, none);
+    if w.refusal != 0 {
+        return w;
+    }
+    let at = w.at;
+    if at == s.len() {
+        return w;
+    }
+    if s[at] == Format::GROUP_END {
+        return Walk {
+            refusal: 4,
+            at,
+            tally: none,
+        };
+    }
+    if a.folds {
+        return Walk {
+            refusal: 4,
+            at,
+            tally: none,
+        };
+    }
+    Walk {
+        refusal: 2,
+        at,
+        tally: none,
+    }
+}
+
+// The run reader: refusals 1 to 10, or the number of nodes.
+pub fn read_run(run: &[u8]) -> RunReading
+    ensures { λ r. ⌜ r ≡ run-reading (now (run .entry)) ⌝ }
+{
+    let free: [u16; 0] = [0; 0];
+    let a = Terms {
+        folds: false,
+        widest: 0,
+        first: 0,
+        each: 0,
+    };
+    let w = whole(run, &free, a);
+    if w.refusal != 0 {
+        return RunReading {
+            refusal: w.refusal,
+            place: w.at,
+            nodes: 0,
+        };
+    }
+    let t = w.tally;
+    RunReading {
+        refusal: 0,
+        place: 0,
+        nodes: t.nodes,
+    }
+}
+
+// The part of a node: the step or group that starts at an offset, with all it holds; empty where the run is refused or no
+// node starts there.
+pub fn part(run: &[u8], at: usize) -> &[u8]
+    ensures { λ r. ⌜ now r ≡ part-of (now (run .entry)) at ⌝ }
+{
+    if read_run(run).refusal != 0 {
+        return &run[0..0];
+    }
+    if !starts_at(run, at) {
+        return &run[0..0];
+    }
+    let end = node_end(run, at);
+    if run.len() < end {
+        return &run[at..];
+    }
+    &run[at..end]
+}
+
+// Whether two siblings are equal, label and children together: whether their parts are.
+pub fn same_node(run: &[u8], a: usize, b: usize) -> bool
+    ensures { λ r. ⌜ (r ≡ true → part-of (now (run .entry)) a ≡ part-of (now (run .entry)) b) × (part-of (now (run .entry)) a ≡ part-of (now (run .entry)) b → r ≡ true) ⌝ }
+{
+    check::same(part(run, a), part(run, b))
+}
+
+// The answer about a fold that was walked.
+fn answer(w: Walk) -> FoldReading
+    ensures { λ r. ⌜ r ≡ fold-answer (outcome w) ⌝ }
+{
+    if w.refusal != 0 {
+        return FoldReading {
+            refusal: w.refusal,
+            place: w.at,
+            nodes: 0,
+            length: 0,
+            cost: 0,
+        };
+    }
+    let t = w.tally;
+    FoldReading {
+        refusal: 0,
+        place: 0,
+        nodes: t.nodes,
+        length: t.size,
+        cost: t.cost,
+    }
+}
+
+// A fold at a width limit, without costs: refusals 1 and 3 to 10, or the nodes and the bytes of the run at cost 0.
+pub fn measure(fold: &[u8], limit: usize) -> FoldReading
+    ensures { λ r. ⌜ r ≡ fold-answer (read (fold-rules limit free) (now (fold .entry))) ⌝ }
+{
+    let free: [u16; 0] = [0; 0];
+    let a = Terms {
+        folds: true,
+        widest: limit,
+        first: 0,
+        each: 0,
+    };
+    answer(whole(fold, &free, a))
+}
+
+// The fold reader: refusals 11, 12, 1 and 3 to 10, or the nodes and the bytes of the run and the fold's cost.
+pub fn read_fold(fold: &[u8], limit: usize, costs: &[u16], first: u16, each: u16) -> FoldReading
+    ensures { λ r. ⌜ r ≡ fold-reading (now (fold .entry)) limit (now (costs .entry)) first each ⌝ }
+{
+    if costs.len() != 256 {
+        return FoldReading {
+            refusal: 11,
+            place: 0,
+            nodes: 0,
+            length: 0,
+            cost: 0,
+        };
+    }
+    if Format::WIDTH < limit {
+        return FoldReading {
+            refusal: 12,
+            place: 0,
+            nodes: 0,
+            length: 0,
+            cost: 0,
+        };
+    }
+    let a = Terms {
+        folds: true,
+        widest: limit,
+        first: wide_cost(first),
+        each: wide_cost(each),
+    };
+    answer(whole(fold, costs, a))
+}

@@ -1,0 +1,728 @@
+-- The bridge: the machine accepts bytes exactly when they are the byte form of a tree of the right shape, with the tree's
+-- counts and its unrolled bytes. And so: one fold is one tree, whatever the prices and the limit.
+use mathlib.Core.Path.{_≡_, refl, sym, ap, _∙_}
+use mathlib.Core.Bool.{Bool, true, false, false≢true}
+use mathlib.Core.List.{List, [], _∷_, _++_, append-assoc, append-nil}
+use mathlib.Core.Logic.{_≢_, _↔_}
+use Prim.Native.Nat.{ℕ, zero, suc, _+_, _-_, _*_, _/_, _%_, _≤_, _<_, max}
+use native.Mathlib.Nat.{zero-add}
+use native.Mathlib.Omega.{arith}
+use lib.ListN.{length, length-append, getD, drop}
+use lib.Seq.{drop-at, getD-append-add}
+use Rattle.format.specs.Limits.{Prices}
+use Rattle.format.specs.Order.{Bytes}
+use Rattle.format.specs.Forest.{Forest, end, step, group, repeat, join, copies, unroll, siblings, nodes, cost, bytes, two-bytes, Plain, Allowed, Repeats, Sound, Coded, group-depth, repeat-depth}
+use Rattle.format.specs.Machine.{Rules, State, Open, a-group, a-repeat, open-groups, open-repeats, times, put-step, enter-group, leave-group, enter-repeat, leave-repeat, repeated, scan, read, start, refused, accepted, refusal}
+use Rattle.format.specs.Shape.{Shaped, tally-of, Reads}
+use Rattle.format.specs.declared.Tally.{Tally}
+use Rattle.format.proofs.Forests.{bytes-join, bytes-copies, siblings-join, nodes-join, cost-join, unroll-join, join-end, sound-join, plain-join}
+use Rattle.format.proofs.Machine.{scan-end, scan-passed, refusal-unknown, scan-step, scan-group, scan-group-end, scan-repeat, scan-repeat-end, step-passes, group-passes, group-end-passes, repeat-passes, repeat-end-passes, step-passed, group-passed, group-end-passed, repeat-passed, repeat-end-passed, Command, step-byte, group-byte, group-end-byte, repeat-byte, repeat-end-byte, other-byte, command, StepPasses, GroupPasses, GroupEndPasses, RepeatPasses, RepeatEndPasses}
+
+-- The state after a sequence is read.
+unfoldable pub after : Rules → Forest → State → State
+after R f st =
+    record {
+      opens = st .opens;
+      tally = record {
+        siblings = st .tally .siblings + siblings f;
+        nodes = st .tally .nodes + nodes f;
+        size = st .tally .size + length (bytes (unroll f));
+        cost = st .tally .cost + cost (R .prices) f;
+      };
+      text = st .text ++ bytes (unroll f);
+    }
+
+-- The state before a group's body, and before a repeat's.
+abbrev pub inside-group : Rules → ℕ → State → State
+inside-group R l st = enter-group (R .prices) l st
+
+abbrev pub inside-repeat : Rules → (count width : ℕ) → State → State
+inside-repeat R h w st = enter-repeat (R .prices) h w st
+
+-- States agree when their parts do.
+same-state : {st st' : State} → st .opens ≡ st' .opens → st .tally .siblings ≡ st' .tally .siblings
+    → st .tally .nodes ≡ st' .tally .nodes → st .tally .size ≡ st' .tally .size → st .tally .cost ≡ st' .tally .cost
+    → st .text ≡ st' .text → st ≡ st'
+same-state o a b c d x =
+    λ i. record { opens = o i; tally = record { siblings = a i; nodes = b i; size = c i; cost = d i }; text = x i }
+
+-- All passes of a repeat, where o was counted before it and n in one pass.
+repeated-all : (h o n : ℕ) → 1 ≤ h → repeated h o (o + n) ≡ o + h * n
+repeated-all zero o n some = absurd (omega arith)
+repeated-all (suc k) o n some =
+    let d : o + n - o ≡ n = omega arith in
+    let e : suc k - 1 ≡ k = omega arith in
+    rw (d, e) (omega arith)
+
+one-pass : (h n : ℕ) → 1 ≤ h → n ≤ h * n
+one-pass zero n some = absurd (omega arith)
+one-pass (suc h) n some = omega arith
+
+length-times : (h : ℕ) (s : List ℕ) → length (times h s) ≡ h * length s
+unfolding times
+length-times zero s = omega arith
+length-times (suc h) s = omega (arith, length-append s (times h s), length-times h s)
+
+times-more : (h : ℕ) (s : List ℕ) → 1 ≤ h → s ++ times (h - 1) s ≡ times h s
+unfolding times
+times-more zero s some = absurd (omega arith)
+times-more (suc k) s some = let e : suc k - 1 ≡ k = omega arith in rw e
+
+-- The text so far is as long as counted: so a repeat finds its body's text.
+abbrev pub Even : State → Type 0
+Even st = length (st .text) ≡ st .tally .size
+
+module _ (R : Rules) (st : State) where
+  pub after-end : after R end st ≡ st
+  unfolding after unroll bytes siblings nodes cost
+  after-end = same-state refl (omega arith) (omega arith) (omega arith) (omega arith) (append-nil (st .text))
+
+  pub after-join : (f g : Forest) → after R g (after R f st) ≡ after R (join f g) st
+  unfolding after
+  after-join f g =
+      let x = ap bytes (unroll-join f g) ∙ bytes-join (unroll f) (unroll g) in
+      same-state refl
+      (omega (arith, siblings-join f g))
+      (omega (arith, nodes-join f g))
+      (omega (arith, ap length x ∙ length-append (bytes (unroll f)) (bytes (unroll g))))
+      (omega (arith, cost-join (R .prices) f g))
+      (append-assoc (st .text) (bytes (unroll f)) (bytes (unroll g)) ∙ ap (λ (y : List ℕ). st .text ++ y) (sym x))
+
+  pub after-step : (l : ℕ) → put-step (R .prices) l st ≡ after R (step l end) st
+  unfolding after put-step unroll bytes siblings nodes cost
+  after-step l = same-state refl refl refl refl (omega arith) refl
+
+  pub after-group : (l : ℕ) (b : Forest)
+      → leave-group ((after R b (inside-group R l st)) .opens) (after R b (inside-group R l st)) ≡ after R (group l b end) st
+  unfolding after leave-group enter-group unroll bytes siblings nodes cost
+  after-group l b =
+      same-state refl (omega arith) (omega arith) (simp length-append (omega arith)) (omega arith) (simp append-assoc)
+
+  pub after-repeat : (h w : ℕ) (b : Forest) → 1 ≤ h → Even st
+      → leave-repeat ((after R b (inside-repeat R h w st)) .opens) (after R b (inside-repeat R h w st))
+      ≡ after R (repeat h w b end) st
+  unfolding after leave-repeat enter-repeat unroll siblings nodes cost
+  after-repeat h w b some even =
+      let x : List ℕ = bytes (unroll b) in
+      let r : bytes (join (copies h (unroll b)) end) ≡ times h x =
+      ap bytes (join-end (copies h (unroll b))) ∙ bytes-copies h (unroll b) in
+      same-state refl
+      (omega arith)
+      (omega (arith, repeated-all h (st .tally .nodes) (nodes b) some))
+      (repeated-all h (st .tally .size) (length x) some ∙ rw (r, length-times))
+      (omega arith)
+      (rw (drop-at (st .text) x (st .tally .size) even, r, append-assoc, times-more h x some))
+
+  module _ (even : Even st) where
+    even-after : (f : Forest) → Even (after R f st)
+    unfolding after
+    even-after f = simp length-append (omega arith)
+
+    even-inside-group : (l : ℕ) → Even (inside-group R l st)
+    unfolding enter-group
+    even-inside-group l = simp length-append (omega arith)
+
+    even-inside-repeat : (h w : ℕ) → Even (inside-repeat R h w st)
+    unfolding enter-repeat
+    even-inside-repeat h w = even
+
+-- Room for a sequence beside what is open and counted.
+pub record Room (R : Rules) (st : State) (f : Forest) : Type 0 where
+  pub groups : open-groups (st .opens) + group-depth f ≤ R .limits .groups
+  pub repeats : open-repeats (st .opens) + repeat-depth f ≤ R .limits .repeats
+  pub total : st .tally .nodes + nodes f ≤ R .limits .nodes
+
+-- A sequence that may be read from a state: of the right shape, with room for it.
+pub record Fits (R : Rules) (st : State) (f : Forest) : Type 0 where
+  pub coded : Coded f
+  pub sound : Sound (record { widest = R .widest }) f
+  pub plain : R .folds ≡ false → Plain f
+  pub room : Room R st f
+
+word-again : (n : ℕ) → n / 256 * 256 + n % 256 ≡ n
+word-again n = omega arith
+
+-- Where a repeat is allowed, folds are read.
+true-fold : (b : Bool) → (b ≡ false → ⊥) → b ≡ true
+true-fold true h = refl
+true-fold false h = absurd (h refl)
+
+-- A first item that fits is passed, and its body and what follows it fit in their turn.
+module _ (R : Rules) (st : State) (l : ℕ) (f : Forest) (z : Fits R st (step l f)) where
+  step-on : (s : List ℕ) → refusal R st 0x10 (l ∷ s) ≡ 0
+  unfolding nodes
+  step-on s = step-passes R st (l ∷ s) (omega arith)
+
+  step-rest : Fits R (after R (step l end) st) f
+  unfolding after group-depth repeat-depth nodes
+  step-rest = record { coded = z .coded .1; sound = z .sound; plain = z .plain; room = omega arith }
+
+module _ (R : Rules) (st : State) (l : ℕ) (b f : Forest) (z : Fits R st (group l b f)) where
+  group-opens : (s : List ℕ) → refusal R st 0x11 (l ∷ s) ≡ 0
+  unfolding nodes group-depth
+  group-opens s = group-passes R st (l ∷ s) (omega arith)
+
+  group-body : Fits R (inside-group R l st) b
+  unfolding enter-group group-depth repeat-depth nodes
+  group-body = record { coded = z .coded .1; sound = z .sound .1; plain = λ e. z .plain e .0; room = omega arith }
+
+  group-closes : (s : List ℕ) → refusal R (after R b (inside-group R l st)) 0x12 s ≡ 0
+  unfolding nodes after enter-group
+  group-closes s =
+      group-end-passes R (after R b (inside-group R l st)) s (omega arith) (record { inner = refl; some = omega arith })
+
+  group-rest : Fits R (after R (group l b end) st) f
+  unfolding after group-depth repeat-depth nodes
+  group-rest = record { coded = z .coded .2; sound = z .sound .2; plain = λ e. z .plain e .1; room = omega arith }
+
+module _ (R : Rules) (st : State) (h w : ℕ) (b f : Forest) (z : Fits R st (repeat h w b f)) where
+  repeat-opens : (s : List ℕ) → refusal R st 0x20 (two-bytes h (two-bytes w s)) ≡ 0
+  unfolding repeat-depth
+  repeat-opens s =
+      repeat-passes R st (two-bytes h (two-bytes w s)) (omega arith)
+      (record {
+        folds = true-fold (R .folds) (z .plain);
+        operand = omega arith;
+        twice = rw (word-again h) (z .sound .0 .twice);
+        narrow = rw (word-again w) (z .sound .0 .within);
+        room = omega arith;
+      })
+
+  repeat-body : Fits R (inside-repeat R h w st) b
+  unfolding enter-repeat group-depth repeat-depth nodes
+  repeat-body =
+      let i : nodes b ≤ h * nodes b = one-pass h (nodes b) (omega arith) in
+      record { coded = z .coded .2; sound = z .sound .1; plain = λ e. absurd (z .plain e); room = omega arith }
+
+  repeat-closes : (s : List ℕ) → refusal R (after R b (inside-repeat R h w st)) 0x21 s ≡ 0
+  unfolding nodes after enter-repeat
+  repeat-closes s =
+      repeat-end-passes R (after R b (inside-repeat R h w st)) s
+      (record {
+        folds = true-fold (R .folds) (z .plain);
+        inner = refl;
+        some = omega arith;
+        true-width = omega arith;
+        total = omega (arith, repeated-all h (st .tally .nodes) (nodes b) (omega arith));
+      })
+
+  repeat-rest : Fits R (after R (repeat h w b end) st) f
+  unfolding after group-depth repeat-depth nodes
+  repeat-rest = record { coded = z .coded .3; sound = z .sound .2; plain = λ e. absurd (z .plain e); room = omega arith }
+
+-- A sequence that fits is passed, whatever follows it.
+module _ (R : Rules) where
+  onward : {p q : ℕ} {st st' : State} (s : List ℕ) → p ≡ q → st ≡ st' → scan R p 0 st s ≡ scan R q 0 st' s
+  onward s e d = cc
+
+  same-operands : (h w : ℕ) (st : State)
+      → inside-repeat R (h / 256 * 256 + h % 256) (w / 256 * 256 + w % 256) st ≡ inside-repeat R h w st
+  same-operands h w st = rw (word-again h, word-again w)
+
+  pub scan-forest : (f : Forest) (p : ℕ) (st : State) (s : List ℕ) → Fits R st f → Even st
+      → scan R p 0 st (bytes f ++ s) ≡ scan R (p + length (bytes f)) 0 (after R f st) s
+  unfolding bytes join
+  scan-forest end p st s z even = onward s (omega arith) (sym (after-end R st))
+  scan-forest (step l f) p st s z even =
+      let st1 : State = after R (step l end) st in
+      let r : List ℕ = bytes f ++ s in
+      scan-step R p st r l (step-on R st l f z r)
+      ∙ onward r refl (after-step R st l)
+      ∙ scan-forest f (p + 2) st1 s (step-rest R st l f z) (even-after R st even (step l end))
+      ∙ onward s (omega arith) (after-join R st (step l end) f)
+  scan-forest (group l b f) p st s z even =
+      let inner : State = after R b (inside-group R l st) in
+      let st1 : State = after R (group l b end) st in
+      let q : ℕ = p + 2 + length (bytes b) in
+      let r : List ℕ = bytes f ++ s in
+      rw append-assoc
+      (scan-group R p st (bytes b ++ 0x12 ∷ r) l (group-opens R st l b f z (bytes b ++ 0x12 ∷ r))
+      ∙ scan-forest b (p + 2) (inside-group R l st) (0x12 ∷ r) (group-body R st l b f z) (even-inside-group R st even l)
+      ∙ scan-group-end R q inner r (group-closes R st l b f z r)
+      ∙ onward r refl (after-group R st l b)
+      ∙ scan-forest f (q + 1) st1 s (group-rest R st l b f z) (even-after R st even (group l b end))
+      ∙ onward s (omega (arith, length-append (bytes b) (0x12 ∷ bytes f))) (after-join R st (group l b end) f))
+  scan-forest (repeat h w b f) p st s z even =
+      let inner : State = after R b (inside-repeat R h w st) in
+      let st1 : State = after R (repeat h w b end) st in
+      let q : ℕ = p + 5 + length (bytes b) in
+      let r : List ℕ = bytes f ++ s in
+      let o : List ℕ = bytes b ++ 0x21 ∷ r in
+      rw append-assoc
+      (scan-repeat R p st o (h / 256) (h % 256) (w / 256) (w % 256) (repeat-opens R st h w b f z o)
+      ∙ onward o refl (same-operands h w st)
+      ∙ scan-forest b (p + 5) (inside-repeat R h w st) (0x21 ∷ r) (repeat-body R st h w b f z) (even-inside-repeat R st even h w)
+      ∙ scan-repeat-end R q inner r (repeat-closes R st h w b f z r)
+      ∙ onward r refl (after-repeat R st h w b (omega arith) even)
+      ∙ scan-forest f (q + 1) st1 s (repeat-rest R st h w b f z) (even-after R st even (repeat h w b end))
+      ∙ onward s (omega (arith, length-append (bytes b) (0x21 ∷ bytes f))) (after-join R st (repeat h w b end) f))
+
+-- The machine accepts every tree of the right shape, with the tree's counts and its unrolled bytes.
+pub accepts : (R : Rules) (f : Forest) → Shaped R f
+    → read R (bytes f) ≡ accepted (tally-of (R .prices) f) (bytes (unroll f))
+unfolding read tally-of after
+accepts R f z =
+    let fits : Fits R start f = record { coded = z .coded; sound = z .sound; plain = z .plain; room = omega arith } in
+    rw (← append-nil (bytes f))
+    (scan-forest R f 0 start [] fits refl ∙ scan-end R (0 + length (bytes f)) (after R f start) ∙ simp zero-add)
+
+-- Back: accepted bytes begin with a sequence that fits, up to where its reading stops: the end, or a close.
+data Stops : List ℕ → Type 0 where
+  at-nothing : Stops []
+  at-group-end : {s : List ℕ} → Stops (0x12 ∷ s)
+  at-repeat-end : {s : List ℕ} → Stops (0x21 ∷ s)
+
+record Begins (R : Rules) (st : State) (s : List ℕ) : Type 0 where
+  tree : Forest
+  rest : List ℕ
+  form : bytes tree ++ rest ≡ s
+  fits : Fits R st tree
+  stops : Stops rest
+
+coded-join : (f g : Forest) → Coded f → Coded g → Coded (join f g)
+unfolding join
+coded-join end g p q = q
+coded-join (step l f) g p q = (p .0, coded-join f g (p .1) q)
+coded-join (group l b f) g p q = (p .0, p .1, coded-join f g (p .2) q)
+coded-join (repeat h w b f) g p q = (p .0, p .1, p .2, coded-join f g (p .3) q)
+
+group-depth-join : (f g : Forest) → group-depth (join f g) ≡ max (group-depth f) (group-depth g)
+unfolding join group-depth
+group-depth-join end g = omega arith
+group-depth-join (step l f) g = group-depth-join f g
+group-depth-join (group l b f) g = omega (arith, group-depth-join f g)
+group-depth-join (repeat h w b f) g = omega (arith, group-depth-join f g)
+
+repeat-depth-join : (f g : Forest) → repeat-depth (join f g) ≡ max (repeat-depth f) (repeat-depth g)
+unfolding join repeat-depth
+repeat-depth-join end g = omega arith
+repeat-depth-join (step l f) g = repeat-depth-join f g
+repeat-depth-join (group l b f) g = omega (arith, repeat-depth-join f g)
+repeat-depth-join (repeat h w b f) g = omega (arith, repeat-depth-join f g)
+
+fits-join : (R : Rules) (st : State) (f g : Forest) → Fits R st f → Fits R (after R f st) g → Fits R st (join f g)
+unfolding after
+fits-join R st f g y z =
+    record {
+      coded = coded-join f g (y .coded) (z .coded);
+      sound = sound-join (record { widest = R .widest }) f g (y .sound) (z .sound);
+      plain = λ e. plain-join f g (y .plain e) (z .plain e);
+      room = omega (arith, group-depth-join f g, repeat-depth-join f g, nodes-join f g);
+    }
+
+room-after : (R : Rules) (st : State) (f : Forest) → Room R st f → Room R (after R f st) end
+unfolding after nodes group-depth repeat-depth
+room-after R st f z = omega arith
+
+-- What a passed command leaves room for, and what its whole item then fits.
+module _ (R : Rules) (st : State) (room : Room R st end) where
+  step-fits : (l : ℕ) (s : List ℕ) → l < 256 → StepPasses R st s → Fits R st (step l end)
+  unfolding nodes group-depth repeat-depth
+  step-fits l s small z = record { coded = (small, tt); sound = tt; plain = λ e. tt; room = omega arith }
+
+  group-room : (l : ℕ) (s : List ℕ) → GroupPasses R st s → Room R (inside-group R l st) end
+  unfolding enter-group group-depth repeat-depth nodes
+  group-room l s z = omega arith
+
+  group-fits : (l : ℕ) (b : Forest) (s : List ℕ) → l < 256 → GroupPasses R st s → Fits R (inside-group R l st) b
+      → GroupEndPasses (after R b (inside-group R l st)) → Fits R st (group l b end)
+  unfolding nodes group-depth repeat-depth enter-group after
+  group-fits l b s small z y a =
+      record {
+        coded = (small, y .coded, tt);
+        sound = (omega arith, y .sound, tt);
+        plain = λ e. (y .plain e, tt);
+        room = omega arith;
+      }
+
+  repeat-room : (h w : ℕ) (s : List ℕ) → RepeatPasses R st s → Room R (inside-repeat R h w st) end
+  unfolding enter-repeat group-depth repeat-depth nodes
+  repeat-room h w s z = omega arith
+
+  repeat-fits : (h w : ℕ) (b : Forest) (s : List ℕ) → h < 65536 → w < 65536 → 2 ≤ h → w ≤ R .widest → RepeatPasses R st s
+      → Fits R (inside-repeat R h w st) b → RepeatEndPasses R (after R b (inside-repeat R h w st)) → Fits R st (repeat h w b end)
+  unfolding nodes group-depth repeat-depth enter-repeat after
+  repeat-fits h w b s hs ws twice narrow z y a =
+      let all : repeated h (st .tally .nodes) (st .tally .nodes + nodes b) ≡ st .tally .nodes + h * nodes b =
+      repeated-all h (st .tally .nodes) (nodes b) (omega arith) in
+      record {
+        coded = (hs, ws, y .coded, tt);
+        sound = (record { twice = twice; true-width = omega arith; within = narrow; some = omega arith }, y .sound, tt);
+        plain = λ e. absurd (false≢true (sym e ∙ a .folds));
+        room = omega arith;
+      }
+
+-- In an accepted reading, what is open at a stop is shut there by its own close; where nothing is open the stop is the end.
+record Shut (close : ℕ) (Passes : Type 0) (rest : List ℕ) : Type 0 where
+  past : List ℕ
+  form : close ∷ past ≡ rest
+  passes : Passes
+
+module _ (R : Rules) (t : Tally) (x : List ℕ) where
+  -- The reading from here on is accepted.
+  abbrev Accepts : ℕ → State → List ℕ → Type 0
+  Accepts p st s = scan R p 0 st s ≡ accepted t x
+
+  module _ (p : ℕ) (st : State) (room : Room R st end) where
+    left-open : (o : Open) (os : List Open) → st .opens ≡ o ∷ os → Accepts p st [] → ⊥
+    left-open o os top e =
+        let f : refused 3 p ≡ accepted t x = rw top at (sym (scan-end R p st) ∙ e) in
+        let z : _≡_ {A = ℕ} 0 1 = cc in
+        omega arith
+
+    group-end-there : (s : List ℕ) → Accepts p st (0x12 ∷ s) → GroupEndPasses st
+    group-end-there s e = group-end-passed R st s (omega arith) (scan-passed R p st 0x12 s e)
+
+    repeat-end-there : (s : List ℕ) → Accepts p st (0x21 ∷ s) → RepeatEndPasses R st
+    repeat-end-there s e = repeat-end-passed R st s (scan-passed R p st 0x21 s e)
+
+    shuts-group : {rest : List ℕ} (o : Tally) (os : List Open) → st .opens ≡ a-group o ∷ os → Stops rest → Accepts p st rest
+        → Shut 0x12 (GroupEndPasses st) rest
+    shuts-group o os top at-nothing e = absurd (left-open (a-group o) os top e)
+    shuts-group o os top (at-group-end {s}) e = record { past = s; form = refl; passes = group-end-there s e }
+    shuts-group o os top (at-repeat-end {s}) e = absurd (false≢true (rw top at (repeat-end-there s e .inner)))
+
+    shuts-repeat : {rest : List ℕ} (h w : ℕ) (o : Tally) (os : List Open) → st .opens ≡ a-repeat h w o ∷ os → Stops rest
+        → Accepts p st rest → Shut 0x21 (RepeatEndPasses R st) rest
+    shuts-repeat h w o os top at-nothing e = absurd (left-open (a-repeat h w o) os top e)
+    shuts-repeat h w o os top (at-group-end {s}) e = absurd (false≢true (rw top at (group-end-there s e .inner)))
+    shuts-repeat h w o os top (at-repeat-end {s}) e = record { past = s; form = refl; passes = repeat-end-there s e }
+
+    shuts-nothing : {rest : List ℕ} → st .opens ≡ [] → Stops rest → Accepts p st rest → rest ≡ []
+    shuts-nothing top at-nothing e = refl
+    shuts-nothing top (at-group-end {s}) e = absurd (false≢true (rw top at (group-end-there s e .inner)))
+    shuts-nothing top (at-repeat-end {s}) e = absurd (false≢true (rw top at (repeat-end-there s e .inner)))
+
+  -- Where the reading of what begins stops.
+  stopped : (p : ℕ) (st : State) (s : List ℕ) (q : Begins R st s) → Even st → Accepts p st s
+      → Accepts (p + length (bytes (q .tree))) (after R (q .tree) st) (q .rest)
+  stopped p st s q even e = sym (scan-forest R (q .tree) p st (q .rest) (q .fits) even) ∙ rw (q .form) e
+
+  -- No item begins at a stop.
+  none-read : (st : State) → Room R st end → (s : List ℕ) → Stops s → Begins R st s
+  unfolding bytes
+  none-read st room s stops =
+      record {
+        tree = end;
+        rest = s;
+        form = refl;
+        fits = record { coded = tt; sound = tt; plain = λ e. tt; room = room };
+        stops = stops;
+      }
+
+  -- What is read of at most n bytes, from any state with room.
+  abbrev Parses : ℕ → Type 0
+  Parses n =
+      (p : ℕ) (st : State) (s : List ℕ) → length s ≤ n → Bytes s → Room R st end → Even st → Accepts p st s → Begins R st s
+
+  module _ (n : ℕ) (ih : Parses n) (p : ℕ) (st : State) (room : Room R st end) (even : Even st) where
+    -- Past a first item that fits.
+    past : (f : Forest) (s whole : List ℕ) → bytes f ++ s ≡ whole → 0 < length (bytes f) → length whole ≤ suc n
+        → Bytes whole → Fits R st f → Accepts p st whole → Begins R st whole
+    past f s whole form some short small fits e =
+        let shorter : length s ≤ n = omega (arith, simp length-append at (ap length form)) in
+        let small' : Bytes s = λ i. rw (← getD-append-add (bytes f) s i 0, form) (small (length (bytes f) + i)) in
+        let e' : Accepts p st (bytes f ++ s) = rw form e in
+        joined
+        (ih (p + length (bytes f)) (after R f st) s shorter small' (room-after R st f (fits .room)) (even-after R st even f)
+        (sym (scan-forest R f p st s fits even) ∙ e'))
+      where
+        joined : Begins R (after R f st) s → Begins R st whole
+        joined q =
+            record {
+              tree = join f (q .tree);
+              rest = q .rest;
+              form = rw (bytes-join f (q .tree), append-assoc, q .form) form;
+              fits = fits-join R st f (q .tree) fits (q .fits);
+              stops = q .stops;
+            }
+
+    parse-step : (s : List ℕ) → length s ≤ n → Bytes (0x10 ∷ s) → StepPasses R st s → Accepts p st (0x10 ∷ s)
+        → Begins R st (0x10 ∷ s)
+    unfolding bytes
+    parse-step [] short small z e = absurd (omega arith)
+    parse-step (l ∷ s) short small z e =
+        past (step l end) s (0x10 ∷ l ∷ s) refl (omega arith) (omega arith) small
+        (step-fits R st room l (l ∷ s) (small 1) z)
+        e
+
+    -- A group: its body is read, its close follows, and then the rest.
+    module _ (l : ℕ) (s : List ℕ) (short : length (l ∷ s) ≤ n) (small : Bytes (0x11 ∷ l ∷ s))
+        (z : GroupPasses R st (l ∷ s)) (e : Accepts p st (0x11 ∷ l ∷ s)) where
+      group-shut : (q : Begins R (inside-group R l st) s)
+          → Shut 0x12 (GroupEndPasses (after R (q .tree) (inside-group R l st))) (q .rest) → Begins R st (0x11 ∷ l ∷ s)
+      unfolding bytes
+      group-shut q y =
+          past (group l (q .tree) end) (y .past) (0x11 ∷ l ∷ s)
+          (rw append-assoc (cc (y .form, q .form)))
+          (omega arith) (omega arith) small
+          (group-fits R st room l (q .tree) (l ∷ s) (small 1) z (q .fits) (y .passes))
+          e
+
+      in-body : Accepts (p + 2) (inside-group R l st) s
+      in-body = sym (scan-group R p st s l (group-passes R st (l ∷ s) z)) ∙ e
+
+      group-read : Begins R (inside-group R l st) s → Begins R st (0x11 ∷ l ∷ s)
+      unfolding after enter-group
+      group-read q =
+          group-shut q
+          (shuts-group (p + 2 + length (bytes (q .tree))) (after R (q .tree) (inside-group R l st))
+          (room-after R (inside-group R l st) (q .tree) (q .fits .room)) (st .tally) (st .opens) refl (q .stops)
+          (stopped (p + 2) (inside-group R l st) s q (even-inside-group R st even l) in-body))
+
+    parse-group : (s : List ℕ) → length s ≤ n → Bytes (0x11 ∷ s) → GroupPasses R st s → Accepts p st (0x11 ∷ s)
+        → Begins R st (0x11 ∷ s)
+    parse-group [] short small z e = absurd (omega arith)
+    parse-group (l ∷ s) short small z e =
+        group-read l s short small z e
+        (ih (p + 2) (inside-group R l st) s (omega arith) (λ i. small (suc (suc i))) (group-room R st room l (l ∷ s) z)
+        (even-inside-group R st even l)
+        (in-body l s short small z e))
+
+    -- A repeat: the same, and its operands are its bytes again.
+    module _ (a b c d : ℕ) (s : List ℕ) (short : length (a ∷ b ∷ c ∷ d ∷ s) ≤ n) (small : Bytes (0x20 ∷ a ∷ b ∷ c ∷ d ∷ s))
+        (z : RepeatPasses R st (a ∷ b ∷ c ∷ d ∷ s)) (e : Accepts p st (0x20 ∷ a ∷ b ∷ c ∷ d ∷ s)) where
+      repeat-shut : (h w : ℕ) → h ≡ a * 256 + b → w ≡ c * 256 + d → (q : Begins R (inside-repeat R h w st) s)
+          → Shut 0x21 (RepeatEndPasses R (after R (q .tree) (inside-repeat R h w st))) (q .rest)
+          → Begins R st (0x20 ∷ a ∷ b ∷ c ∷ d ∷ s)
+      unfolding bytes
+      repeat-shut h w hs ws q y =
+          let a1 : a < 256 = small 1 in
+          let b1 : b < 256 = small 2 in
+          let c1 : c < 256 = small 3 in
+          let d1 : d < 256 = small 4 in
+          let h1 : h / 256 ≡ a = omega arith in
+          let h2 : h % 256 ≡ b = omega arith in
+          let w1 : w / 256 ≡ c = omega arith in
+          let w2 : w % 256 ≡ d = omega arith in
+          past (repeat h w (q .tree) end) (y .past) (0x20 ∷ a ∷ b ∷ c ∷ d ∷ s)
+          (rw append-assoc (cc (y .form, q .form)))
+          (omega arith) (omega arith) small
+          (repeat-fits R st room h w (q .tree) (a ∷ b ∷ c ∷ d ∷ s) (omega arith) (omega arith) (rw hs (z .twice))
+          (rw ws (z .narrow)) z (q .fits) (y .passes))
+          e
+
+      abbrev in-pass : State
+      in-pass = inside-repeat R (a * 256 + b) (c * 256 + d) st
+
+      in-one-pass : Accepts (p + 5) in-pass s
+      in-one-pass = sym (scan-repeat R p st s a b c d (repeat-passes R st (a ∷ b ∷ c ∷ d ∷ s) (omega arith) z)) ∙ e
+
+      repeat-read : Begins R in-pass s → Begins R st (0x20 ∷ a ∷ b ∷ c ∷ d ∷ s)
+      unfolding after enter-repeat
+      repeat-read q =
+          repeat-shut (a * 256 + b) (c * 256 + d) refl refl q
+          (shuts-repeat (p + 5 + length (bytes (q .tree))) (after R (q .tree) in-pass)
+          (room-after R in-pass (q .tree) (q .fits .room)) (a * 256 + b) (c * 256 + d) (st .tally) (st .opens) refl (q .stops)
+          (stopped (p + 5) in-pass s q (even-inside-repeat R st even (a * 256 + b) (c * 256 + d)) in-one-pass))
+
+    parse-repeat : (s : List ℕ) → length s ≤ n → Bytes (0x20 ∷ s) → RepeatPasses R st s → Accepts p st (0x20 ∷ s)
+        → Begins R st (0x20 ∷ s)
+    parse-repeat [] short small z e = absurd (omega arith)
+    parse-repeat (a ∷ []) short small z e = absurd (omega arith)
+    parse-repeat (a ∷ b ∷ []) short small z e = absurd (omega arith)
+    parse-repeat (a ∷ b ∷ c ∷ []) short small z e = absurd (omega arith)
+    parse-repeat (a ∷ b ∷ c ∷ d ∷ s) short small z e =
+        repeat-read a b c d s short small z e
+        (ih (p + 5) (inside-repeat R (a * 256 + b) (c * 256 + d) st) s (omega arith) (λ i. small (suc (suc (suc (suc (suc i))))))
+        (repeat-room R st room (a * 256 + b) (c * 256 + d) (a ∷ b ∷ c ∷ d ∷ s) z)
+        (even-inside-repeat R st even (a * 256 + b) (c * 256 + d))
+        (in-one-pass a b c d s short small z e))
+
+    parse-command : {c : ℕ} (s : List ℕ) → Command c → length s ≤ n → Bytes (c ∷ s) → refusal R st c s ≡ 0
+        → Accepts p st (c ∷ s) → Begins R st (c ∷ s)
+    parse-command s step-byte short small pass e = parse-step s short small (step-passed R st s pass) e
+    parse-command s group-byte short small pass e = parse-group s short small (group-passed R st s pass) e
+    parse-command s group-end-byte short small pass e = none-read st room (0x12 ∷ s) at-group-end
+    parse-command s repeat-byte short small pass e =
+        parse-repeat s short small (repeat-passed R st s (omega arith) pass) e
+    parse-command s repeat-end-byte short small pass e = none-read st room (0x21 ∷ s) at-repeat-end
+    parse-command s (other-byte {c} h) short small pass e = absurd (omega (arith, sym (refusal-unknown R st s c h) ∙ pass))
+
+  grow : (n : ℕ) → Parses n → Parses (suc n)
+  grow n ih p st [] short small room even e = none-read st room [] at-nothing
+  grow n ih p st (c ∷ s) short small room even e =
+      parse-command n ih p st room even s (command c) (omega arith) small (scan-passed R p st c s e) e
+
+  parse : (n : ℕ) → Parses n
+  parse zero p st [] short small room even e = none-read st room [] at-nothing
+  parse zero p st (c ∷ s) short small room even e = absurd (omega arith)
+  parse (suc n) p st s short small room even e = grow n (λ p st s. parse n p st s) p st s short small room even e
+
+  -- What begins a whole accepted input is all of it.
+  whole-read : (s : List ℕ) → Accepts 0 start s → Begins R start s → Reads R s t x
+  unfolding read after
+  whole-read s e q =
+      let none : q .rest ≡ [] =
+      shuts-nothing (0 + length (bytes (q .tree))) (after R (q .tree) start) (room-after R start (q .tree) (q .fits .room))
+      refl (q .stops) (stopped 0 start s q refl e) in
+      let form : bytes (q .tree) ≡ s = sym (append-nil (bytes (q .tree))) ∙ rw none at (q .form) in
+      let z = q .fits in
+      let shape : Shaped R (q .tree) =
+      record {
+        coded = z .coded;
+        sound = z .sound;
+        plain = z .plain;
+        groups = omega arith;
+        repeats = omega arith;
+        total = omega arith;
+      } in
+      let a = accepts R (q .tree) shape in
+      record { tree = q .tree; form = form; shape = shape; counts = cc; text = cc }
+
+-- What the machine accepts is a tree's byte form: one of the right shape, with these counts and this text.
+pub parses : (R : Rules) (s : List ℕ) → Bytes s → (t : Tally) (x : List ℕ) → read R s ≡ accepted t x → Reads R s t x
+unfolding read nodes group-depth repeat-depth
+parses R s small t x e =
+    whole-read R t x s e (parse R t x (length s) 0 start s (omega arith) small (omega arith) refl e)
+
+-- What follows a sequence does not begin with an item.
+abbrev pub NoItem : List ℕ → Type 0
+NoItem s = (getD s 0 0 ≢ 0x10) × (getD s 0 0 ≢ 0x11) × (getD s 0 0 ≢ 0x20)
+
+same-word : (m n : ℕ) → m / 256 ≡ n / 256 → m % 256 ≡ n % 256 → m ≡ n
+same-word m n high low = omega arith
+
+byte : {r s : List ℕ} (n : ℕ) → r ≡ s → getD r n 0 ≡ getD s n 0
+byte n e = cc
+
+behind : {r s : List ℕ} (n : ℕ) → r ≡ s → drop n r ≡ drop n s
+behind n e = cc
+
+regrouped : (c : ℕ) (b d f g r s : List ℕ) → (b ++ c ∷ f) ++ r ≡ (d ++ c ∷ g) ++ s
+    → b ++ (c ∷ (f ++ r)) ≡ d ++ (c ∷ (g ++ s))
+regrouped c b d f g r s e = sym (append-assoc b (c ∷ f) r) ∙ e ∙ append-assoc d (c ∷ g) s
+
+-- A byte form ends where the next item would not begin, so it is read in one way.
+pub bytes-apart : (f g : Forest) (r s : List ℕ) → NoItem r → NoItem s → bytes f ++ r ≡ bytes g ++ s → (f ≡ g) × (r ≡ s)
+unfolding bytes
+bytes-apart end end r s m n e = (refl, e)
+bytes-apart end (step l g) r s m n e = absurd (omega (arith, byte 0 e))
+bytes-apart end (group l b g) r s m n e = absurd (omega (arith, byte 0 e))
+bytes-apart end (repeat h w b g) r s m n e = absurd (omega (arith, byte 0 e))
+bytes-apart (step l f) end r s m n e = absurd (omega (arith, byte 0 e))
+bytes-apart (group l b f) end r s m n e = absurd (omega (arith, byte 0 e))
+bytes-apart (repeat h w b f) end r s m n e = absurd (omega (arith, byte 0 e))
+bytes-apart (step l f) (step k g) r s m n e =
+    let j = bytes-apart f g r s m n (behind 2 e) in
+    (cc (byte 1 e, j .0), j .1)
+bytes-apart (group l b f) (group k d g) r s m n e =
+    let i =
+    bytes-apart b d (0x12 ∷ (bytes f ++ r)) (0x12 ∷ (bytes g ++ s)) (omega arith) (omega arith)
+    (regrouped 0x12 (bytes b) (bytes d) (bytes f) (bytes g) r s (behind 2 e)) in
+    let j = bytes-apart f g r s m n (behind 1 (i .1)) in
+    (cc (byte 1 e, i .0, j .0), j .1)
+bytes-apart (repeat h w b f) (repeat k v d g) r s m n e =
+    let i =
+    bytes-apart b d (0x21 ∷ (bytes f ++ r)) (0x21 ∷ (bytes g ++ s)) (omega arith) (omega arith)
+    (regrouped 0x21 (bytes b) (bytes d) (bytes f) (bytes g) r s (behind 5 e)) in
+    let j = bytes-apart f g r s m n (behind 1 (i .1)) in
+    (cc (same-word h k (byte 1 e) (byte 2 e), same-word w v (byte 3 e) (byte 4 e), i .0, j .0), j .1)
+bytes-apart (step l f) (group k d g) r s m n e = absurd (omega (arith, byte 0 e))
+bytes-apart (step l f) (repeat k v d g) r s m n e = absurd (omega (arith, byte 0 e))
+bytes-apart (group l b f) (step k g) r s m n e = absurd (omega (arith, byte 0 e))
+bytes-apart (group l b f) (repeat k v d g) r s m n e = absurd (omega (arith, byte 0 e))
+bytes-apart (repeat h w b f) (step k g) r s m n e = absurd (omega (arith, byte 0 e))
+bytes-apart (repeat h w b f) (group k d g) r s m n e = absurd (omega (arith, byte 0 e))
+
+-- One fold, one tree.
+pub bytes-injective : (f g : Forest) → bytes f ≡ bytes g → f ≡ g
+bytes-injective f g e =
+    bytes-apart f g [] [] (omega arith) (omega arith) (append-nil (bytes f) ∙ e ∙ sym (append-nil (bytes g))) .0
+
+-- Bytes read as one tree only, whatever the rules.
+pub reads-once : {R S : Rules} {s : List ℕ} {t u : Tally} {x y : List ℕ} (a : Reads R s t x) (b : Reads S s u y)
+    → a .tree ≡ b .tree
+reads-once a b = bytes-injective (a .tree) (b .tree) (a .form ∙ sym (b .form))
+
+-- Bytes that read as a tree are accepted: with `parses`, the machine accepts exactly those.
+pub reads-accepted : {R : Rules} {s : List ℕ} {t : Tally} {x : List ℕ} → Reads R s t x → read R s ≡ accepted t x
+reads-accepted {R} {s} {t} {x} a = cc (accepts R (a .tree) (a .shape), a .form, a .counts, a .text)
+
+-- The same rules with other prices; with another width limit.
+abbrev pub at-prices : Rules → Prices → Rules
+at-prices R Q = record { limits = R .limits; folds = R .folds; widest = R .widest; prices = Q }
+
+abbrev pub at-limit : Rules → ℕ → Rules
+at-limit R k = record { limits = R .limits; folds = R .folds; widest = k; prices = R .prices }
+
+-- Neither acceptance nor the text depends on the prices.
+pub repriced : {R : Rules} {s : List ℕ} {t : Tally} {x : List ℕ} (Q : Prices) (a : Reads R s t x)
+    → Reads (at-prices R Q) s (tally-of Q (a .tree)) x
+repriced Q a =
+    let z = a .shape in
+    record {
+      tree = a .tree;
+      form = a .form;
+      shape = record {
+        coded = z .coded;
+        sound = z .sound;
+        plain = z .plain;
+        groups = z .groups;
+        repeats = z .repeats;
+        total = z .total;
+      };
+      counts = refl;
+      text = a .text;
+    }
+
+pub same-acceptance : (R : Rules) (Q : Prices) (s : List ℕ) → Bytes s → (t : Tally) (x : List ℕ) → read R s ≡ accepted t x
+    → (a : Reads R s t x) × (read (at-prices R Q) s ≡ accepted (tally-of Q (a .tree)) x)
+same-acceptance R Q s small t x e =
+    let a = parses R s small t x e in
+    (a, reads-accepted (repriced Q a))
+
+-- The widest width operand of a fold.
+unfoldable pub widest-of : Forest → ℕ
+widest-of end = 0
+widest-of (step l f) = widest-of f
+widest-of (group l b f) = max (widest-of b) (widest-of f)
+widest-of (repeat h w b f) = max w (max (widest-of b) (widest-of f))
+
+-- Sound at a limit: no width is past it; and at any limit that no width is past.
+pub sound-widest : (A : Allowed) (f : Forest) → Sound A f → widest-of f ≤ A .widest
+unfolding widest-of
+sound-widest A end z = omega arith
+sound-widest A (step l f) z = sound-widest A f z
+sound-widest A (group l b f) z = omega (arith, sound-widest A b (z .1), sound-widest A f (z .2))
+sound-widest A (repeat h w b f) z = omega (arith, sound-widest A b (z .1), sound-widest A f (z .2))
+
+pub sound-within : (A B : Allowed) (f : Forest) → widest-of f ≤ B .widest → Sound A f → Sound B f
+unfolding widest-of
+sound-within A B end n z = tt
+sound-within A B (step l f) n z = sound-within A B f n z
+sound-within A B (group l b f) n z = (z .0, sound-within A B b (omega arith) (z .1), sound-within A B f (omega arith) (z .2))
+sound-within A B (repeat h w b f) n z =
+    let r = z .0 in
+    let here : Repeats B h w b = record { twice = r .twice; true-width = r .true-width; within = omega arith; some = r .some } in
+    (here, sound-within A B b (omega arith) (z .1), sound-within A B f (omega arith) (z .2))
+
+abbrev relimited : {R : Rules} {s : List ℕ} {t : Tally} {x : List ℕ} (k : ℕ) (a : Reads R s t x) → widest-of (a .tree) ≤ k
+    → Reads (at-limit R k) s t x
+relimited {R} k a w =
+    let z = a .shape in
+    record {
+      tree = a .tree;
+      form = a .form;
+      shape = record {
+        coded = z .coded;
+        sound = sound-within (record { widest = R .widest }) (record { widest = k }) (a .tree) w (z .sound);
+        plain = z .plain;
+        groups = z .groups;
+        repeats = z .repeats;
+        total = z .total;
+      };
+      counts = a .counts;
+      text = a .text;
+    }
+
+-- Accepted at a limit means accepted at a wider one, as a tree with no width past the limit.
+pub limit-law : (R : Rules) (k : ℕ) → k ≤ R .widest → (s : List ℕ) → Bytes s → (t : Tally) (x : List ℕ)
+    → (read (at-limit R k) s ≡ accepted t x) ↔ ((a : Reads R s t x) × (widest-of (a .tree) ≤ k))
+limit-law R k narrow s small t x =
+    (λ e. down (parses (at-limit R k) s small t x e), λ y. reads-accepted (relimited k (y .0) (y .1)))
+  where
+    down : Reads (at-limit R k) s t x → (a : Reads R s t x) × (widest-of (a .tree) ≤ k)
+    down a =
+        let w : widest-of (a .tree) ≤ k = sound-widest (record { widest = k }) (a .tree) (a .shape .sound) in
+        (relimited (R .widest) a (omega arith), w)

@@ -1,0 +1,134 @@
+-- What a refusal means: the first command that cannot be passed, refused by the first row of the table that applies to it,
+-- or something left open at the end.
+use mathlib.Core.Path.{_≡_, refl, sym, _∙_}
+use mathlib.Core.Bool.{true, false}
+use mathlib.Core.List.{List, [], _∷_, _++_}
+use mathlib.Core.Logic.{_≢_, _↔_}
+use Prim.Native.Nat.{ℕ, zero, suc, _+_, _≤_, _<_}
+use native.Mathlib.Decide.{decLe}
+use native.Mathlib.Omega.{arith}
+use lib.ListN.{length, getD, drop, length-drop}
+use lib.Seq.{drop-cons, drop-drop, drop-length}
+use Rattle.format.specs.Machine.{Rules, State, Open, Row, _when_, first-of, rows, refusal, scan, read, start, advance, operands, place-of, at-end, refused, accepted}
+use Rattle.format.proofs.Machine.{None, scan-end, scan-past, scan-refuse, operands-there}
+
+-- The first row that applies is this one.
+pub record First (rs : List Row) (n : ℕ) : Type 0 where
+  pub above : List Row
+  pub below : List Row
+  pub split : rs ≡ above ++ n when true ∷ below
+  pub none-above : None above
+
+-- The commands before offset p are all passed, and st is the state at p.
+pub data Reached (R : Rules) (s : List ℕ) : ℕ → State → Type 0 where
+  at-start : Reached R s 0 start
+  passed : {p : ℕ} {st : State} → Reached R s p st → p < length s → refusal R st (getD s p 0) (drop (suc p) s) ≡ 0
+      → Reached R s (suc p + operands (getD s p 0)) (advance (R .prices) (getD s p 0) (drop (suc p) s) st)
+
+-- Why bytes are refused with number n at place e.
+pub data Because (R : Rules) (s : List ℕ) (n e : ℕ) : Type 0 where
+  at-command : (p : ℕ) (st : State) → Reached R s p st → p < length s → refusal R st (getD s p 0) (drop (suc p) s) ≡ n
+      → n ≢ 0 → e ≡ place-of n p (length s) → Because R s n e
+  left-open : (st : State) → Reached R s (length s) st → 0 < length (st .opens) → n ≡ 3 → e ≡ length s → Because R s n e
+
+first-found : (rs : List Row) (n : ℕ) → n ≢ 0 → first-of rs ≡ n → First rs n
+first-found [] n some e = absurd (some (sym e))
+first-found (m when true ∷ rs) n some e = record { above = []; below = rs; split = rw e; none-above = tt }
+first-found (m when false ∷ rs) n some e =
+    let f = first-found rs n some e in
+    record { above = m when false ∷ f .above; below = f .below; split = cc (f .split); none-above = (refl, f .none-above) }
+
+found-first : (rs : List Row) (n : ℕ) → First rs n → first-of rs ≡ n
+found-first rs n f = rw (f .split) (go (f .above) (f .none-above))
+  where
+    go : (above : List Row) → None above → first-of (above ++ n when true ∷ f .below) ≡ n
+    go [] z = refl
+    go (m when b ∷ above) z = rw (z .0) (go above (z .1))
+
+-- Of rows, the first that applies answers.
+pub first-exactly : (rs : List Row) (n : ℕ) → n ≢ 0 → (first-of rs ≡ n) ↔ First rs n
+first-exactly rs n some = (first-found rs n some, found-first rs n)
+
+-- A command is refused by the first row of the table that applies to it.
+pub refusal-exactly : (R : Rules) (st : State) (c : ℕ) (rest : List ℕ) (n : ℕ) → n ≢ 0
+    → (refusal R st c rest ≡ n) ↔ First (rows R st c rest) n
+unfolding refusal
+refusal-exactly R st c rest n some = first-exactly (rows R st c rest) n some
+
+open-end : (p : ℕ) (os : List Open) (st : State) → 0 < length os → at-end p os st ≡ refused 3 p
+open-end p [] st some = absurd (omega arith)
+open-end p (o ∷ os) st some = refl
+
+module _ (R : Rules) (s : List ℕ) where
+  -- Where a command stands, the bytes from it on are it and what follows.
+  at-offset : (p : ℕ) (st : State) → p < length s → scan R p 0 st (drop p s) ≡ scan R p 0 st (getD s p 0 ∷ drop (suc p) s)
+  at-offset p st lt = rw (drop-cons s p 0 lt)
+
+  -- The reading goes on from every point that is reached.
+  reached-read : {p : ℕ} {st : State} → Reached R s p st → (p ≤ length s) × (read R s ≡ scan R p 0 st (drop p s))
+  unfolding read
+  reached-read at-start = (omega arith, refl)
+  reached-read (passed {p} {st} r lt e) =
+      let i = reached-read r in
+      let c : ℕ = getD s p 0 in (
+        omega (arith, operands-there R st (drop (suc p) s) c e, length-drop (suc p) s),
+        i .1 ∙ at-offset p st lt ∙ scan-past R p st c (drop (suc p) s) e ∙ rw drop-drop,
+      )
+
+  place : (p : ℕ) → p < length s → p + suc (length (drop (suc p) s)) ≡ length s
+  place p lt = omega (arith, length-drop (suc p) s)
+
+  at-last : {st : State} → Reached R s (length s) st → read R s ≡ at-end (length s) (st .opens) st
+  at-last {st} r = reached-read r .1 ∙ rw drop-length (scan-end R (length s) st)
+
+  because-refused : (n e : ℕ) → Because R s n e → read R s ≡ refused n e
+  because-refused n e (at-command p st r lt f some w) =
+      reached-read r .1
+      ∙ at-offset p st lt
+      ∙ scan-refuse R p st (getD s p 0) (drop (suc p) s) n some f
+      ∙ rw (place p lt, w)
+  because-refused n e (left-open st r some m w) = at-last r ∙ open-end (length s) (st .opens) st some ∙ rw (m, w)
+
+  module _ (n e : ℕ) (out : read R s ≡ refused n e) where
+    ended : (p : ℕ) (st : State) → Reached R s p st → p ≡ length s → Because R s n e
+    ended p st r last = go (st .opens) refl (at-last (rw last at r))
+      where
+        go : (os : List Open) → st .opens ≡ os → read R s ≡ at-end (length s) (st .opens) st → Because R s n e
+        go [] top f =
+            let g : accepted (st .tally) (st .text) ≡ refused n e = sym (rw top at f) ∙ out in
+            let z : _≡_ {A = ℕ} 0 1 = cc in
+            absurd (omega arith)
+        go (o ∷ os) top f =
+            let g : refused 3 (length s) ≡ refused n e = sym (rw top at f) ∙ out in
+            left-open st (rw last at r) (rw top (omega arith)) (cc) (cc)
+
+    -- From a point that is reached, with at most m bytes to go.
+    abbrev Finds : ℕ → Type 0
+    Finds m = (p : ℕ) (st : State) → Reached R s p st → length s ≤ p + m → Because R s n e
+
+    grow : (m : ℕ) → Finds m → Finds (suc m)
+    grow m ih p st r short = go (decLe (suc p) (length s))
+      where
+        at : (k : ℕ) → p < length s → refusal R st (getD s p 0) (drop (suc p) s) ≡ k → Because R s n e
+        at zero lt f =
+            ih (suc p + operands (getD s p 0)) (advance (R .prices) (getD s p 0) (drop (suc p) s) st) (passed r lt f)
+            (omega arith)
+        at (suc k) lt f =
+            let w : ℕ = place-of (suc k) p (length s) in
+            let b : Because R s (suc k) w = at-command p st r lt f (omega arith) refl in
+            let g : refused (suc k) w ≡ refused n e = sym (because-refused (suc k) w b) ∙ out in
+            let i : suc k ≡ n = cc in
+            let j : w ≡ e = cc in
+            rw (← i, ← j) b
+
+        go : Dec (p < length s) → Because R s n e
+        go (yes lt) = at (refusal R st (getD s p 0) (drop (suc p) s)) lt refl
+        go (no h) = ended p st r (omega (arith, reached-read r .0))
+
+    find : (m : ℕ) → Finds m
+    find zero p st r short = ended p st r (omega (arith, reached-read r .0))
+    find (suc m) p st r short = grow m (λ p st r short. find m p st r short) p st r short
+
+  -- Bytes are refused exactly for such a reason.
+  pub refused-exactly : (n e : ℕ) → (read R s ≡ refused n e) ↔ Because R s n e
+  refused-exactly n e = (λ out. find n e out (length s) 0 start at-start (omega arith), because-refused n e)

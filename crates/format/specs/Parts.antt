@@ -1,0 +1,41 @@
+-- The part of a node: the bytes of a whole subtree, a part of the caller's run.
+use mathlib.Core.Bool.{Bool, false, cond}
+use mathlib.Core.List.{List, [], _∷_}
+use Prim.Native.Nat.{ℕ, zero, suc, pred}
+use lib.Dec.{eqb}
+use lib.ListN.{take, drop}
+use Rattle.format.specs.Machine.{is-node, operands}
+use Rattle.format.specs.Readings.{run-reading}
+
+-- A node starts at offset p: the command there is a step or opens a group. `skip` operand bytes come first.
+unfoldable pub starts : (p skip : ℕ) → List ℕ → Bool
+starts p k [] = false
+starts zero zero (c ∷ s) = is-node c
+starts zero (suc k) (c ∷ s) = false
+starts (suc p) zero (c ∷ s) = starts p (operands c) s
+starts (suc p) (suc k) (c ∷ s) = starts p k s
+
+-- How many groups are open after a command.
+abbrev pub still-open : ℕ → (command : ℕ) → ℕ
+still-open d c = cond (eqb c 0x11) (suc d) (cond (eqb c 0x12) (pred d) d)
+
+-- The bytes up to the close of the outermost of d open groups, after `skip` operand bytes; with none open, those alone.
+unfoldable pub closing : List ℕ → (d skip : ℕ) → ℕ
+closing [] zero k = k
+closing [] (suc d) k = 0
+closing (c ∷ s) zero k = k
+closing (c ∷ s) (suc d) zero = suc (closing s (still-open (suc d) c) (operands c))
+closing (c ∷ s) (suc d) (suc k) = suc (closing s (suc d) k)
+
+-- The bytes of the node that stands at the head.
+unfoldable pub node-size : List ℕ → ℕ
+unfolding closing
+node-size [] = 0
+node-size (c ∷ s) = suc (closing s (still-open 0 c) (operands c))
+
+-- The part of a run at an offset: the node that starts there, with all it holds; nothing where the run is refused or no node
+-- starts there.
+unfoldable pub part-of : List ℕ → (offset : ℕ) → List ℕ
+unfolding starts node-size run-reading
+part-of s p =
+    cond (eqb (run-reading s .refusal) 0) (cond (starts p 0 s) (take (node-size (drop p s)) (drop p s)) []) []
