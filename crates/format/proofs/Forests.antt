@@ -1,11 +1,11 @@
 -- Laws of sequences: what joining, copying and unrolling do to byte form, counts and cost.
 use mathlib.Core.Path.{_≡_, refl, sym, ap, ap₂, _∙_}
-use mathlib.Core.List.{List, [], _∷_, _++_, append-assoc, append-nil}
-use Prim.Native.Nat.{ℕ, zero, suc, _+_, _*_, _≤_, _<_}
-use native.Mathlib.Nat.{zero-mul, suc-mul, add-assoc, mul-add, zero-add}
+use mathlib.Core.List.{List, _∷_, _++_, append-assoc}
+use Prim.Native.Nat.{ℕ, zero, suc, _+_, _*_}
+use native.Mathlib.Nat.{zero-add, suc-add}
 use native.Mathlib.Omega.{arith}
-use Rattle.format.specs.Limits.{Prices, of-repeat}
-use Rattle.format.specs.Forest.{Forest, end, step, group, repeat, join, copies, unroll, siblings, nodes, cost, bytes, Plain, Allowed, Repeats, Sound}
+use Rattle.format.specs.Limits.{Prices}
+use Rattle.format.specs.Forest.{Forest, end, step, group, repeat, join, copies, unroll, siblings, nodes, cost, bytes, Plain, Allowed, Sound}
 use Rattle.format.specs.Machine.{times}
 
 pub join-end : (f : Forest) → join f end ≡ f
@@ -76,7 +76,7 @@ nodes-copies (suc h) f = omega (arith, nodes-join f (copies h f), nodes-copies h
 pub copies-add : (m n : ℕ) (f : Forest) → join (copies m f) (copies n f) ≡ copies (m + n) f
 unfolding copies join
 copies-add zero n f = rw zero-add
-copies-add (suc m) n f = rw native.Mathlib.Nat.suc-add (join-assoc f (copies m f) (copies n f) ∙ ap (join f) (copies-add m n f))
+copies-add (suc m) n f = rw suc-add (join-assoc f (copies m f) (copies n f) ∙ ap (join f) (copies-add m n f))
 
 pub siblings-unroll : (f : Forest) → siblings (unroll f) ≡ siblings f
 unfolding unroll siblings
@@ -131,3 +131,14 @@ sound-join A end g p q = q
 sound-join A (step l f) g p q = sound-join A f g p q
 sound-join A (group l b f) g p q = (p .0, p .1, sound-join A f g (p .2) q)
 sound-join A (repeat h w b f) g p q = (p .0, p .1, sound-join A f g (p .2) q)
+
+-- The parts of a sound fold are sound, and folds of one run have as many siblings.
+pub sound-parts : (A : Allowed) (f g : Forest) → Sound A (join f g) → Sound A f × Sound A g
+unfolding join
+sound-parts A end g p = (tt, p)
+sound-parts A (step l f) g p = sound-parts A f g p
+sound-parts A (group l b f) g p = let k = sound-parts A f g (p .2) in ((p .0, p .1, k .0), k .1)
+sound-parts A (repeat h w b f) g p = let k = sound-parts A f g (p .2) in ((p .0, p .1, k .0), k .1)
+
+pub same-siblings : (f g : Forest) → unroll f ≡ unroll g → siblings f ≡ siblings g
+same-siblings f g e = cc (siblings-unroll f, siblings-unroll g)

@@ -9,7 +9,7 @@ use native.Mathlib.Omega.{arith}
 use Rattle.format.specs.Limits.{Prices, of-repeat}
 use Rattle.format.specs.Forest.{Forest, end, step, group, repeat, join, copies, unroll, siblings, cost, bytes, two-bytes, Plain, Allowed, Sound}
 use Rattle.format.specs.Order.{Before}
-use Rattle.format.proofs.Forests.{join-end, bytes-join, cost-join, unroll-join, siblings-unroll, sound-join}
+use Rattle.format.proofs.Forests.{join-end, bytes-join, cost-join, unroll-join, siblings-unroll, sound-join, sound-parts, same-siblings}
 use Rattle.format.proofs.Order.{irreflexive, asymmetric, transitive, under, ignores, Ordered, compare}
 use Rattle.optimum.specs.Optimal.{FoldOf, NoWorse, cheaper, same, earlier, Optimal}
 
@@ -132,17 +132,6 @@ body-of-repeat P h w f = record {
   spelt = λ b. refl;
   paid = λ b. omega arith;
 }
-
--- The parts of a sound fold are sound, and folds of one run have as many siblings.
-pub sound-parts : (A : Allowed) (x y : Forest) → Sound A (join x y) → Sound A x × Sound A y
-unfolding join
-sound-parts A end y p = (tt, p)
-sound-parts A (step l x) y p = sound-parts A x y p
-sound-parts A (group l b x) y p = let k = sound-parts A x y (p .2) in ((p .0, p .1, k .0), k .1)
-sound-parts A (repeat h w b x) y p = let k = sound-parts A x y (p .2) in ((p .0, p .1, k .0), k .1)
-
-pub same-siblings : (f g : Forest) → unroll f ≡ unroll g → siblings f ≡ siblings g
-same-siblings f g e = cc (siblings-unroll f, siblings-unroll g)
 
 -- Each piece of an optimal fold is optimal for what it unrolls to.
 pub pieces : (A : Allowed) (P : Prices) (t x y : Forest) → Optimal A P t (join x y) → Optimal A P (unroll x) x × Optimal A P (unroll y) y
