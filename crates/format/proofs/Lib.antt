@@ -7,4 +7,5 @@ pub mod Refusals
 pub mod Order
 pub mod Expansion
 pub mod Report
+pub mod Parts
 pub mod Tree

@@ -2,3 +2,4 @@
 pub mod Walking
 pub mod Commands
 pub mod Wholes
+pub mod Nodes
