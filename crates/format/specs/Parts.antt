@@ -33,9 +33,14 @@ unfolding closing
 node-size [] = 0
 node-size (c ∷ s) = suc (closing s (still-open 0 c) (operands c))
 
+-- The node that stands at an offset, with all it holds.
+unfoldable pub node-part : List ℕ → (offset : ℕ) → List ℕ
+unfolding node-size
+node-part s p = take (node-size (drop p s)) (drop p s)
+
 -- The part of a run at an offset: the node that starts there, with all it holds; nothing where the run is refused or no node
 -- starts there.
 unfoldable pub part-of : List ℕ → (offset : ℕ) → List ℕ
-unfolding starts node-size run-reading
+unfolding starts node-part run-reading
 part-of s p =
-    cond (eqb (run-reading s .refusal) 0) (cond (starts p 0 s) (take (node-size (drop p s)) (drop p s)) []) []
+    cond (eqb (run-reading s .refusal) 0) (cond (starts p 0 s) (node-part s p) []) []

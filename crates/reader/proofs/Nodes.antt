@@ -8,12 +8,12 @@ use native.Mathlib.Nat.{sub-zero, sub-self}
 use native.Mathlib.Numerals.{sub-one}
 use native.Mathlib.Omega.{arith}
 use lib.Dec.{eqb}
-use lib.ListN.{length, getD, take, drop, length-drop}
+use lib.ListN.{length, getD, take, drop, length-drop, drop-of-length-le}
 use lib.Seq.{take-all, drop-length}
 use borrow.Author.Tests.{ne-eqb, eq-eqb}
 use Rattle.format.specs.Machine.{is-node, operands}
 use Rattle.format.specs.Readings.{run-reading}
-use Rattle.format.specs.Parts.{starts, still-open, closing, node-size, part-of}
+use Rattle.format.specs.Parts.{starts, still-open, closing, node-size, node-part, part-of}
 use Rattle.format.specs.declared.RunReading.{RunReading}
 use Rattle.format.proofs.Parts.{closing-none}
 use Rattle.reader.proofs.Walking.{cut-one}
@@ -167,7 +167,22 @@ starts-within (suc p) (suc k) (c ∷ s) h = omega (arith, starts-within p k s h)
 all-taken : (s : List ℕ) (p n : ℕ) → length s - p ≤ n → take n (drop p s) ≡ drop p s
 all-taken s p n h = take-all n (drop p s) (rw length-drop h)
 
--- The part of a node, by what was read and where the node ends.
+-- The node that stands at an offset, by where it ends.
+pub node-none : (s : List ℕ) (at : ℕ) → length s ≤ at → [] ≡ node-part s at
+unfolding node-part
+node-none s at h = rw (drop-of-length-le s h)
+
+module _ (s : List ℕ) (at e : ℕ) (ends : e ≡ at + node-size (drop at s)) where
+  pub node-whole : take (e - at) (drop at s) ≡ node-part s at
+  unfolding node-part
+  node-whole =
+      let size : e - at ≡ node-size (drop at s) = omega arith in
+      rw size
+
+  pub node-rest : length s < e → take (length s - at) (drop at s) ≡ node-part s at
+  node-rest h = all-taken s at (length s - at) (omega arith) ∙ (sym (all-taken s at (e - at) (omega arith)) ∙ node-whole)
+
+-- The part of a node, by what was read.
 module _ (s : List ℕ) (at : ℕ) (r : RunReading) (reading : r ≡ run-reading s) where
   pub part-refused : r .refusal ≢ 0 → [] ≡ part-of s at
   unfolding part-of
@@ -178,12 +193,6 @@ module _ (s : List ℕ) (at : ℕ) (r : RunReading) (reading : r ≡ run-reading
     unfolding part-of
     part-none z = rw (← reading, eq-eqb _ _ all, ← z)
 
-    module _ (there : starts at 0 s ≡ true) (e : ℕ) (ends : e ≡ at + node-size (drop at s)) where
-      pub part-whole : take (e - at) (drop at s) ≡ part-of s at
-      unfolding part-of
-      part-whole =
-          let size : e - at ≡ node-size (drop at s) = omega arith in
-          rw (← reading, eq-eqb _ _ all, there, size)
-
-      pub part-rest : length s < e → take (length s - at) (drop at s) ≡ part-of s at
-      part-rest h = all-taken s at (length s - at) (omega arith) ∙ (sym (all-taken s at (e - at) (omega arith)) ∙ part-whole)
+    pub part-node : starts at 0 s ≡ true → node-part s at ≡ part-of s at
+    unfolding part-of
+    part-node there = rw (← reading, eq-eqb _ _ all, there)

@@ -19,7 +19,7 @@ ghost use mathlib.Core.Path.{_≡_};
 ghost use mathlib.Core.Bool.{true};
 ghost use Rattle.format.specs.Machine.{read};
 ghost use Rattle.format.specs.Readings.{run-reading, fold-reading, fold-answer, fold-rules, free};
-ghost use Rattle.format.specs.Parts.{part-of};
+ghost use Rattle.format.specs.Parts.{node-part, part-of};
 ghost use Rattle.reader.specs.Walk.{Sane, Whole, outcome, rules-of};
 
 // The whole input: the top sequence, then the end and no close.
@@ -93,6 +93,20 @@ pub fn read_run(run: &[u8]) -> RunReading
     }
 }
 
+// The node that stands at an offset, with all it holds; what is left where it does not end.
+pub fn node_at(s: &[u8], at: usize) -> &[u8]
+    ensures { λ r. ⌜ now r ≡ node-part (now (s .entry)) at ⌝ }
+{
+    if s.len() <= at {
+        return &s[0..0];
+    }
+    let end = node_end(s, at);
+    if s.len() < end {
+        return &s[at..];
+    }
+    &s[at..end]
+}
+
 // The part of a node: the step or group that starts at an offset, with all it holds; empty where the run is refused or no
 // node starts there.
 pub fn part(run: &[u8], at: usize) -> &[u8]
@@ -104,11 +118,7 @@ pub fn part(run: &[u8], at: usize) -> &[u8]
     if !starts_at(run, at) {
         return &run[0..0];
     }
-    let end = node_end(run, at);
-    if run.len() < end {
-        return &run[at..];
-    }
-    &run[at..end]
+    node_at(run, at)
 }
 
 // Whether two siblings are equal, label and children together: whether their parts are.

@@ -1,15 +1,12 @@
+-- `answer` meets its contract.
 use borrow.Author.Tests.{eq-eqb, ne-eqb}
 use Rattle.reader.proofs.answer.Statement.{statement}
 use Rattle.reader.proofs.answer.Tie as tie
-use Rattle.reader.proofs.answer.Reads as reads
-use Rattle.reader.proofs.answer.Lts as lts
 
--- src/lib.rt:126:9
 returns : tie.Need-returns
 returns c =
     rw (ne-eqb _ _ (c .if1 .taken))
 
--- src/lib.rt:122:1
 returns-2 : tie.Need-returns-2
 returns-2 c =
     rw (eq-eqb _ _ (c .before .if1 .left))

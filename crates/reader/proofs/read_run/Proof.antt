@@ -1,25 +1,19 @@
+-- `read_run` meets its contract.
 use borrow.Author.Needs.{needs}
 use Rattle.reader.proofs.Wholes.{run-refused, run-read}
 use Rattle.reader.proofs.read_run.Statement.{statement}
 use Rattle.reader.proofs.read_run.Tie as tie
-use Rattle.reader.proofs.read_run.Reads as reads
-use Rattle.reader.proofs.read_run.Lts as lts
-use Rattle.reader.proofs.whole.Reads as whole-reads
 
--- src/lib.rt:74:24
 slice-aggregate-whole : tie.Need-slice-aggregate-whole
 slice-aggregate-whole c = search needs
 
--- src/lib.rt:74:9
 whole-requires : tie.Need-whole-requires
 whole-requires c κs = search needs
 
--- src/lib.rt:76:9
 returns : tie.Need-returns
 returns c =
     run-refused (c .before .before .before .before .before .args .run .now) (c .before .before .whole .result) (c .before .before .whole .ensures) (c .if1 .taken)
 
--- src/lib.rt:64:1
 returns-2 : tie.Need-returns-2
 returns-2 c =
     run-read (c .before .before .before .before .before .before .args .run .now) (c .before .before .before .whole .result) (c .before .before .before .whole .ensures) (c .before .if1 .left)

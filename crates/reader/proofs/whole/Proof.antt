@@ -1,42 +1,33 @@
+-- `whole` meets its contract.
 use borrow.Author.Needs.{needs}
 use native.Mathlib.Omega.{arith}
 use Rattle.reader.proofs.Wholes.{whole-refused, whole-read, stray-group-end, stray-repeat-end, repeat-end-in-run}
 use Rattle.reader.proofs.whole.Statement.{statement}
 use Rattle.reader.proofs.whole.Tie as tie
-use Rattle.reader.proofs.whole.Reads as reads
-use Rattle.reader.proofs.whole.Lts as lts
-use Rattle.reader.proofs.walk.sequence.Reads as sequence-reads
 
--- src/lib.rt:34:9
 sequence-requires : tie.Need-sequence-requires
 sequence-requires c κs = search needs
 
--- src/lib.rt:36:9
 returns : tie.Need-returns
 returns c =
     let S = c .before .before .before .before .before in whole-refused (S .args .a) (S .args .costs .now) (S .args .s .now) (c .before .before .sequence .result) (c .before .before .sequence .ensures) (c .if1 .taken)
 
--- src/lib.rt:40:9
 returns-2 : tie.Need-returns-2
 returns-2 c =
     let S = c .before .before .before .before .before .before in whole-read (S .args .a) (S .args .costs .now) (S .args .s .now) (c .before .before .before .sequence .result) (c .before .before .before .sequence .ensures) (c .before .if1 .left) (c .if2 .taken)
 
--- src/lib.rt:42:8
 shared-slice-read-if3 : tie.Need-shared-slice-read-if3
 shared-slice-read-if3 c =
     omega (arith, c .before .before .before .before .sequence .ensures .halted (c .before .before .if1 .left) .within, c .before .if2 .left)
 
--- src/lib.rt:43:9
 returns-3 : tie.Need-returns-3
 returns-3 c =
     let S = c .before .before .before .before .before .before .before .before in stray-group-end (S .args .a) (S .args .costs .now) (S .args .s .now) (c .before .before .before .before .before .sequence .result) (c .before .before .before .before .before .sequence .ensures) (c .before .before .before .if1 .left) (c .before .before .if2 .left) _ (c .if3 .taken)
 
--- src/lib.rt:50:9
 returns-4 : tie.Need-returns-4
 returns-4 c =
     let S = c .before .before .before .before .before .before .before .before .before in stray-repeat-end (S .args .a) (S .args .costs .now) (S .args .s .now) (c .before .before .before .before .before .before .sequence .result) (c .before .before .before .before .before .before .sequence .ensures) (c .before .before .before .before .if1 .left) (c .before .before .before .if2 .left) _ (c .before .if3 .left) (c .if4 .taken)
 
--- src/lib.rt:20:1
 returns-5 : tie.Need-returns-5
 returns-5 c =
     let S = c .before .before .before .before .before .before .before .before .before in repeat-end-in-run (S .args .a) (S .args .costs .now) (S .args .s .now) (c .before .before .before .before .before .before .sequence .result) (c .before .before .before .before .before .before .sequence .ensures) (c .before .before .before .before .if1 .left) (c .before .before .before .if2 .left) _ (c .before .if3 .left) (c .if4 .left)

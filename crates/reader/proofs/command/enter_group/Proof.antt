@@ -1,56 +1,43 @@
+-- `enter_group` meets its contract.
 use borrow.Author.Needs.{needs}
 use native.Mathlib.Omega.{arith}
 use Rattle.reader.proofs.Commands.{group-short, group-deep, group-full, group-on}
 use Rattle.reader.proofs.command.enter_group.Statement.{statement}
 use Rattle.reader.proofs.command.enter_group.Tie as tie
-use Rattle.reader.proofs.command.enter_group.Reads as reads
-use Rattle.reader.proofs.command.enter_group.Lts as lts
-use Rattle.reader.proofs.command.price.Reads as price-reads
 
--- src/command.rt:105:8
 sub-if1 : tie.Need-sub-if1
 sub-if1 c = search needs
 
--- src/command.rt:106:9
 returns : tie.Need-returns
 returns c =
     let S = c .before .before .before in group-short (S .args .a) (S .args .costs .now) (S .args .s .now) (S .args .d) (S .args .at) (S .args .t) (S .pre .0) (omega (arith, S .pre .0 .below)) _ _
 
--- src/command.rt:113:9
 returns-2 : tie.Need-returns-2
 returns-2 c =
     let S = c .before .before .before .before .before in group-deep (S .args .a) (S .args .costs .now) (S .args .s .now) (S .args .d) (S .args .at) (S .args .t) (S .pre .0) (omega (arith, S .pre .0 .below)) (omega arith) _ _
 
--- src/command.rt:120:9
 returns-3 : tie.Need-returns-3
 returns-3 c =
     let S = c .before .before .before .before .before .before .before in group-full (S .args .a) (S .args .costs .now) (S .args .s .now) (S .args .d) (S .args .at) (S .args .t) (S .pre .0) (omega (arith, S .pre .0 .below)) (omega arith) (omega arith) _ _
 
--- src/command.rt:126:29
 add-price : tie.Need-add-price
 add-price c = search needs
 
--- src/command.rt:126:9
 price-requires : tie.Need-price-requires
 price-requires c κs = search needs
 
--- src/command.rt:129:13
 add-t9 : tie.Need-add-t9
 add-t9 c = search needs
 
--- src/command.rt:132:20
 add-t8 : tie.Need-add-t8
 add-t8 c = search needs
 
--- src/command.rt:133:19
 add-t12 : tie.Need-add-t12
 add-t12 c = search needs
 
--- src/command.rt:134:19
 add-t13 : tie.Need-add-t13
 add-t13 c = search needs
 
--- src/command.rt:100:1
 returns-4 : tie.Need-returns-4
 returns-4 c =
     let S = c .before .before .before .before .before .before .before .before .before .before .before in group-on (S .args .a) (S .args .costs .now) (S .args .s .now) (S .args .d) (S .args .at) (S .args .t) (S .pre .1) (S .pre .0) (omega (arith, S .pre .0 .below)) (omega arith) (omega arith) _ (search) (search)

@@ -1,3 +1,4 @@
+-- `enter_repeat` meets its contract.
 use borrow.Author.Needs.{needs}
 use native.Mathlib.Omega.{arith}
 use borrow.Author.Tests.{not-true, not-false}
@@ -6,75 +7,57 @@ use Prim.Native.Nat.{ℕ, _*_, _+_, _-_}
 use Rattle.reader.proofs.Commands.{repeat-in-run, repeat-short, repeat-few, repeat-wide, repeat-deep, repeat-on, bounded}
 use Rattle.reader.proofs.command.enter_repeat.Statement.{statement}
 use Rattle.reader.proofs.command.enter_repeat.Tie as tie
-use Rattle.reader.proofs.command.enter_repeat.Reads as reads
-use Rattle.reader.proofs.command.enter_repeat.Lts as lts
-use Rattle.reader.proofs.command.operand.Reads as operand-reads
 
--- src/command.rt:205:9
 returns : tie.Need-returns
 returns c =
     let S = c .before .before .before .before in (repeat-in-run (S .args .a) (S .args .costs .now) (S .args .s .now) (S .args .d) (S .args .at) (S .args .t) (S .pre .0) (S .pre .1 .0) (not-true _ (c .if1 .taken)) _ _, λ z. absurd (omega arith))
 
--- src/command.rt:211:8
 sub-if2 : tie.Need-sub-if2
 sub-if2 c = search needs
 
--- src/command.rt:212:9
 returns-2 : tie.Need-returns-2
 returns-2 c =
     let S = c .before .before .before .before .before in (repeat-short (S .args .a) (S .args .costs .now) (S .args .s .now) (S .args .d) (S .args .at) (S .args .t) (S .pre .0) (S .pre .1 .0) (not-false _ (c .before .if1 .left)) (omega (arith, S .pre .0 .below)) _ _, λ z. absurd (omega arith))
 
--- src/command.rt:218:28
 add-operand : tie.Need-add-operand
 add-operand c = search needs
 
--- src/command.rt:218:9
 operand-requires : tie.Need-operand-requires
 operand-requires c κs = search needs
 
--- src/command.rt:220:9
 returns-3 : tie.Need-returns-3
 returns-3 c =
     let S = c .before .before .before .before .before .before .before in (repeat-few (S .args .a) (S .args .costs .now) (S .args .s .now) (S .args .d) (S .args .at) (S .args .t) (S .pre .0) (S .pre .1 .0) (not-false _ (c .before .before .before .if1 .left)) (omega (arith, S .pre .0 .below)) (omega arith) _ _, λ z. absurd (omega arith))
 
--- src/command.rt:226:28
 add-operand-2 : tie.Need-add-operand-2
 add-operand-2 c = search needs
 
--- src/command.rt:226:9
 operand-requires-2 : tie.Need-operand-requires-2
 operand-requires-2 c κs = search needs
 
--- src/command.rt:228:9
 returns-4 : tie.Need-returns-4
 returns-4 c =
     let S = c .before .before .before .before .before .before .before .before .before .before in (repeat-wide (S .args .a) (S .args .costs .now) (S .args .s .now) (S .args .d) (S .args .at) (S .args .t) (S .pre .0) (S .pre .1 .0) (not-false _ (c .before .before .before .before .before .before .if1 .left)) (omega (arith, S .pre .0 .below)) (omega arith) (omega arith) _ _, λ z. absurd (omega arith))
 
--- src/command.rt:235:9
 returns-5 : tie.Need-returns-5
 returns-5 c =
     let S = c .before .before .before .before .before .before .before .before .before .before .before .before in (repeat-deep (S .args .a) (S .args .costs .now) (S .args .s .now) (S .args .d) (S .args .at) (S .args .t) (S .pre .0) (S .pre .1 .0) (not-false _ (c .before .before .before .before .before .before .before .before .if1 .left)) (omega (arith, S .pre .0 .below)) (omega arith) (omega arith) (omega arith) _ _, λ z. absurd (omega arith))
 
--- src/command.rt:241:23
 mul-p : tie.Need-mul-p
 mul-p c =
     let S = c .before .before .before .before .before .before .before .before .before .before .before .before .before in let m = bounded (S .args .a .each) (c .before .before .before .before .before .before .before .operand .result - 2) 65535 65533 (omega (arith, S .pre .1 .1 .each)) (omega (arith, c .before .before .before .before .before .before .before .operand .ensures .1)) in omega arith
 
--- src/command.rt:241:13
 add-p : tie.Need-add-p
 add-p c =
     let S = c .before .before .before .before .before .before .before .before .before .before .before .before .before .before in let m = bounded (S .args .a .each) (c .before .before .before .before .before .before .before .before .operand .result - 2) 65535 65533 (omega (arith, S .pre .1 .1 .each)) (omega (arith, c .before .before .before .before .before .before .before .before .operand .ensures .1)) in omega (arith, S .pre .1 .1 .first)
 
--- src/command.rt:244:13
 add-t11 : tie.Need-add-t11
 add-t11 c = search needs
 
--- src/command.rt:249:19
 add-t15 : tie.Need-add-t15
 add-t15 c =
     let S = c .before .before .before .before .before .before .before .before .before .before .before .before .before .before .before in let m = bounded (S .args .a .each) (c .before .before .before .before .before .before .before .before .before .operand .result - 2) 65535 65533 (omega (arith, S .pre .1 .1 .each)) (omega (arith, c .before .before .before .before .before .before .before .before .before .operand .ensures .1)) in omega (arith, S .pre .1 .1 .first, S .pre .1 .0 .cost, S .pre .1 .0 .nodes, S .pre .1 .0 .repeats)
 
--- src/command.rt:197:1
 returns-6 : tie.Need-returns-6
 returns-6 c =
     let S = c .before .before .before .before .before .before .before .before .before .before .before .before .before .before .before in let m = bounded (S .args .a .each) (c .before .before .before .before .before .before .before .before .before .operand .result - 2) 65535 65533 (omega (arith, S .pre .1 .1 .each)) (omega (arith, c .before .before .before .before .before .before .before .before .before .operand .ensures .1)) in let f = (not-false _ (c .before .before .before .before .before .before .before .before .before .before .before .if1 .left)) in (repeat-on (S .args .a) (S .args .costs .now) (S .args .s .now) (S .args .d) (S .args .at) (S .args .t) (S .pre .0) (S .pre .1 .0) f (omega (arith, S .pre .0 .below)) (omega arith) (omega arith) (omega arith) _ (ap (λ (k : ℕ). S .args .a .first + S .args .a .each * (k - 2)) (c .before .before .before .before .before .before .before .before .before .operand .ensures .0)) (omega (arith, S .pre .1 .1 .first)), λ z. (f, omega arith, omega (arith, S .pre .0 .below)))

@@ -1,3 +1,4 @@
+-- `price` meets its contract.
 use borrow.Author.Needs.{needs}
 use native.Mathlib.Omega.{arith}
 use mathlib.Core.Path.{sym}
@@ -5,36 +6,25 @@ use lib.Dec.{lit<}
 use lib.ListN.{getD, List·getD-eq-default}
 use Rattle.reader.proofs.command.price.Statement.{statement}
 use Rattle.reader.proofs.command.price.Tie as tie
-use Rattle.reader.proofs.command.price.Reads as reads
-use Rattle.reader.proofs.command.price.Lts as lts
-use Rattle.reader.proofs.command.wide.Reads as wide-reads
-use Rattle.reader.proofs.command.wide_cost.Reads as wide-cost-reads
 
--- src/command.rt:50:22
 shared-slice-read-wide : tie.Need-shared-slice-read-wide
 shared-slice-read-wide c = search needs
 
--- src/command.rt:50:9
 wide-requires : tie.Need-wide-requires
 wide-requires c κs = search needs
 
--- src/command.rt:52:26
 mul-wide-cost : tie.Need-mul-wide-cost
 mul-wide-cost c = search needs
 
--- src/command.rt:52:26
 shared-slice-read-wide-cost : tie.Need-shared-slice-read-wide-cost
 shared-slice-read-wide-cost c = search needs
 
--- src/command.rt:52:9
 wide-cost-requires : tie.Need-wide-cost-requires
 wide-cost-requires c κs = search needs
 
--- src/command.rt:52:9
 returns : tie.Need-returns
 returns c = (cc, c .wide-cost .ensures .1)
 
--- src/command.rt:46:1
 returns-2 : tie.Need-returns-2
 returns-2 c =
     let d = c .before .before .before .before .before .args in (

@@ -1,9 +1,8 @@
 -- The proof of the walk's cycle of calls. Each member falls by the bytes that are left; between calls at one offset a sequence
 -- stands above an item, and an item above a group or a repeat.
-use mathlib.Core.Path.{refl}
 use Prim.Native.Nat.{ℕ, _+_, _-_, _*_, _<_, _≤_}
 use native.Mathlib.Omega.{arith}
-use lib.ListN.{length, getD}
+use lib.ListN.{length}
 use borrow.Fn.Kinds.{In}
 use borrow.Fn.PlainCycle.{Measures, is, falls, and}
 use Rattle.reader.proofs.walk.group.Reads as group
