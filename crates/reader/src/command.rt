@@ -43,14 +43,13 @@ pub fn wide_cost(x: u16) -> u64
     x as u64
 }
 
-// The price of the label that stands at an offset.
-fn price(s: &[u8], costs: &[u16], at: usize) -> u64
-    requires { ⌜ at < length (now s) ⌝ }
-    ensures { λ r. ⌜ (r ≡ getD (now (costs .entry)) (getD (now (s .entry)) at 0) 0) × (r < 65536) ⌝ }
+// The price of a label; 0 where the table does not have it.
+pub fn price(costs: &[u16], label: u8) -> u64
+    ensures { λ r. ⌜ (r ≡ getD (now (costs .entry)) label 0) × (r < 65536) ⌝ }
 {
-    let label = wide(s[at]);
-    if label < costs.len() {
-        return wide_cost(costs[label]);
+    let at = wide(label);
+    if at < costs.len() {
+        return wide_cost(costs[at]);
     }
     0
 }
@@ -83,7 +82,7 @@ pub fn step(s: &[u8], costs: &[u16], a: Terms, at: usize, d: Depth, t: Tally) ->
             tally: t,
         };
     }
-    let p = price(s, costs, at + 1);
+    let p = price(costs, s[at + 1]);
     Walk {
         refusal: 0,
         at: at + 2,
@@ -123,7 +122,7 @@ pub fn enter_group(s: &[u8], costs: &[u16], a: Terms, at: usize, d: Depth, t: Ta
             tally: t,
         };
     }
-    let p = price(s, costs, at + 1);
+    let p = price(costs, s[at + 1]);
     Walk {
         refusal: 0,
         at: at + 2,

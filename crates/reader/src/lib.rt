@@ -7,6 +7,7 @@ mod walk;
 use command::Depth;
 use command::Terms;
 use command::Walk;
+pub use command::price;
 use command::wide_cost;
 use format::FoldReading;
 use format::Format;

@@ -3,12 +3,9 @@ use borrow.Author.Needs.{needs}
 use native.Mathlib.Omega.{arith}
 use mathlib.Core.Path.{sym}
 use lib.Dec.{lit<}
-use lib.ListN.{getD, List·getD-eq-default}
+use lib.ListN.{List·getD-eq-default}
 use Rattle.reader.proofs.command.price.Statement.{statement}
 use Rattle.reader.proofs.command.price.Tie as tie
-
-shared-slice-read-wide : tie.Need-shared-slice-read-wide
-shared-slice-read-wide c = search needs
 
 wide-requires : tie.Need-wide-requires
 wide-requires c κs = search needs
@@ -23,21 +20,17 @@ wide-cost-requires : tie.Need-wide-cost-requires
 wide-cost-requires c κs = search needs
 
 returns : tie.Need-returns
-returns c = (cc, c .wide-cost .ensures .1)
+returns c =
+    (cc, c .wide-cost .ensures .1)
 
 returns-2 : tie.Need-returns-2
 returns-2 c =
-    let d = c .before .before .before .before .before .args in (
-      sym
-          (List·getD-eq-default (d .costs .now) 0 {n = getD (d .s .now) (d .at) 0} (omega arith)),
-      lit< tt,
-    )
+    let S = c .before .before .before in (sym (List·getD-eq-default (S .args .costs .now) 0 {n = S .args .label} (omega arith)), lit< tt)
 
 pub price-spec : {M : Type 1} → statement M
 price-spec =
     tie.close
     (tie.spec
-    shared-slice-read-wide
     wide-requires
     mul-wide-cost
     shared-slice-read-wide-cost

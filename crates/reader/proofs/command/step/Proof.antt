@@ -19,6 +19,9 @@ returns-2 c =
 add-price : tie.Need-add-price
 add-price c = search needs
 
+shared-slice-read-price : tie.Need-shared-slice-read-price
+shared-slice-read-price c = search needs
+
 price-requires : tie.Need-price-requires
 price-requires c κs = search needs
 
@@ -28,18 +31,18 @@ add-t9 c = search needs
 add-t8 : tie.Need-add-t8
 add-t8 c = search needs
 
-add-t12 : tie.Need-add-t12
-add-t12 c = search needs
-
-add-t13 : tie.Need-add-t13
-add-t13 c = search needs
-
 add-t14 : tie.Need-add-t14
 add-t14 c = search needs
 
+add-t15 : tie.Need-add-t15
+add-t15 c = search needs
+
+add-t16 : tie.Need-add-t16
+add-t16 c = search needs
+
 returns-3 : tie.Need-returns-3
 returns-3 c =
-    let S = c .before .before .before .before .before .before .before .before .before .before in step-on (S .args .a) (S .args .costs .now) (S .args .s .now) (S .args .d) (S .args .at) (S .args .t) (S .pre .0) (omega (arith, S .pre .0 .below)) (omega arith) _ (search) (search)
+    let S = c .before .before .before .before .before .before .before .before .before .before .before in step-on (S .args .a) (S .args .costs .now) (S .args .s .now) (S .args .d) (S .args .at) (S .args .t) (S .pre .0) (omega (arith, S .pre .0 .below)) (omega arith) _ (c .before .before .before .before .price .ensures .0) (c .before .before .before .before .price .ensures .1)
 
 pub step-spec : {M : Type 1} → statement M
 step-spec =
@@ -49,10 +52,11 @@ step-spec =
     returns
     returns-2
     add-price
+    shared-slice-read-price
     price-requires
     add-t9
     add-t8
-    add-t12
-    add-t13
     add-t14
+    add-t15
+    add-t16
     returns-3)
