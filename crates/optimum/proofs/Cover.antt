@@ -32,7 +32,7 @@ price-covered A P B t h w r s p l =
 pub record Bound (A : Allowed) (P : Prices) (B : Bases) (t : Forest) (k : ℕ) : Type 0 where
   pub plain : k ≤ rank B (price P (best-cost A P) t 0 0) 0 0
   pub whole : (h w : ℕ) → Power A t h w → h * w ≡ siblings t → k ≤ rank B (price P (best-cost A P) t h w) h w
-  pub first : (c m h w : ℕ) → c + m ≡ siblings t → 0 < m → h * w ≡ c → Least A P B (best-cost A P) (front c t) h w
+  pub first : (c m h w : ℕ) → c + m ≡ siblings t → 0 < c → 0 < m → h * w ≡ c → Least A P B (best-cost A P) (front c t) h w
       → k ≤ rank B (best-cost A P (front c t) + best-cost A P (back c t)) h w
 
 module _ (A : Allowed) (P : Prices) where
@@ -59,7 +59,7 @@ module _ (A : Allowed) (P : Prices) where
       least-of-optimal A P B (front n t) (repeat h w b end) (spans-front n (r .plain) s) (first-optimal t b f h w o) in
       elim (ℕ-discrete n (siblings t)) [
         | yes e ↦ bound .whole h w p e
-        | no e ↦ rw (price-covered A P B t h w r s p l) (bound .first n (siblings t - n) h w (omega arith) (omega arith) refl l)
+        | no e ↦ rw (price-covered A P B t h w r s p l) (bound .first n (siblings t - n) h w (omega arith) (omega (arith, c .some, c .count, p .repeats .twice)) (omega arith) refl l)
       ]
 
   -- COVER: such a number is at most the rank of every pair.
