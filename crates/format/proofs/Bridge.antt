@@ -11,7 +11,7 @@ use lib.ListN.{length, length-append, getD, drop}
 use lib.Seq.{drop-at, getD-append-add}
 use Rattle.format.specs.Limits.{Prices}
 use Rattle.format.specs.Order.{Bytes}
-use Rattle.format.specs.Forest.{Forest, end, step, group, repeat, join, copies, unroll, siblings, nodes, cost, bytes, two-bytes, Plain, Allowed, Repeats, Sound, Coded, group-depth, repeat-depth}
+use Rattle.format.specs.Forest.{Forest, end, step, group, repeat, join, copies, unroll, siblings, nodes, cost, bytes, two-bytes, Plain, Allowed, Repeats, Sound, Coded, group-depth, repeat-depth, widest-of}
 use Rattle.format.specs.Machine.{Rules, State, Open, a-group, a-repeat, open-groups, open-repeats, times, put-step, enter-group, leave-group, enter-repeat, leave-repeat, repeated, scan, read, start, refused, accepted, refusal}
 use Rattle.format.specs.Shape.{Shaped, tally-of, Reads}
 use Rattle.format.specs.declared.Tally.{Tally}
@@ -671,13 +671,6 @@ pub same-acceptance : (R : Rules) (Q : Prices) (s : List ℕ) → Bytes s → (t
 same-acceptance R Q s small t x e =
     let a = parses R s small t x e in
     (a, reads-accepted (repriced Q a))
-
--- The widest width operand of a fold.
-unfoldable pub widest-of : Forest → ℕ
-widest-of end = 0
-widest-of (step l f) = widest-of f
-widest-of (group l b f) = max (widest-of b) (widest-of f)
-widest-of (repeat h w b f) = max w (max (widest-of b) (widest-of f))
 
 -- Sound at a limit: no width is past it; and at any limit that no width is past.
 pub sound-widest : (A : Allowed) (f : Forest) → Sound A f → widest-of f ≤ A .widest

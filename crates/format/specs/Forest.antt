@@ -111,3 +111,10 @@ repeat-depth end = 0
 repeat-depth (step l f) = repeat-depth f
 repeat-depth (group l b f) = max (repeat-depth b) (repeat-depth f)
 repeat-depth (repeat h w b f) = max (suc (repeat-depth b)) (repeat-depth f)
+
+-- The widest width operand of a fold: it is within a limit when this is at most the limit.
+unfoldable pub widest-of : Forest → ℕ
+widest-of end = 0
+widest-of (step l f) = widest-of f
+widest-of (group l b f) = max (widest-of b) (widest-of f)
+widest-of (repeat h w b f) = max w (max (widest-of b) (widest-of f))

@@ -9,3 +9,4 @@ pub mod Choose
 pub mod Cheapest
 pub mod Cover
 pub mod Level
+pub mod Demands
