@@ -23,7 +23,7 @@ fn operand_bytes(c: u8) -> usize
 }
 
 // Whether a command is a step or opens a group.
-fn opens_node(c: u8) -> bool
+pub fn opens_node(c: u8) -> bool
     ensures { λ r. ⌜ r ≡ is-node c ⌝ }
 {
     if c == Format::STEP {

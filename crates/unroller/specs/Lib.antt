@@ -1,0 +1,3 @@
+-- What the contracts of the unroller cite.
+pub mod Unrolling
+pub mod Writing

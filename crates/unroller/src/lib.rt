@@ -1,0 +1,48 @@
+// The unroller: writes the run that a fold unrolls to.
+mod write;
+
+use format::Format;
+use format::Unrolled;
+use reader::measure;
+use write::Place;
+use write::put_sequence;
+ghost use mathlib.Core.Path.{_≡_};
+ghost use lib.ListN.{length};
+ghost use Rattle.unroller.specs.Unrolling.{unrolling, unroll-answer, unroll-output};
+
+// Refusals 12, 1 and 3 to 10, then 14 where the output is shorter than the run; or the length written.
+pub fn unroll(fold: &[u8], limit: usize, out: &mut [u8]) -> Unrolled
+    ensures answered { λ r. ⌜ r ≡ unroll-answer (unrolling (now (fold .entry)) limit) (length (now (out .entry))) ⌝ }
+    ensures written { λ _. ⌜ now (out .exit) ≡ unroll-output (unrolling (now (fold .entry)) limit) (now (out .entry)) ⌝ }
+{
+    if Format::WIDTH < limit {
+        return Unrolled {
+            refusal: 12,
+            place: 0,
+            length: 0,
+        };
+    }
+    // The whole fold is read before a byte is written: only then are its refusals and the length known.
+    let m = measure(fold, limit);
+    if m.refusal != 0 {
+        return Unrolled {
+            refusal: m.refusal,
+            place: m.place,
+            length: 0,
+        };
+    }
+    let length = m.length;
+    if out.len() < length {
+        return Unrolled {
+            refusal: 14,
+            place: 0,
+            length: 0,
+        };
+    }
+    put_sequence(fold, out, Place { at: 0, to: 0 });
+    Unrolled {
+        refusal: 0,
+        place: 0,
+        length,
+    }
+}
