@@ -132,3 +132,11 @@ module _ (R : Rules) (s : List ℕ) where
   -- Bytes are refused exactly for such a reason.
   pub refused-exactly : (n e : ℕ) → (read R s ≡ refused n e) ↔ Because R s n e
   refused-exactly n e = (λ out. find n e out (length s) 0 start at-start (omega arith), because-refused n e)
+
+-- A refusal has a number.
+pub refused-some : (R : Rules) (s : List ℕ) (n e : ℕ) → read R s ≡ refused n e → n ≢ 0
+refused-some R s n e r = of-cause (refused-exactly R s n e .0 r)
+  where
+    of-cause : Because R s n e → n ≢ 0
+    of-cause (at-command p st reached below is some place) = some
+    of-cause (left-open st reached some three place) = omega arith
