@@ -12,7 +12,7 @@ use lib.Seq.{take-at, drop-append-add}
 use borrow.Author.Tests.{eq-eqb}
 use Rattle.format.specs.Forest.{Forest, end, step, group, repeat, bytes, Plain}
 use Rattle.format.specs.Readings.{run-reading}
-use Rattle.format.specs.Parts.{starts, closing, node-size, part-of}
+use Rattle.format.specs.Parts.{starts, closing, node-size, node-part, part-of, Stands, first-step, first-group, behind-step, inside-group, behind-group}
 use Rattle.format.proofs.Bridge.{bytes-injective}
 
 -- A single node of a run.
@@ -46,14 +46,6 @@ size-of-node n (a-group l b p) rest =
 
 pub part-of-node : (n : Forest) → Node n → (rest : List ℕ) → take (node-size (bytes n ++ rest)) (bytes n ++ rest) ≡ bytes n
 part-of-node n a rest = take-at (bytes n) rest _ (sym (size-of-node n a rest))
-
--- The node n stands at offset p of the run f: among its own items, or inside one of its groups.
-pub data Stands : Forest → ℕ → Forest → Type 0 where
-  first-step : (l : ℕ) (f : Forest) → Stands (step l f) 0 (step l end)
-  first-group : (l : ℕ) (b f : Forest) → Stands (group l b f) 0 (group l b end)
-  behind-step : (l : ℕ) (f : Forest) (p : ℕ) (n : Forest) → Stands f p n → Stands (step l f) (suc (suc p)) n
-  inside-group : (l : ℕ) (b f : Forest) (p : ℕ) (n : Forest) → Stands b p n → Stands (group l b f) (suc (suc p)) n
-  behind-group : (l : ℕ) (b f : Forest) (p : ℕ) (n : Forest) → Stands f p n → Stands (group l b f) (suc (suc (length (bytes b) + suc p))) n
 
 -- Such a node is one, and its bytes are what the run's go on with from there.
 pub stands-node : (f : Forest) (p : ℕ) (n : Forest) → Stands f p n → Plain f → Node n

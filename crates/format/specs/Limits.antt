@@ -2,14 +2,9 @@
 use Prim.Native.Nat.{ℕ, _+_, _-_, _*_}
 use mathlib.Core.List.{List}
 use lib.ListN.{getD}
+pub use Rattle.format.specs.declared.Limits.{Limits}
 
--- What the format bounds: the nodes of a run, the groups and the repeats open together, the width limit.
-pub record Limits : Type 0 where
-  pub nodes : ℕ
-  pub groups : ℕ
-  pub repeats : ℕ
-  pub width : ℕ
-
+-- What the format bounds: the associated constants of its type, which `Format::limits` gives, are these numbers.
 abbrev pub limits : Limits
 limits = record { nodes = 1024; groups = 8; repeats = 10; width = 1024 }
 

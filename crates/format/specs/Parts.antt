@@ -1,9 +1,10 @@
 -- The part of a node: the bytes of a whole subtree, a part of the caller's run.
 use mathlib.Core.Bool.{Bool, false, cond}
 use mathlib.Core.List.{List, [], _∷_}
-use Prim.Native.Nat.{ℕ, zero, suc, pred}
+use Prim.Native.Nat.{ℕ, zero, suc, pred, _+_}
 use lib.Dec.{eqb}
-use lib.ListN.{take, drop}
+use lib.ListN.{length, take, drop}
+use Rattle.format.specs.Forest.{Forest, end, step, group, bytes}
 use Rattle.format.specs.Machine.{is-node, operands}
 use Rattle.format.specs.Readings.{run-reading}
 
@@ -44,3 +45,11 @@ unfoldable pub part-of : List ℕ → (offset : ℕ) → List ℕ
 unfolding starts node-part run-reading
 part-of s p =
     cond (eqb (run-reading s .refusal) 0) (cond (starts p 0 s) (node-part s p) []) []
+
+-- The node n stands at offset p of the run f: among its own items, or inside one of its groups.
+pub data Stands : Forest → ℕ → Forest → Type 0 where
+  first-step : (l : ℕ) (f : Forest) → Stands (step l f) 0 (step l end)
+  first-group : (l : ℕ) (b f : Forest) → Stands (group l b f) 0 (group l b end)
+  behind-step : (l : ℕ) (f : Forest) (p : ℕ) (n : Forest) → Stands f p n → Stands (step l f) (suc (suc p)) n
+  inside-group : (l : ℕ) (b f : Forest) (p : ℕ) (n : Forest) → Stands b p n → Stands (group l b f) (suc (suc p)) n
+  behind-group : (l : ℕ) (b f : Forest) (p : ℕ) (n : Forest) → Stands f p n → Stands (group l b f) (suc (suc (length (bytes b) + suc p))) n

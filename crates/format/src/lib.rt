@@ -1,6 +1,17 @@
 // The format: its limits and its commands, each named once. Readers, unroller and folder use these names and the
 // contracts cite them.
 
+ghost use mathlib.Core.Path.{_≡_};
+ghost use Rattle.format.specs.Limits.{limits};
+
+// What the format bounds: the nodes of a run, the groups and the repeats open at a time, the width limit.
+pub struct Limits {
+    pub nodes: usize,
+    pub groups: usize,
+    pub repeats: usize,
+    pub width: usize,
+}
+
 // The format of runs and folds. A run is an ordered forest, a fold its repetition representation (source 001).
 pub struct Format {}
 
@@ -24,6 +35,18 @@ impl Format {
     pub const REPEAT: u8 = 0x20;
     // Closes a repeat.
     pub const REPEAT_END: u8 = 0x21;
+
+    // The limits together: those that the definitions have.
+    pub fn limits() -> Limits
+        ensures { λ r. ⌜ r ≡ limits ⌝ }
+    {
+        Limits {
+            nodes: Format::NODES,
+            groups: Format::GROUPS,
+            repeats: Format::REPEATS,
+            width: Format::WIDTH,
+        }
+    }
 }
 
 // What is counted while a sequence is read: the siblings of the innermost level, and of all that was read the nodes,
