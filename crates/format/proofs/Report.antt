@@ -10,19 +10,18 @@ use native.Mathlib.Omega.{arith}
 use lib.ListN.{getD}
 use Rattle.format.specs.Limits.{Prices, of-repeat, priced}
 use Rattle.format.specs.Forest.{Forest, end, step, group, repeat, join, copies, unroll, siblings, cost, bytes, Plain, Allowed, Sound}
+use Rattle.format.specs.Machine.{accepted, read}
+use Rattle.format.specs.Order.{Bytes}
+use Rattle.format.specs.Tree.{tree-of}
 use Rattle.format.specs.Readings.{fold-rules}
 use Rattle.format.specs.Shape.{Reads, tally-of}
 use Rattle.format.specs.Report.{RRT, empty, letter, repetition, count, Valid, append, row, Represents, Width, WidthAtMost, size}
+use Rattle.format.specs.Meaning.{report, TrueWidths, Means}
 use Rattle.format.specs.declared.Tally.{Tally}
 use Rattle.format.proofs.Forests.{siblings-unroll, plain-unroll, sound-join}
+use Rattle.format.proofs.Bridge.{parses}
+use Rattle.format.proofs.Tree.{tree-of-bytes}
 use Rattle.format.proofs.Expansion.{expand, represents, width}
-
--- The report's tree of a sequence, less its root. A step and a group of one label bear one letter: the step is a leaf.
-unfoldable pub report : Forest → RRT ℕ
-report end = empty
-report (step l f) = letter l empty (report f)
-report (group l b f) = letter l (report b) (report f)
-report (repeat h w b f) = repetition h (report b) (report f)
 
 report-join : (f g : Forest) → report (join f g) ≡ append (report f) (report g)
 unfolding report join append
@@ -60,13 +59,6 @@ count-expand b = rw (expand-report b) (count-plain (unroll b) (plain-unroll b) �
 
 pub width-siblings : (b : Forest) → Width (report b) (siblings b)
 width-siblings b = width (report b) (siblings b) .1 (count-expand b)
-
--- Every width operand is the report's width of its repetition.
-abbrev pub TrueWidths : Forest → Type 0
-TrueWidths end = Unit
-TrueWidths (step l f) = TrueWidths f
-TrueWidths (group l b f) = TrueWidths b × TrueWidths f
-TrueWidths (repeat h w b f) = Width (report b) w × TrueWidths b × TrueWidths f
 
 -- The cost is the size, the label prices as weights of the letters and the repeat prices as weights of the numbers.
 pub cost-report :
@@ -200,18 +192,6 @@ module _ (A : Allowed) where
       let e : unroll (fold-of r) ≡ t = represents-run (fold-of r) t s q .0 (rw report-fold-of p) in
       rw (← cost-report P same f, ← report-fold-of r, ← cost-report P same (fold-of r)) (best (fold-of r) s e)
 
--- What the fold reader's acceptance says of the bytes s, the counts t and the run's bytes x in the report's words: s is the
--- byte form of f, and f's tree is one of the report's, of width k, represents the tree of the run, and has the cost for its
--- size, the lent table weighing the letters.
-pub record Means (k : ℕ) (table : List ℕ) (first each : ℕ) (s : List ℕ) (t : Tally) (x : List ℕ) (f : Forest) : Type 0 where
-  pub form : bytes f ≡ s
-  pub text : bytes (unroll f) ≡ x
-  pub valid : Valid (report f)
-  pub represented : Represents (report f) (report (unroll f))
-  pub sized : t .cost ≡ size (λ l. getD table l 0) (λ h. first + each * (h - 2)) (report f)
-  pub widths : TrueWidths f
-  pub within : WidthAtMost k (report f)
-
 pub fold-means :
     {k : ℕ} {table : List ℕ} {first each : ℕ} {s x : List ℕ} {t : Tally} →
     (r : Reads (fold-rules k (priced table first each)) s t x) → Means k table first each s t x (r .tree)
@@ -227,3 +207,12 @@ fold-means {k} {table} {first} {each} r =
       widths = true-widths A (r .tree) (r .shape .sound);
       within = within-report A (r .tree) (r .shape .sound);
     }
+
+-- DEMAND 2, first sentence: bytes that the fold reader accepts mean what the report says, for the tree that they spell.
+pub accepted-means :
+    (k : ℕ) (table : List ℕ) (first each : ℕ) (s : List ℕ) → Bytes s → (t : Tally) (x : List ℕ) →
+    read (fold-rules k (priced table first each)) s ≡ accepted t x → Means k table first each s t x (tree-of s)
+accepted-means k table first each s small t x e =
+    let r = parses (fold-rules k (priced table first each)) s small t x e in
+    let same : tree-of s ≡ r .tree = ap tree-of (sym (r .form)) ∙ tree-of-bytes (r .tree) in
+    rw same (fold-means r)

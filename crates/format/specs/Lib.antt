@@ -8,3 +8,4 @@ pub mod Shape
 pub mod Parts
 pub mod Tree
 pub mod Report
+pub mod Meaning
