@@ -12,7 +12,7 @@ use lib.Seq.{take-at, drop-append-add}
 use borrow.Author.Tests.{eq-eqb}
 use Rattle.format.specs.Forest.{Forest, end, step, group, repeat, bytes, Plain}
 use Rattle.format.specs.Readings.{run-reading}
-use Rattle.format.specs.Parts.{starts, closing, node-size, node-part, part-of, Stands, first-step, first-group, behind-step, inside-group, behind-group}
+use Rattle.format.specs.Parts.{starts, closing, node-size, part-of, Stands, first-step, first-group, behind-step, inside-group, behind-group}
 use Rattle.format.proofs.Bridge.{bytes-injective}
 
 -- A single node of a run.

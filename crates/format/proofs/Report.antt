@@ -4,12 +4,11 @@
 use mathlib.Core.Path.{_≡_, refl, sym, ap, ap₂, _∙_}
 use mathlib.Core.Logic.{_↔_}
 use mathlib.Core.List.{List}
-use Prim.Native.Nat.{ℕ, zero, suc, _+_, _-_, _*_, _≤_, _<_}
+use Prim.Native.Nat.{ℕ, zero, suc, _≤_, _<_}
 use native.Mathlib.Nat.{mul-le-mul-right}
 use native.Mathlib.Omega.{arith}
-use lib.ListN.{getD}
 use Rattle.format.specs.Limits.{Prices, of-repeat, priced}
-use Rattle.format.specs.Forest.{Forest, end, step, group, repeat, join, copies, unroll, siblings, cost, bytes, Plain, Allowed, Sound}
+use Rattle.format.specs.Forest.{Forest, end, step, group, repeat, join, copies, unroll, siblings, cost, Plain, Allowed, Sound}
 use Rattle.format.specs.Machine.{accepted, read}
 use Rattle.format.specs.Order.{Bytes}
 use Rattle.format.specs.Tree.{tree-of}

@@ -1,10 +1,10 @@
 -- The tree of a byte form is the tree that it was made from.
-use mathlib.Core.Path.{_≡_, refl, sym, ap, _∙_}
+use mathlib.Core.Path.{_≡_, ap, _∙_}
 use mathlib.Core.List.{List, [], _∷_, _++_, append-assoc, append-nil}
-use Prim.Native.Nat.{ℕ, zero, suc, _+_, _*_, _/_, _%_}
+use Prim.Native.Nat.{ℕ}
 use native.Mathlib.Nat.{div-add-mod'}
 use Rattle.format.specs.Forest.{Forest, end, step, group, repeat, join, two-bytes, bytes}
-use Rattle.format.specs.Tree.{Partial, Pending, a-group, a-repeat, close, take-in, tree-from, tree-of}
+use Rattle.format.specs.Tree.{Partial, a-group, a-repeat, take-in, tree-from, tree-of}
 use Rattle.format.proofs.Forests.{join-end, join-assoc}
 
 with-items : Partial → Forest → Partial

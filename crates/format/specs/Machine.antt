@@ -1,6 +1,5 @@
 -- The command machine: one pass over the bytes that passes each command or refuses it by the first row of document 01's
 -- table that applies, and counts.
-use mathlib.Core.Path.{_≡_}
 use mathlib.Core.Bool.{Bool, true, false, not, cond, _&&_, _||_}
 use mathlib.Core.List.{List, [], _∷_, _++_}
 use Prim.Native.Nat.{ℕ, zero, suc, _+_, _-_, _*_}

@@ -1,11 +1,11 @@
 -- What the readers answer: document 01's numbers, places and values for every input.
 use mathlib.Core.Path.{_≡_}
-use mathlib.Core.Bool.{Bool, true, false, not, cond}
+use mathlib.Core.Bool.{true, false, not, cond}
 use mathlib.Core.List.{List, []}
-use Prim.Native.Nat.{ℕ, _≤_, _<_}
+use Prim.Native.Nat.{ℕ}
 use lib.Dec.{ltb, eqb}
 use lib.ListN.{length}
-use Rattle.format.specs.Limits.{Limits, limits, Prices, priced}
+use Rattle.format.specs.Limits.{limits, Prices, priced}
 use Rattle.format.specs.Machine.{Rules, Outcome, refused, accepted, read}
 use Rattle.format.specs.declared.Tally.{Tally}
 use Rattle.format.specs.declared.RunReading.{RunReading}

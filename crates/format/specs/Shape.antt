@@ -4,7 +4,7 @@ use mathlib.Core.Bool.{false}
 use mathlib.Core.List.{List}
 use Prim.Native.Nat.{ℕ, _≤_}
 use lib.ListN.{length}
-use Rattle.format.specs.Limits.{Limits, Prices}
+use Rattle.format.specs.Limits.{Prices}
 use Rattle.format.specs.Forest.{Forest, Coded, Sound, Plain, group-depth, repeat-depth, siblings, nodes, cost, bytes, unroll}
 use Rattle.format.specs.Machine.{Rules}
 use Rattle.format.specs.declared.Tally.{Tally}

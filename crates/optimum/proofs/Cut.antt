@@ -4,7 +4,7 @@ use Prim.Native.Nat.{ℕ, zero, suc, _+_, _≤_}
 use native.Mathlib.Numerals.{one-add}
 use native.Mathlib.Decide.{decLe}
 use native.Mathlib.Omega.{arith}
-use Rattle.format.specs.Forest.{Forest, end, step, group, repeat, join, siblings, nodes, Plain, Allowed, Sound}
+use Rattle.format.specs.Forest.{Forest, end, step, group, repeat, join, siblings, nodes, Plain, Allowed}
 use Rattle.format.proofs.Forests.{join-end, siblings-join, nodes-join, sound-parts}
 use Rattle.optimum.specs.Cheapest.{Run, front, back}
 

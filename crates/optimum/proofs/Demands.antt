@@ -7,7 +7,7 @@ use mathlib.Core.Bool.{false≢true}
 use native.Mathlib.Omega.{arith}
 use Rattle.format.specs.Limits.{limits, Prices}
 use Rattle.format.specs.Order.{Bytes, Before}
-use Rattle.format.specs.Forest.{Forest, end, step, group, repeat, join, copies, unroll, siblings, nodes, cost, bytes, Plain, Allowed, Sound, Coded, group-depth, widest-of}
+use Rattle.format.specs.Forest.{Forest, end, step, group, repeat, join, copies, unroll, nodes, cost, bytes, Allowed, Sound, Coded, group-depth, widest-of}
 use Rattle.format.specs.Machine.{accepted, read}
 use Rattle.format.specs.Readings.{run-rules, fold-rules}
 use Rattle.format.specs.Shape.{Shaped, Reads, tally-of}

@@ -9,7 +9,7 @@ use native.Mathlib.Omega.{arith}
 use Rattle.format.specs.Limits.{Prices, of-repeat}
 use Rattle.format.specs.Forest.{Forest, end, step, group, repeat, join, copies, unroll, siblings, cost, bytes, two-bytes, Plain, Allowed, Sound}
 use Rattle.format.specs.Order.{Before}
-use Rattle.format.proofs.Forests.{join-end, bytes-join, cost-join, unroll-join, siblings-unroll, sound-join, sound-parts, same-siblings}
+use Rattle.format.proofs.Forests.{join-end, bytes-join, cost-join, unroll-join, sound-join, sound-parts, same-siblings}
 use Rattle.format.proofs.Order.{irreflexive, asymmetric, transitive, under, ignores, Ordered, compare}
 use Rattle.optimum.specs.Optimal.{FoldOf, NoWorse, cheaper, same, earlier, Optimal}
 

@@ -1,23 +1,21 @@
 -- Each command of the table, passed or refused, as the contracts of the command functions have it.
-use mathlib.Core.Path.{_≡_, refl, sym, ap, _∙_}
-use mathlib.Core.Bool.{Bool, true, false, not}
+use mathlib.Core.Path.{_≡_, refl, _∙_}
+use mathlib.Core.Bool.{true, false}
 use mathlib.Core.List.{List, [], _∷_, _++_}
 use mathlib.Core.Logic.{_≢_}
-use Prim.Native.Nat.{ℕ, zero, suc, _+_, _-_, _*_, _<_, _≤_}
+use Prim.Native.Nat.{ℕ, suc, _+_, _-_, _*_, _<_, _≤_}
 use native.Mathlib.Nat.{mul-le-mul, mul-le-mul-left, mul-le-mul-right, mul-left-comm}
 use native.Mathlib.Omega.{arith}
-use lib.Dec.{ltb, leb, eqb}
+use lib.Dec.{eqb}
 use lib.ListN.{length, getD, drop, length-drop}
 use lib.Seq.{getD-drop}
 use borrow.Author.Tests.{lt-ltb, le-ltb, eq-eqb, ne-eqb, le-leb, lt-leb}
-use Rattle.format.specs.Limits.{of-repeat}
-use Rattle.format.specs.Machine.{Rules, Open, a-group, a-repeat, refusal, place-of, put-step, enter-group, leave-group, enter-repeat, leave-repeat, with-node, inside, after-group, after-repeat, open-groups, open-repeats, count, width, times}
+use Rattle.format.specs.Machine.{Rules, Open, a-group, a-repeat, refusal, place-of, put-step, enter-group, leave-group, enter-repeat, leave-repeat, with-node, after-group, after-repeat, count, width, times}
 use Rattle.format.specs.declared.Tally.{Tally}
-use Rattle.format.proofs.Machine.{refusal-step, refusal-group, refusal-group-end, refusal-repeat, refusal-repeat-end, refusal-unknown, repeat-passes, group-end-passes, repeat-end-passes, scan-step, scan-group, scan-group-end, scan-repeat, scan-repeat-end}
-use Rattle.reader.specs.Walk.{from, rules-of, At, Halted, Room, Grown, OpenAt, Item, Entered, Left, in-group-of, in-repeat-of, word-at, repeat-at}
+use Rattle.format.proofs.Machine.{refusal-step, refusal-group, refusal-group-end, refusal-repeat, refusal-repeat-end, repeat-passes, group-end-passes, repeat-end-passes, scan-step, scan-group, scan-group-end, scan-repeat, scan-repeat-end}
+use Rattle.reader.specs.Walk.{rules-of, At, Halted, Room, Grown, OpenAt, Item, Entered, Left, in-group-of, in-repeat-of, word-at, repeat-at}
 use Rattle.reader.specs.declared.command.Terms.{Terms}
 use Rattle.reader.specs.declared.command.Depth.{Depth}
-use Rattle.reader.specs.declared.command.Walk.{Walk}
 use Rattle.reader.proofs.Walking.{at, cut-one, cut-two, cut-five, stop, stop-end, item-refused, entered-refused, left-refused}
 
 -- What is left behind a command, in numbers.

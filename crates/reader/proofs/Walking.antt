@@ -1,17 +1,17 @@
 -- Laws of reading on from an offset: one passed or refused command as the walk's records have it, and walks one after another.
-use mathlib.Core.Path.{_≡_, refl, sym, ap, _∙_}
-use mathlib.Core.List.{List, [], _∷_, _++_}
+use mathlib.Core.Path.{_≡_, refl, ap, _∙_}
+use mathlib.Core.List.{List, [], _∷_}
 use mathlib.Core.Logic.{_≢_}
-use Prim.Native.Nat.{ℕ, zero, suc, _+_, _-_, _*_, _<_, _≤_}
+use Prim.Native.Nat.{ℕ, suc, _+_, _<_, _≤_}
 use native.Mathlib.Numerals.{add-one}
 use native.Mathlib.Omega.{arith}
 use lib.ListN.{length, getD, drop, length-drop}
 use lib.Seq.{drop-cons, drop-length}
 use borrow.Author.Tests.{ne-eqb}
-use Rattle.format.specs.Machine.{Rules, Open, a-group, a-repeat, Outcome, State, refused, accepted, scan, refusal, place-of, at-end}
+use Rattle.format.specs.Machine.{Rules, Open, a-group, a-repeat, State, refused, accepted, refusal, place-of}
 use Rattle.format.specs.declared.Tally.{Tally}
 use Rattle.format.proofs.Machine.{scan-refuse, scan-end, refusal-unknown}
-use Rattle.reader.specs.Walk.{from, Leads, Stops, OpenAt, Moves, Halted, Room, Grown, Item, Sequence, Entered, Left, NoClose, in-group-of, in-repeat-of}
+use Rattle.reader.specs.Walk.{from, Leads, Stops, OpenAt, Halted, Room, Grown, Item, Sequence, Entered, Left, NoClose, in-group-of, in-repeat-of}
 use Rattle.reader.specs.declared.command.Depth.{Depth}
 use Rattle.reader.specs.declared.command.Walk.{Walk}
 

@@ -1,5 +1,5 @@
 -- From the walk over the top sequence to the reading of the whole input, and to the readers' answers.
-use mathlib.Core.Path.{_≡_, refl, sym, ap, _∙_}
+use mathlib.Core.Path.{_≡_, refl, _∙_}
 use mathlib.Core.Bool.{Bool, true, false}
 use mathlib.Core.List.{List, []}
 use mathlib.Core.Logic.{_≢_}
@@ -8,14 +8,12 @@ use native.Mathlib.Omega.{arith}
 use lib.Dec.{eqb}
 use lib.ListN.{length, getD, drop}
 use borrow.Author.Tests.{ne-eqb, eq-eqb, eqb-true, eqb-false, lt-ltb, le-ltb}
-use Rattle.format.specs.Limits.{Prices, priced}
-use Rattle.format.specs.Machine.{Rules, Outcome, refused, accepted, read, refusal, start}
-use Rattle.format.specs.Readings.{run-rules, run-reading, run-answer, fold-rules, fold-outcome, fold-reading, fold-answer}
+use Rattle.format.specs.Limits.{priced}
+use Rattle.format.specs.Machine.{Rules, read, refusal}
+use Rattle.format.specs.Readings.{run-rules, run-reading, fold-rules, fold-reading, fold-answer}
 use Rattle.format.specs.declared.Tally.{Tally}
-use Rattle.format.specs.declared.RunReading.{RunReading}
-use Rattle.format.specs.declared.FoldReading.{FoldReading}
 use Rattle.format.proofs.Machine.{refusal-group-end, refusal-repeat-end}
-use Rattle.reader.specs.Walk.{from, rules-of, Sequence, Halted, OpenAt, Whole, outcome}
+use Rattle.reader.specs.Walk.{from, rules-of, Sequence, OpenAt, Whole, outcome}
 use Rattle.reader.specs.declared.command.Terms.{Terms}
 use Rattle.reader.specs.declared.command.Depth.{Depth}
 use Rattle.reader.specs.declared.command.Walk.{Walk}

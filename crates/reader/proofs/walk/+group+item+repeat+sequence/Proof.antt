@@ -1,6 +1,6 @@
 -- The proof of the walk's cycle of calls. Each member falls by the bytes that are left; between calls at one offset a sequence
 -- stands above an item, and an item above a group or a repeat.
-use Prim.Native.Nat.{ℕ, _+_, _-_, _*_, _<_, _≤_}
+use Prim.Native.Nat.{ℕ, _+_, _-_, _*_, _<_}
 use native.Mathlib.Omega.{arith}
 use lib.ListN.{length}
 use borrow.Fn.Kinds.{In}
