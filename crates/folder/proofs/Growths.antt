@@ -1,0 +1,208 @@
+-- What a row starts from: the matches grown by one sibling, the keys reset, and the cost of one sibling by itself.
+use mathlib.Core.Path.{_≡_, refl, sym, _∙_}
+use mathlib.Core.List.{List}
+use Prim.Native.Nat.{ℕ, _+_, _<_, _≤_}
+use native.Mathlib.Nat.{zero-add}
+use native.Mathlib.Numerals.{add-one}
+use native.Mathlib.Decide.{decLt, ℕ-discrete}
+use native.Mathlib.Omega.{arith}
+use lib.ListN.{length, getD, set, length-set}
+use lib.Seq.{getD-set-same, getD-set-other}
+use Rattle.format.specs.Forest.{Forest, Allowed, siblings}
+use Rattle.format.specs.Tree.{tree-of}
+use Rattle.optimum.specs.Cheapest.{Run, front, back, node}
+use Rattle.optimum.proofs.Cut.{front-whole, back-back, siblings-back, siblings-le-nodes, run-back, run-body}
+use Rattle.optimum.proofs.Powers.{node-back, shift-grow}
+use Rattle.optimum.proofs.Cheapest.{best-cost-step, best-cost-group}
+use Rattle.folder.specs.Table.{Spelled, Numbered, Classed, cell, number}
+use Rattle.folder.specs.Rows.{Matched, Matches, Growing, Rising, Single, no-key}
+use Rattle.folder.proofs.Cells.{cell-in}
+use Rattle.folder.proofs.Tables.{number-first, number-last, number-after-group, number-mono, below-at}
+use Rattle.folder.proofs.Listings.{entry-more, entry-all, equal-kinds, kinds-equal, Sibling, is-step, is-group}
+
+-- From sibling i on there is one more than from the next on.
+further : (A : Allowed) (t : Forest) → Run A t → (i : ℕ) → i < siblings t → siblings (back i t) ≡ siblings (back (i + 1) t) + 1
+further A t r i h =
+    omega (arith, siblings-back i t (r .plain) (omega arith), siblings-back (i + 1) t (r .plain) (omega arith))
+
+-- One sibling more in front: the matches at a width grow by one, or there are none.
+module _ (A : Allowed) (t : Forest) (r : Run A t) (i : ℕ) (h : i < siblings t) (w : ℕ) where
+  matched-more : (k : ℕ) → node i t ≡ node (i + w) t → Matched (back (i + 1) t) w k → Matched (back i t) w (k + 1)
+  unfolding back
+  matched-more k e m =
+      let next = back-back i 1 (i + 1) t refl in
+      let same : node 0 (back i t) ≡ node w (back i t) = e ∙ sym (node-back i w (i + w) t refl) in
+      record {
+        shift = rw add-one (shift-grow k w (back i t) same (rw next (m .shift)));
+        bound = omega (arith, m .bound, further A t r i h);
+        stop = λ l q. m .stop (omega (arith, further A t r i h))
+            (node-back (i + 1) k (i + (k + 1)) t (omega arith)
+            ∙ sym (node-back i (k + 1) (i + (k + 1)) t refl)
+            ∙ q
+            ∙ node-back i (k + 1 + w) (i + (k + 1 + w)) t refl
+            ∙ sym (node-back (i + 1) (k + w) (i + (k + 1 + w)) t (omega arith)));
+      }
+
+  matched-none : i + w ≤ siblings t → (i + w < siblings t → node i t ≡ node (i + w) t → ⊥) → Matched (back i t) w 0
+  unfolding front back
+  matched-none l z =
+      let all = siblings-back i t (r .plain) (omega arith) in
+      record {
+        shift = refl;
+        bound = omega arith;
+        stop = λ m q. z (omega arith) (q ∙ node-back i (0 + w) (i + w) t (omega arith));
+      }
+
+-- The matches below width w are grown, the others as they were.
+pub record Grown (kinds : List ℕ) (i w : ℕ) (before after : List ℕ) : Type 0 where
+  pub long : length after ≡ 1025
+  pub low : (v : ℕ) → getD after v 0 + i ≤ 1024
+  pub more : (v : ℕ) → 0 < v → v < w → getD kinds i 0 ≡ getD kinds (i + v) 0 → getD after v 0 ≡ getD before v 0 + 1
+  pub none : (v : ℕ) → 0 < v → v < w → (getD kinds i 0 ≡ getD kinds (i + v) 0 → ⊥) → getD after v 0 ≡ 0
+  pub later : (v : ℕ) → w ≤ v → getD after v 0 ≡ getD before v 0
+
+pub grown-none : (kinds : List ℕ) (i : ℕ) (before : List ℕ) → length before ≡ 1025 → ((v : ℕ) → getD before v 0 + i < 1024)
+    → Grown kinds i 1 before before
+grown-none kinds i before long low =
+    record {
+      long = long;
+      low = λ v. omega (arith, low v);
+      more = λ v h l e. absurd (omega arith);
+      none = λ v h l e. absurd (omega arith);
+      later = λ v h. refl;
+    }
+
+module _ (kinds : List ℕ) (i w : ℕ) (before after : List ℕ) (g : Grown kinds i w before after) (short : w < 1025) where
+  -- One width more.
+  put-more : (x : ℕ) → x + i ≤ 1024 → (getD kinds i 0 ≡ getD kinds (i + w) 0 → x ≡ getD before w 0 + 1)
+      → ((getD kinds i 0 ≡ getD kinds (i + w) 0 → ⊥) → x ≡ 0) → Grown kinds i (w + 1) before (set after w x)
+  put-more x h p q =
+      record {
+        long = simp length-set (g .long);
+        low = entry-all (λ y. y + i ≤ 1024) after w x (omega (arith, g .long)) (g .low) h;
+        more = λ v a l. entry-more (λ u y. 0 < u → getD kinds i 0 ≡ getD kinds (i + u) 0 → y ≡ getD before u 0 + 1) after w x (omega (arith, g .long))
+            (λ u k b. g .more u b k) (λ b. p) v l a;
+        none = λ v a l. entry-more (λ u y. 0 < u → (getD kinds i 0 ≡ getD kinds (i + u) 0 → ⊥) → y ≡ 0) after w x (omega (arith, g .long))
+            (λ u k b. g .none u b k) (λ b. q) v l a;
+        later = λ v l. getD-set-other after w v x 0 (λ e. omega arith) ∙ g .later v (omega arith);
+      }
+
+  pub grown-same : getD before w 0 + i < 1024 → getD kinds i 0 ≡ getD kinds (i + w) 0 → Grown kinds i (w + 1) before (set after w (getD after w 0 + 1))
+  grown-same h e =
+      let x = g .later w (omega arith) in
+      put-more (getD after w 0 + 1) (omega arith) (λ p. omega arith) (λ p. absurd (p e))
+
+  pub grown-other : i ≤ 1024 → (getD kinds i 0 ≡ getD kinds (i + w) 0 → ⊥) → Grown kinds i (w + 1) before (set after w 0)
+  grown-other h n = put-more 0 (omega arith) (λ e. absurd (n e)) (λ e. refl)
+
+  -- At the last width nothing is left to match.
+  pub grown-all : (m : ℕ) → i < m → m ≤ 1024 → i + w ≡ m → Growing kinds i m before (set after w 0)
+  grown-all m some few last =
+      record {
+        long = simp length-set (g .long);
+        low = entry-all (λ y. y + i ≤ 1024) after w 0 (omega (arith, g .long)) (g .low) (omega arith);
+        matches = matches;
+      }
+    where
+      matches : (A : Allowed) (t : Forest) → Run A t → siblings t ≡ m → Classed t m kinds → Matches (back (i + 1) t) before
+          → Matches (back i t) (set after w 0)
+      matches A t r n c b = record { matched = λ v h l. by-place v h l (decLt v w) }
+        where
+          by-place : (v : ℕ) → 0 < v → v ≤ siblings (back i t) → Dec (v < w) → Matched (back i t) v (getD (set after w 0) v 0)
+          by-place v h l (yes k) = rw (getD-set-other after w v 0 0 (λ e. omega arith)) (by-kind (ℕ-discrete (getD kinds i 0) (getD kinds (i + v) 0)))
+            where
+              by-kind : Dec (getD kinds i 0 ≡ getD kinds (i + v) 0) → Matched (back i t) v (getD after v 0)
+              by-kind (yes e) =
+                  rw (g .more v h k e)
+                  (matched-more A t r i (omega arith) v (getD before v 0)
+                  (equal-kinds t i (i + v) _ _ (c .class i some) (c .class (i + v) (omega arith)) e)
+                  (b .matched v h (omega (arith, further A t r i (omega arith), siblings-back i t (r .plain) (omega arith)))))
+              by-kind (no e) =
+                  rw (g .none v h k e)
+                  (matched-none A t r i (omega arith) v (omega arith)
+                  (λ a q. e (kinds-equal t i (i + v) _ _ (c .class i some) (c .class (i + v) (omega arith)) q)))
+          by-place v h l (no k) =
+              let e : v ≡ w = omega (arith, siblings-back i t (r .plain) (omega arith)) in
+              rw (e, getD-set-same after w 0 0 (omega (arith, g .long)))
+              (matched-none A t r i (omega arith) w (omega arith) (λ a q. omega arith))
+
+-- The keys up to cover c are reset.
+pub record Cleared (c : ℕ) (least : List ℕ) : Type 0 where
+  pub long : length least ≡ 1025
+  pub none : (k : ℕ) → k < c → getD least k 0 ≡ no-key
+  pub low : (k : ℕ) → getD least k 0 ≤ no-key
+
+pub cleared-more : (c : ℕ) (least : List ℕ) → c < 1025 → Cleared c least → Cleared (c + 1) (set least c no-key)
+cleared-more c least h d =
+    record {
+      long = simp length-set (d .long);
+      none = entry-more (λ k x. x ≡ no-key) least c no-key (omega (arith, d .long)) (d .none) refl;
+      low = entry-all (λ x. x ≤ no-key) least c no-key (omega (arith, d .long)) (d .low) (omega arith);
+    }
+
+-- The cost of sibling i by itself, by its first byte c and its label l.
+module _ (s : List ℕ) (i c l : ℕ) (x : Sibling (tree-of s) i c l) where
+  pub own-step : (table costs numbers : List ℕ) → c ≡ 0x10 → (r : ℕ) → r ≡ getD table l 0 → Single s table costs numbers i r
+  unfolding front
+  own-step table costs numbers e r q = by-form x
+    where
+      by-form : Sibling (tree-of s) i c l → Single s table costs numbers i r
+      by-form (is-step f p d) =
+          record { costs-it = λ A P choices st gr w. q ∙ sym (st l) ∙ sym (best-cost-step A P l) ∙ rw p }
+      by-form (is-group g f p d) = absurd (omega arith)
+
+  module _ (numbers : List ℕ) (z : Spelled s) (h : i < siblings (tree-of s)) (numbered : Numbered (getD numbers 0 0) (tree-of s) numbers)
+      (other : c ≡ 0x10 → ⊥) where
+    -- The interval of what a group holds is not empty.
+    pub own-inside : getD numbers i 0 + 1 < getD numbers (i + 1) 0
+    own-inside = by-form x
+      where
+        by-form : Sibling (tree-of s) i c l → getD numbers i 0 + 1 < getD numbers (i + 1) 0
+        by-form (is-step f p d) = absurd (other d)
+        by-form (is-group g f p d) =
+            let r = rw p at (run-back i (z .run (record { widest = 0 }))) in
+            omega (
+              arith,
+              numbered .numbered i (omega arith),
+              numbered .numbered (i + 1) (omega arith),
+              number-after-group (getD numbers 0 0) i (tree-of s) l g f p,
+              r .sound .0,
+              siblings-le-nodes g (run-body r .plain),
+            )
+
+    -- And the table has its entry.
+    pub own-cell : (room : ℕ) → Rising numbers (siblings (tree-of s)) room → cell (getD numbers i 0 + 1) (getD numbers (i + 1) 0) < room
+    own-cell room r =
+        let within : getD numbers (i + 1) 0 ≤ getD numbers (siblings (tree-of s)) 0 =
+        rw (numbered .numbered (i + 1) (omega arith), numbered .numbered (siblings (tree-of s)) (omega arith))
+        (number-mono (getD numbers 0 0) (i + 1) (siblings (tree-of s)) (tree-of s) (omega arith)) in
+        omega (arith, cell-in _ _ (getD numbers (siblings (tree-of s)) 0) own-inside within, r .fits)
+
+    -- The top entry of what the group holds is the cost of all of it.
+    pub own-group : (table costs : List ℕ) (r : ℕ) → r ≡ getD table l 0 + getD costs (cell (getD numbers i 0 + 1) (getD numbers (i + 1) 0)) 0
+        → Single s table costs numbers i r
+    unfolding front back
+    own-group table costs r q = by-form x
+      where
+        by-form : Sibling (tree-of s) i c l → Single s table costs numbers i r
+        by-form (is-step f p d) = absurd (other d)
+        by-form (is-group g f p d) =
+            record {
+              costs-it = λ A P choices st gr w.
+                  let u = rw p at (run-back i (z .run A)) in
+                  let b = number (getD numbers 0 0) (tree-of s) i in
+                  let v = below-at A P costs choices (getD numbers 0 0) (tree-of s) i l g f (z .run A) p w in
+                  let top = v .top .entry 0 (siblings g) (omega arith) (u .sound .0) (omega arith) .costs in
+                  let first : number (b + 1) g 0 ≡ getD numbers i 0 + 1 =
+                  omega (arith, number-first (b + 1) g, numbered .numbered i (omega arith)) in
+                  let last : number (b + 1) g (0 + siblings g) ≡ getD numbers (i + 1) 0 =
+                  rw zero-add
+                  (omega (
+                    arith,
+                    number-last (b + 1) g (run-body u .plain),
+                    numbered .numbered (i + 1) (omega arith),
+                    number-after-group (getD numbers 0 0) i (tree-of s) l g f p,
+                  )) in
+                  let whole = rw (first, last, front-whole (siblings g) g (run-body u .plain) refl) at top in
+                  rw p (omega (arith, q, gr l, best-cost-group A P l g (run-body u) (u .sound .0), whole));
+            }

@@ -1,0 +1,182 @@
+-- Filling a level: what a row is solved from, what one more row enters, and the end of the last.
+use mathlib.Core.Path.{_≡_, refl, _∙_}
+use mathlib.Core.List.{List}
+use Prim.Native.Nat.{ℕ, zero, suc, _+_, _-_, _≤_}
+use native.Mathlib.Omega.{arith}
+use lib.ListN.{length, getD, replicate}
+use Rattle.format.specs.Forest.{siblings, nodes}
+use Rattle.format.specs.Tree.{tree-of}
+use Rattle.optimum.specs.Cheapest.{Run, back}
+use Rattle.optimum.proofs.Cut.{siblings-le-nodes, siblings-back}
+use Rattle.folder.specs.Table.{Entered, Below, Filled, Kept, KeptOthers, Placed, Numbered, Classed, at-most, prices-of, cells}
+use Rattle.folder.specs.Rows.{Rising, Stored, Single, Matches, Growing, RowReady, RowSolved, LevelReady, RowGround, ScratchReady}
+use Rattle.folder.proofs.Tables.{number-first, rising-numbered, stored-entered, stored-kept, entered-none}
+use Rattle.folder.proofs.Tables.{kept-others-none, kept-others-then, kept-of-others, below-others}
+
+-- No more siblings than nodes.
+pub siblings-few : {s : List ℕ} {b limit : ℕ} {table prices costs choices : List ℕ} → LevelReady s b limit table prices costs choices
+    → siblings (tree-of s) ≤ 1024
+siblings-few {s} {limit = limit} ready =
+    omega (arith, siblings-le-nodes (tree-of s) (ready .spelled .run (at-most limit) .plain), ready .total)
+
+-- What a row is solved from: the siblings listed, and the rows further on entered.
+module _ {s : List ℕ} {limit : ℕ} {table prices costs choices offsets numbers matches : List ℕ} {i m : ℕ}
+    (ready : LevelReady s (getD numbers 0 0) limit table prices costs choices) (ground : RowGround s offsets numbers i m matches) where
+  pub level-rising : (k room : ℕ) → cells (getD numbers 0 0 + nodes (tree-of s)) ≤ room → k ≤ m → Rising numbers k room
+  level-rising k room fits h =
+      let few = siblings-few ready in
+      rising-numbered (at-most limit) (getD numbers 0 0) (tree-of s) numbers room k (ground .numbered .numbered) (ready .spelled .run (at-most limit))
+      (ready .total) fits (ground .long-numbers) few (omega (arith, ground .count))
+
+  pub row-ready : {own : ℕ} → Single s table costs numbers i own
+      → Entered (at-most limit) (prices-of table prices) (getD numbers 0 0) (tree-of s) (i + 1) costs choices
+      → Below (at-most limit) (prices-of table prices) (getD numbers 0 0) (tree-of s) costs choices
+      → RowReady costs numbers i m own limit prices matches
+  row-ready single entered below =
+      record {
+        tree = tree-of s;
+        allowed = at-most limit;
+        prices-are = prices-of table prices;
+        base = getD numbers 0 0;
+        choices = choices;
+        run = ready .spelled .run (at-most limit);
+        count = ground .count;
+        total = omega (arith, ready .total);
+        some = ground .some;
+        limited = refl;
+        priced = record { long = ready .prepared .long; price-of = ready .prepared .price-of; small = ready .prepared .small };
+        step-low = ready .prepared .low;
+        group-low = ready .prepared .low;
+        numbers-are = ground .numbered;
+        rows-below = entered;
+        own-cost = single .costs-it (at-most limit) (prices-of table prices) choices (λ l. refl) (λ l. refl) below;
+        matches = ground .matched;
+      }
+
+  -- The solved row stored: one more sibling is entered, and nothing but stretches of this sequence has changed.
+  module _ {own : ℕ} (single : Single s table costs numbers i own)
+      (entered : Entered (at-most limit) (prices-of table prices) (getD numbers 0 0) (tree-of s) (i + 1) costs choices)
+      (below : Below (at-most limit) (prices-of table prices) (getD numbers 0 0) (tree-of s) costs choices) where
+    pub row-entered : {rowcosts rowchoices costs′ choices′ : List ℕ} → RowSolved costs numbers i m own limit prices matches rowcosts rowchoices
+        → Stored numbers i (m - i) rowcosts costs costs′ → Stored numbers i (m - i) rowchoices choices choices′
+        → Entered (at-most limit) (prices-of table prices) (getD numbers 0 0) (tree-of s) i costs′ choices′
+    unfolding row-ready
+    row-entered r c k =
+        let few = ground .some in
+        stored-entered (at-most limit) (getD numbers 0 0) (tree-of s) numbers i (m - i) (ready .spelled .run (at-most limit)) (omega (arith, ground .count))
+        (ground .numbered .numbered) (prices-of table prices) _ _ _ _ _ _ (r .solved (row-ready single entered below) (m - i) (omega arith)) c k entered
+
+  pub row-kept : {row before after : List ℕ} → Stored numbers i (m - i) row before after → KeptOthers (getD numbers 0 0) (tree-of s) before after
+  row-kept {row} {before} {after} =
+      let few = ground .some in
+      stored-kept (at-most limit) (getD numbers 0 0) (tree-of s) numbers i (m - i) (ready .spelled .run (at-most limit)) (omega (arith, ground .count))
+      (ground .numbered .numbered) row before after
+
+-- Arrays of zeros are ready to work in.
+zeros : (n i : ℕ) → getD {A = ℕ} (replicate n 0) i 0 ≡ 0
+zeros zero i = refl
+zeros (suc n) zero = refl
+zeros (suc n) (suc i) = zeros n i
+
+pub scratch-none : ScratchReady (replicate 1025 0) (replicate 1025 0) (replicate 1025 0) (replicate 1025 0)
+scratch-none =
+    record {
+      long-least = refl;
+      low = λ c. omega (arith, zeros 1025 c);
+      long-covers = refl;
+      long-costs = refl;
+      long-choices = refl;
+      first-cost = omega arith;
+      first-choice = omega arith;
+    }
+
+-- The loop from the last sibling to the first: the rows from sibling i on are entered, and the matches from there on known.
+pub record Descended (s : List ℕ) (b limit : ℕ) (table prices costs₀ choices₀ : List ℕ) (i : ℕ) (costs choices matches : List ℕ) : Type 0 where
+  pub entered : Entered (at-most limit) (prices-of table prices) b (tree-of s) i costs choices
+  pub kept-costs : KeptOthers b (tree-of s) costs₀ costs
+  pub kept-choices : KeptOthers b (tree-of s) choices₀ choices
+  pub long-matches : length matches ≡ 1025
+  pub matched : Matches (back i (tree-of s)) matches
+  pub low : (w : ℕ) → getD matches w 0 + i ≤ 1024
+
+module _ {s : List ℕ} {b limit : ℕ} {table prices costs₀ choices₀ : List ℕ} (ready : LevelReady s b limit table prices costs₀ choices₀) where
+  run : Run (at-most limit) (tree-of s)
+  run = ready .spelled .run (at-most limit)
+
+  -- Past the last sibling nothing is left to enter or to match.
+  pub descended-none : (m : ℕ) → m ≡ siblings (tree-of s) → Descended s b limit table prices costs₀ choices₀ m costs₀ choices₀ (replicate 1025 0)
+  descended-none m e =
+      record {
+        entered = rw e (entered-none _ _ _ _ _ _);
+        kept-costs = kept-others-none _ _ _;
+        kept-choices = kept-others-none _ _ _;
+        long-matches = refl;
+        matched = record { matched = λ w p q. absurd (omega (arith, siblings-back m (tree-of s) (run .plain) (omega arith))) };
+        low = λ w. omega (arith, zeros 1025 w, siblings-few ready);
+      }
+
+  -- The next row, of sibling j: what it is solved from, and what it leaves.
+  module _ {m i j : ℕ} {costs choices matches matches′ kinds numbers : List ℕ} (count : siblings (tree-of s) ≡ m) (next : j + 1 ≡ i) (near : i ≤ m)
+      (numbered : Numbered b (tree-of s) numbers) (d : Descended s b limit table prices costs₀ choices₀ i costs choices matches)
+      (classed : Classed (tree-of s) m kinds) (g : Growing kinds j m matches matches′) where
+    first : getD numbers 0 0 ≡ b
+    first = numbered .numbered 0 (omega arith) ∙ number-first b (tree-of s)
+
+    level-again : LevelReady s (getD numbers 0 0) limit table prices costs choices
+    level-again =
+        rw first (record {
+          spelled = ready .spelled;
+          total = ready .total;
+          cost-room = rw (d .kept-costs .same-length) (ready .cost-room);
+          choice-room = rw (d .kept-choices .same-length) (ready .choice-room);
+          prepared = ready .prepared;
+        })
+
+    matched-again : Matches (back j (tree-of s)) matches′
+    matched-again = g .matches (at-most limit) (tree-of s) run count classed (rw next (d .matched))
+
+    row-ground : {offsets : List ℕ} → length offsets ≡ 1025 → Placed s offsets → length numbers ≡ 1025 → RowGround s offsets numbers j m matches′
+    row-ground long placed long-numbers =
+        record {
+          long-offsets = long;
+          placed = placed;
+          long-numbers = long-numbers;
+          numbered = rw first numbered;
+          count = count;
+          some = omega arith;
+          long-matches = g .long;
+          matched = matched-again;
+        }
+
+    pub row-asks : {offsets least covers rowcosts rowchoices : List ℕ} → (length offsets ≡ 1025) × Placed s offsets → length numbers ≡ 1025
+        → ScratchReady least covers rowcosts rowchoices → Below (at-most limit) (prices-of table prices) b (tree-of s) costs₀ choices₀
+        → LevelReady s (getD numbers 0 0) limit table prices costs choices
+        × (RowGround s offsets numbers j m matches′
+        × (ScratchReady least covers rowcosts rowchoices
+        × (Entered (at-most limit) (prices-of table prices) (getD numbers 0 0) (tree-of s) (j + 1) costs choices
+        × Below (at-most limit) (prices-of table prices) (getD numbers 0 0) (tree-of s) costs choices)))
+    row-asks placed long scratch below =
+        let kept = below-others _ _ _ run _ _ _ _ _ (d .kept-costs) (d .kept-choices) below in
+        (level-again, (row-ground (placed .0) (placed .1) long, (scratch, (rw (first, next) (d .entered), rw first kept))))
+
+    pub descended-more : {costs′ choices′ : List ℕ} → Entered (at-most limit) (prices-of table prices) (getD numbers 0 0) (tree-of s) j costs′ choices′
+        → KeptOthers (getD numbers 0 0) (tree-of s) costs costs′ → KeptOthers (getD numbers 0 0) (tree-of s) choices choices′
+        → Descended s b limit table prices costs₀ choices₀ j costs′ choices′ matches′
+    descended-more e kc kk =
+        record {
+          entered = rw first at e;
+          kept-costs = kept-others-then _ _ _ _ _ (d .kept-costs) (rw first at kc);
+          kept-choices = kept-others-then _ _ _ _ _ (d .kept-choices) (rw first at kk);
+          long-matches = g .long;
+          matched = matched-again;
+          low = g .low;
+        }
+
+  -- Down to the first sibling the level is filled, and nothing outside its interval has changed.
+  module _ {costs choices matches : List ℕ} (d : Descended s b limit table prices costs₀ choices₀ 0 costs choices matches) where
+    pub level-filled : Below (at-most limit) (prices-of table prices) b (tree-of s) costs₀ choices₀
+        → Filled (at-most limit) (prices-of table prices) b (tree-of s) costs choices
+    level-filled w = record { top = d .entered; below = below-others _ _ _ run _ _ _ _ _ (d .kept-costs) (d .kept-choices) w }
+
+    pub level-kept : Kept b (nodes (tree-of s)) costs₀ costs × Kept b (nodes (tree-of s)) choices₀ choices
+    level-kept = (kept-of-others _ _ _ _ _ run (d .kept-costs), kept-of-others _ _ _ _ _ run (d .kept-choices))

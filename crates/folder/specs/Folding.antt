@@ -1,0 +1,58 @@
+-- What the folder answers, writes and leaves in the work slices, for every run, limit, prices and lent slices.
+use mathlib.Core.Path.{_≡_}
+use mathlib.Core.Bool.{Bool, not, cond, _||_}
+use mathlib.Core.List.{List, _++_}
+use Prim.Native.Nat.{ℕ}
+use lib.Dec.{eqb, ltb}
+use lib.ListN.{length, drop, replicate}
+use Rattle.format.specs.Limits.{limits, Prices, priced}
+use Rattle.format.specs.Forest.{Allowed, bytes}
+use Rattle.format.specs.Machine.{Outcome, refused, accepted, read}
+use Rattle.format.specs.Readings.{run-rules}
+use Rattle.format.specs.Tree.{tree-of}
+use Rattle.format.specs.declared.Folded.{Folded}
+use Rattle.optimum.specs.Cheapest.{cheapest, best-cost}
+use Rattle.folder.specs.Table.{cells, at-most}
+
+-- What follows from the run and the prices alone: a refusal, or the nodes, the bytes of the cheapest fold and its cost.
+pub data Verdict : Type 0 where
+  refuses : (number place : ℕ) → Verdict
+  folds : (nodes : ℕ) (fold : List ℕ) (cost : ℕ) → Verdict
+
+abbrev pub of-run : Allowed → Prices → List ℕ → Outcome → Verdict
+of-run A P s (refused n p) = refuses n p
+of-run A P s (accepted t x) = folds (t .nodes) (bytes (cheapest A P (tree-of s))) (best-cost A P (tree-of s))
+
+-- 11 for the table, then 12 for the limit, then the run's own refusals.
+unfoldable pub folding : List ℕ → (limit : ℕ) → (table : List ℕ) → (first each : ℕ) → Verdict
+unfolding read
+folding s k table first each =
+    cond (not (eqb (length table) 256)) (refuses 11 0)
+    (cond (ltb (limits .width) k) (refuses 12 0)
+    (of-run (at-most k) (priced table first each) s (read run-rules s)))
+
+-- A work slice is too short for n nodes.
+abbrev pub short-work : (n costs choices : ℕ) → Bool
+short-work n a b = ltb a (cells n) || ltb b (cells n)
+
+-- The answer: then 13 for the work slices, then 14 where the output is shorter than the fold.
+abbrev pub fold-answer : Verdict → (costs choices room : ℕ) → Folded
+fold-answer (refuses n p) a b o = record { refusal = n; place = p; length = 0; cost = 0 }
+fold-answer (folds n f c) a b o =
+    cond (short-work n a b) (record { refusal = 13; place = 0; length = 0; cost = 0 })
+    (cond (ltb o (length f)) (record { refusal = 14; place = 0; length = 0; cost = 0 })
+    (record { refusal = 0; place = 0; length = length f; cost = c }))
+
+-- The output afterwards: the fold in front and the rest as it was; all as it was after a refusal.
+abbrev pub fold-output : Verdict → (costs choices : ℕ) → List ℕ → List ℕ
+fold-output (refuses n p) a b out = out
+fold-output (folds n f c) a b out =
+    cond (short-work n a b) out
+    (cond (ltb (length out) (length f)) out
+    (f ++ drop (length f) out))
+
+-- A work slice afterwards: its first entries, as many as n nodes need, cleared and the others as they were; all as it was after
+-- a refusal other than 14.
+abbrev pub fold-work : Verdict → (costs choices : ℕ) → List ℕ → List ℕ
+fold-work (refuses n p) a b w = w
+fold-work (folds n f c) a b w = cond (short-work n a b) w (replicate (cells n) 0 ++ drop (cells n) w)

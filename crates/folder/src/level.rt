@@ -1,0 +1,151 @@
+// Filling the table: the stretches of one sequence, after the sequences inside its groups.
+use crate::listing::classify;
+use crate::listing::count_nodes;
+use crate::listing::list_siblings;
+use crate::row::grow;
+use crate::row::own_cost;
+use crate::row::reset;
+use crate::row::solve;
+use crate::table::store_row;
+use format::Format;
+use reader::node_at;
+ghost use Prim.Native.Nat.{_+_};
+ghost use lib.ListN.{getD};
+ghost use Rattle.format.specs.Forest.{nodes};
+ghost use Rattle.format.specs.Tree.{tree-of};
+ghost use Rattle.folder.specs.Table.{Below, Entered, Filled, Kept, KeptOthers, at-most, prices-of};
+ghost use Rattle.folder.specs.Rows.{LevelReady, RowGround, ScratchReady};
+
+// Solves and enters the row of sibling i.
+pub fn enter_row(
+    s: &[u8],
+    table: &[u16],
+    prices: &[u64],
+    limit: usize,
+    offsets: &[usize],
+    numbers: &[usize],
+    i: usize,
+    m: usize,
+    matches: &[usize],
+    least: &mut [u64],
+    covers: &mut [usize],
+    row_costs: &mut [u64],
+    row_choices: &mut [u64],
+    costs: &mut [u32],
+    choices: &mut [u32],
+)
+    requires { ⌜ LevelReady (now s) (getD (now numbers) 0 0) limit (now table) (now prices) (now costs) (now choices) ⌝ }
+    requires { ⌜ RowGround (now s) (now offsets) (now numbers) i m (now matches) ⌝ }
+    requires { ⌜ ScratchReady (now least) (now covers) (now «row_costs») (now «row_choices») ⌝ }
+    requires { ⌜ Entered (at-most limit) (prices-of (now table) (now prices)) (getD (now numbers) 0 0) (tree-of (now s)) (i + 1) (now costs) (now choices) ⌝ }
+    requires { ⌜ Below (at-most limit) (prices-of (now table) (now prices)) (getD (now numbers) 0 0) (tree-of (now s)) (now costs) (now choices) ⌝ }
+    ensures scratch { λ _. ⌜ ScratchReady (now (least .exit)) (now (covers .exit)) (now («row_costs» .exit)) (now («row_choices» .exit)) ⌝ }
+    ensures entered { λ _. ⌜ Entered (at-most limit) (prices-of (now (table .entry)) (now (prices .entry))) (getD (now (numbers .entry)) 0 0) (tree-of (now (s .entry))) i (now (costs .exit)) (now (choices .exit)) ⌝ }
+    ensures kept { λ _. ⌜ KeptOthers (getD (now (numbers .entry)) 0 0) (tree-of (now (s .entry))) (now (costs .entry)) (now (costs .exit)) × KeptOthers (getD (now (numbers .entry)) 0 0) (tree-of (now (s .entry))) (now (choices .entry)) (now (choices .exit)) ⌝ }
+{
+    let n = m - i;
+    reset(least, n);
+    let own = own_cost(s, table, costs, offsets, numbers, i);
+    solve(
+        costs,
+        numbers,
+        i,
+        m,
+        own,
+        limit,
+        prices,
+        matches,
+        least,
+        covers,
+        row_costs,
+        row_choices,
+    );
+    store_row(costs, numbers, i, n, row_costs);
+    store_row(choices, numbers, i, n, row_choices);
+}
+
+// Enters all stretches of the sequence s, whose first node has the number b, from the last sibling to the first. The sequences
+// inside its groups are entered already.
+pub fn enter_level(
+    s: &[u8],
+    b: usize,
+    table: &[u16],
+    prices: &[u64],
+    limit: usize,
+    costs: &mut [u32],
+    choices: &mut [u32],
+)
+    requires { ⌜ LevelReady (now s) b limit (now table) (now prices) (now costs) (now choices) ⌝ }
+    requires { ⌜ Below (at-most limit) (prices-of (now table) (now prices)) b (tree-of (now s)) (now costs) (now choices) ⌝ }
+    ensures entered { λ _. ⌜ Filled (at-most limit) (prices-of (now (table .entry)) (now (prices .entry))) b (tree-of (now (s .entry))) (now (costs .exit)) (now (choices .exit)) ⌝ }
+    ensures kept { λ _. ⌜ Kept b (nodes (tree-of (now (s .entry)))) (now (costs .entry)) (now (costs .exit)) × Kept b (nodes (tree-of (now (s .entry)))) (now (choices .entry)) (now (choices .exit)) ⌝ }
+{
+    let mut offsets = [0usize; 1025];
+    let mut numbers = [0usize; 1025];
+    let mut kinds = [0usize; 1025];
+    let mut matches = [0usize; 1025];
+    let mut least = [0u64; 1025];
+    let mut covers = [0usize; 1025];
+    let mut row_costs = [0u64; 1025];
+    let mut row_choices = [0u64; 1025];
+    let m = list_siblings(s, b, &mut offsets, &mut numbers);
+    classify(s, &offsets, m, &mut kinds);
+    let mut i = m;
+    while i > 0 {
+        i -= 1;
+        grow(&kinds, i, m, &mut matches);
+        enter_row(
+            s,
+            table,
+            prices,
+            limit,
+            &offsets,
+            &numbers,
+            i,
+            m,
+            &matches,
+            &mut least,
+            &mut covers,
+            &mut row_costs,
+            &mut row_choices,
+            costs,
+            choices,
+        );
+    }
+}
+
+// Enters the whole tree that s spells: the parts of its groups first, by a call for each, and then its own stretches.
+pub fn enter_tree(
+    s: &[u8],
+    b: usize,
+    table: &[u16],
+    prices: &[u64],
+    limit: usize,
+    costs: &mut [u32],
+    choices: &mut [u32],
+)
+    requires { ⌜ LevelReady (now s) b limit (now table) (now prices) (now costs) (now choices) ⌝ }
+    ensures entered { λ _. ⌜ Filled (at-most limit) (prices-of (now (table .entry)) (now (prices .entry))) b (tree-of (now (s .entry))) (now (costs .exit)) (now (choices .exit)) ⌝ }
+    ensures kept { λ _. ⌜ Kept b (nodes (tree-of (now (s .entry)))) (now (costs .entry)) (now (costs .exit)) × Kept b (nodes (tree-of (now (s .entry)))) (now (choices .entry)) (now (choices .exit)) ⌝ }
+{
+    let mut at = 0;
+    let mut n = b;
+    while at < s.len() {
+        let part = node_at(s, at);
+        let end = at + part.len();
+        if s[at] == Format::GROUP {
+            enter_tree(
+                &s[at + 2..end - 1],
+                n + 1,
+                table,
+                prices,
+                limit,
+                costs,
+                choices,
+            );
+        }
+        n += count_nodes(part);
+        at = end;
+    }
+    enter_level(s, b, table, prices, limit, costs, choices);
+}

@@ -1,0 +1,64 @@
+// The triangular table: entries of intervals of node numbers, in lent slices.
+ghost use mathlib.Core.Path.{_≡_};
+ghost use mathlib.Core.List.{_++_};
+ghost use Prim.Native.Nat.{ℕ, _+_, _<_, _≤_};
+ghost use lib.ListN.{length, getD, drop, replicate};
+ghost use Rattle.folder.specs.Table.{cell, cells};
+ghost use Rattle.folder.specs.Rows.{Rising, Stored};
+
+pub fn widen(x: u32) -> u64
+    ensures { λ r. ⌜ (r ≡ x) × (r < 4294967296) ⌝ }
+{
+    x as u64
+}
+
+// The entries for n nodes.
+pub fn entries(n: usize) -> usize
+    requires { ⌜ n ≤ 1024 ⌝ }
+    ensures { λ r. ⌜ r ≡ cells n ⌝ }
+{
+    n * (n + 1) / 2
+}
+
+// The entry of the interval from p up to q.
+pub fn entry(p: usize, q: usize) -> usize
+    requires { ⌜ (p < q) × (q ≤ 1024) ⌝ }
+    ensures { λ r. ⌜ r ≡ cell p q ⌝ }
+{
+    q * (q - 1) / 2 + p
+}
+
+// The cost or choice of the stretch of siblings from i up to j.
+pub fn look(w: &[u32], numbers: &[usize], i: usize, j: usize) -> u64
+    requires { ⌜ Rising (now numbers) j (length (now w)) ⌝ }
+    requires { ⌜ i < j ⌝ }
+    ensures { λ r. ⌜ (r ≡ getD (now (w .entry)) (cell (getD (now (numbers .entry)) i 0) (getD (now (numbers .entry)) j 0)) 0) × (r < 4294967296) ⌝ }
+{
+    widen(w[entry(numbers[i], numbers[j])])
+}
+
+// Enters a row: the stretches of 1 to n siblings from sibling i on.
+pub fn store_row(w: &mut [u32], numbers: &[usize], i: usize, n: usize, row: &[u64])
+    requires { ⌜ Rising (now numbers) (i + n) (length (now w)) ⌝ }
+    requires { ⌜ n < length (now row) ⌝ }
+    requires { ⌜ ((d : ℕ) → d ≤ n → getD (now row) d 0 < 4294967296) ⌝ }
+    ensures { λ _. ⌜ Stored (now (numbers .entry)) i n (now (row .entry)) (now (w .entry)) (now (w .exit)) ⌝ }
+{
+    let mut d = 1;
+    while d <= n {
+        w[entry(numbers[i], numbers[i + d])] = row[d] as u32;
+        d += 1;
+    }
+}
+
+// Clears the first n entries.
+pub fn clear(w: &mut [u32], n: usize)
+    requires { ⌜ n ≤ length (now w) ⌝ }
+    ensures { λ _. ⌜ now (w .exit) ≡ replicate n 0 ++ drop n (now (w .entry)) ⌝ }
+{
+    let mut i = 0;
+    while i < n {
+        w[i] = 0;
+        i += 1;
+    }
+}
