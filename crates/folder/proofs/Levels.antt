@@ -86,8 +86,6 @@ scratch-none =
       long-covers = refl;
       long-costs = refl;
       long-choices = refl;
-      first-cost = omega arith;
-      first-choice = omega arith;
     }
 
 -- The loop from the last sibling to the first: the rows from sibling i on are entered, and the matches from there on known.

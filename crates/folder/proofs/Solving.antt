@@ -334,8 +334,6 @@ module _ {costs numbers : List ℕ} {i m own limit : ℕ} {prices same : List �
             long-covers = put-length p ∙ r .scratch .long-covers;
             long-costs = length-set rowcosts d (k / 2097152) ∙ r .scratch .long-costs;
             long-choices = length-set rowchoices d (k % 2097152) ∙ r .scratch .long-choices;
-            first-cost = rw (getD-set-other rowcosts d 0 (k / 2097152) 0 (λ x. omega arith)) (r .scratch .first-cost);
-            first-choice = rw (getD-set-other rowchoices d 0 (k % 2097152) 0 (λ x. omega arith)) (r .scratch .first-choice);
           }
 
       -- One stretch more.
@@ -360,18 +358,15 @@ module _ {costs numbers : List ℕ} {i m own limit : ℕ} {prices same : List �
       record {
         long-costs = r .scratch .long-costs;
         long-choices = r .scratch .long-choices;
-        first-cost = r .scratch .first-cost;
-        first-choice = r .scratch .first-choice;
         solved = λ z n k. let x : e ≡ n = omega arith in rw x at (r .solved z);
       }
 
   -- What it holds fits 32 bits.
   pub row-low : {rowcosts rowchoices : List ℕ} → RowReady costs numbers i m own limit prices same
-      → RowSolved costs numbers i m own limit prices same rowcosts rowchoices → (n : ℕ) → i + n ≡ m → (d : ℕ) → d ≤ n
+      → RowSolved costs numbers i m own limit prices same rowcosts rowchoices → (n : ℕ) → i + n ≡ m → (d : ℕ) → 0 < d → d ≤ n
       → (getD rowcosts d 0 < 4294967296) × (getD rowchoices d 0 < 4294967296)
-  row-low z r n h zero l = (r .first-cost, r .first-choice)
-  row-low z r n h (suc d) l =
-      let x = r .solved z n h .entry (suc d) (omega arith) l in
+  row-low z r n h d p l =
+      let x = r .solved z n h .entry d p l in
       let y = x .least .candidate in
-      let f = fitting (modest z) (suc d) in
-      (omega (arith, x .costs, cost-low (modest z) (suc d)), omega (arith, x .chosen, f .count _ _ y, f .width _ _ y))
+      let f = fitting (modest z) d in
+      (omega (arith, x .costs, cost-low (modest z) d), omega (arith, x .chosen, f .count _ _ y, f .width _ _ y))

@@ -144,8 +144,6 @@ pub record RowReady (costs numbers : List ℕ) (i m own limit : ℕ) (prices sam
 pub record RowSolved (costs numbers : List ℕ) (i m own limit : ℕ) (prices same rowcosts rowchoices : List ℕ) : Type 0 where
   pub long-costs : length rowcosts ≡ 1025
   pub long-choices : length rowchoices ≡ 1025
-  pub first-cost : getD rowcosts 0 0 < 4294967296
-  pub first-choice : getD rowchoices 0 0 < 4294967296
   pub solved : (z : RowReady costs numbers i m own limit prices same) (n : ℕ) → i + n ≡ m
       → Solved (z .allowed) (z .prices-are) (back i (z .tree)) n rowcosts rowchoices
 
@@ -192,5 +190,3 @@ pub record ScratchReady (least covers rowcosts rowchoices : List ℕ) : Type 0 w
   pub long-covers : length covers ≡ 1025
   pub long-costs : length rowcosts ≡ 1025
   pub long-choices : length rowchoices ≡ 1025
-  pub first-cost : getD rowcosts 0 0 < 4294967296
-  pub first-choice : getD rowchoices 0 0 < 4294967296

@@ -86,7 +86,6 @@ pub fn solve(
     requires { ⌜ RowReady (now costs) (now numbers) i m own limit (now prices) (now matches) ⌝ }
     requires { ⌜ Rising (now numbers) m (length (now costs)) ⌝ }
     requires { ⌜ (length (now matches) ≡ 1025) × (length (now covers) ≡ 1025) × (length (now «row_costs») ≡ 1025) × (length (now «row_choices») ≡ 1025) ⌝ }
-    requires { ⌜ (getD (now «row_costs») 0 0 < 4294967296) × (getD (now «row_choices») 0 0 < 4294967296) ⌝ }
     requires { ⌜ Reset (m - i) (now least) ⌝ }
     ensures low { λ _. ⌜ (length (now (covers .exit)) ≡ 1025) × (length (now (least .exit)) ≡ 1025) × ((c : ℕ) → getD (now (least .exit)) c 0 ≤ no-key) ⌝ }
     ensures solved { λ _. ⌜ RowSolved (now (costs .entry)) (now (numbers .entry)) i m own limit (now (prices .entry)) (now (matches .entry)) (now («row_costs» .exit)) (now («row_choices» .exit)) ⌝ }

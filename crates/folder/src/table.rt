@@ -41,7 +41,7 @@ pub fn look(w: &[u32], numbers: &[usize], i: usize, j: usize) -> u64
 pub fn store_row(w: &mut [u32], numbers: &[usize], i: usize, n: usize, row: &[u64])
     requires { ⌜ Rising (now numbers) (i + n) (length (now w)) ⌝ }
     requires { ⌜ n < length (now row) ⌝ }
-    requires { ⌜ ((d : ℕ) → d ≤ n → getD (now row) d 0 < 4294967296) ⌝ }
+    requires { ⌜ ((d : ℕ) → 0 < d → d ≤ n → getD (now row) d 0 < 4294967296) ⌝ }
     ensures { λ _. ⌜ Stored (now (numbers .entry)) i n (now (row .entry)) (now (w .entry)) (now (w .exit)) ⌝ }
 {
     let mut d = 1;

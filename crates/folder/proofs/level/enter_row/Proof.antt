@@ -54,7 +54,7 @@ solve-requires c κs =
         level-rising (p .0) (p .1 .0) _ _ (p .0 .cost-room) (omega arith),
         (
           (p .1 .0 .long-matches, scratch .long-covers, scratch .long-costs, scratch .long-choices),
-          ((scratch .first-cost, scratch .first-choice), c .before .before .before .before .before .before .before .before .before .reset .ensures),
+          c .before .before .before .before .before .before .before .before .before .reset .ensures,
         ),
       ),
     )
@@ -66,7 +66,7 @@ store-row-requires c κs =
     let r = F .solve .ensures .1 in
     let some = p .1 .0 .some in (
       level-rising (p .0) (p .1 .0) _ _ (p .0 .cost-room) (omega arith),
-      (omega (arith, siblings-few (p .0), p .1 .0 .count, r .long-costs), λ d h. row-low (row (own F)) r _ (omega arith) d h .0),
+      (omega (arith, siblings-few (p .0), p .1 .0 .count, r .long-costs), λ d p h. row-low (row (own F)) r _ (omega arith) d p h .0),
     )
 
 store-row-requires-2 : tie.Need-store-row-requires-2
@@ -76,7 +76,7 @@ store-row-requires-2 c κs =
     let r = F .solve .ensures .1 in
     let some = p .1 .0 .some in (
       level-rising (p .0) (p .1 .0) _ _ (p .0 .choice-room) (omega arith),
-      (omega (arith, siblings-few (p .0), p .1 .0 .count, r .long-choices), λ d h. row-low (row (own F)) r _ (omega arith) d h .1),
+      (omega (arith, siblings-few (p .0), p .1 .0 .count, r .long-choices), λ d p h. row-low (row (own F)) r _ (omega arith) d p h .1),
     )
 
 same-length : tie.Need-same-length
@@ -111,8 +111,6 @@ returns c =
         long-covers = low .0;
         long-costs = r .long-costs;
         long-choices = r .long-choices;
-        first-cost = r .first-cost;
-        first-choice = r .first-choice;
       },
       (
         row-entered (p .0) (p .1 .0) (own F .own-cost .ensures) (p .1 .1 .1 .0) (p .1 .1 .1 .1) r costs choices,

@@ -44,8 +44,7 @@ loop-holds : tie.Need-loop-holds Inv-loop μ-loop
 loop-holds c =
     let S = c .before .before .before .before .before .before .before .before in
     let long = S .pre .1 .1 .0 in
-    let first = S .pre .1 .1 .1 .0 in
-    let clear = S .pre .1 .1 .1 .1 in (
+    let clear = S .pre .1 .1 .1 in (
       omega arith,
       omega (arith, S .pre .0 .some),
       rowed-none clear
@@ -55,8 +54,6 @@ loop-holds c =
             long-covers = long .1;
             long-costs = long .2;
             long-choices = long .3;
-            first-cost = first .0;
-            first-choice = first .1;
           }),
     )
 

@@ -23,7 +23,7 @@ shared-slice-read-w : tie.Need-shared-slice-read-w Inv-loop μ-loop
 shared-slice-read-w c = omega arith
 
 cast-w : tie.Need-cast-w Inv-loop μ-loop
-cast-w c = omega (arith, c .before .before .before .before .before .before .pre .1 .1 (c .before .before .loop .d) (omega arith))
+cast-w c = omega (arith, c .before .before .before .before .before .before .pre .1 .1 (c .before .before .loop .d) (omega arith) (omega arith))
 
 mul-entry : tie.Need-mul-entry Inv-loop μ-loop
 mul-entry c = omega arith
