@@ -1,0 +1,5 @@
+-- What the proofs of the fold program share.
+pub mod Puts
+pub mod Digits
+pub mod Room
+pub mod Answers

@@ -1,0 +1,51 @@
+// The fold program: reads a run from standard input, folds it at unit costs and limit 1,024, and prints its nodes, the cost
+// and the bytes of its cheapest fold, or the refusal.
+mod text;
+
+use folder::fold;
+use format::Format;
+use libc::STDIN_FILENO;
+use libc::STDOUT_FILENO;
+use reader::read_run;
+use text::put_refusal;
+use text::put_report;
+ghost use Prim.Native.Nat.{_≤_};
+ghost use lib.ListN.{length};
+ghost use Rattle.fold.specs.Put.{Put};
+ghost use Rattle.fold.specs.Printed.{printed};
+
+// The text that is printed for a run. Unit costs: every label 1, first 1, each 0. The work serves 100 nodes.
+fn answer(run: &[u8], text: &mut [u8]) -> usize
+    requires { ⌜ 8252 ≤ length (now text) ⌝ }
+    ensures { λ r. ⌜ Put (now (text .entry)) (now (text .exit)) 0 (printed (now (run .entry))) r ⌝ }
+{
+    let table = [1u16; 256];
+    let mut costs = [0u32; 5050];
+    let mut choices = [0u32; 5050];
+    let mut out = [0u8; 4096];
+    let r = fold(
+        run,
+        Format::WIDTH,
+        &table,
+        1,
+        0,
+        &mut costs,
+        &mut choices,
+        &mut out,
+    );
+    if r.refusal != 0 {
+        return put_refusal(r.refusal as u64, r.place as u64, text);
+    }
+    let length = r.length;
+    let nodes = read_run(run).nodes;
+    put_report(nodes as u64, r.cost, &out[..length], text)
+}
+
+// At most 4,096 bytes are read: more cannot alter the answer.
+fn main() {
+    let mut input = [0u8; 4096];
+    let n = io::read_full(STDIN_FILENO, &mut input);
+    let mut text = [0u8; 8252];
+    let k = answer(&input[..n], &mut text);
+    io::write_all(STDOUT_FILENO, &text[..k]);
+}
