@@ -9,3 +9,4 @@ pub mod Expansion
 pub mod Report
 pub mod Parts
 pub mod Tree
+pub mod Examples

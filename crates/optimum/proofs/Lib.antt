@@ -10,3 +10,4 @@ pub mod Cheapest
 pub mod Cover
 pub mod Level
 pub mod Demands
+pub mod Known

@@ -2,3 +2,4 @@
 pub mod Optimal
 pub mod Cheapest
 pub mod Demands
+pub mod Known
