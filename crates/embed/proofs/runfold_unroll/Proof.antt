@@ -1,0 +1,37 @@
+-- `embed::runfold_unroll` meets its contract: what the unroller writes, and its answer stored as five numbers.
+use borrow.Author.Needs.{needs}
+use mathlib.Core.Path.{_∙_}
+use Rattle.embed.proofs.Entries.{short-status, short-kept, short-entries, long-kept, unroll-stored}
+use Rattle.embed.proofs.runfold_unroll.Statement.{statement}
+use Rattle.embed.proofs.runfold_unroll.Tie as tie
+
+returns : tie.Need-returns
+returns c =
+    let a = c .before .before .before .before .args .answer .now in
+    let short = c .if1 .taken in
+    (short-status a short _, (short-entries a short _ _ _ _ _, short-kept a short _ _))
+
+unroll-requires : tie.Need-unroll-requires
+unroll-requires c κs = search needs
+
+store-requires : tie.Need-store-requires
+store-requires c κs = search needs
+
+same-length : tie.Need-same-length
+same-length c = search needs
+
+same-length-2 : tie.Need-same-length-2
+same-length-2 c = search needs
+
+returns-2 : tie.Need-returns-2
+returns-2 c =
+    let done = c .before .before .before .before .before .before in
+    let entry = done .before .before in
+    let a = entry .before .before .before .before .args .answer .now in
+    let long = entry .if1 .left in
+    let stored = unroll-stored a long _ _ _ (done .unroll .ensures .0) (c .before .before .store .ensures) in
+    (stored .0, (stored .1, done .unroll .ensures .1 ∙ long-kept a long _ _))
+
+pub runfold-unroll-spec : {M : Type 1} → statement M
+runfold-unroll-spec =
+    tie.close (tie.spec returns unroll-requires store-requires same-length same-length-2 returns-2)

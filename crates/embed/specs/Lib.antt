@@ -1,0 +1,2 @@
+-- What the boundary returns and leaves in the lent answer.
+pub mod Answers

@@ -1,0 +1,162 @@
+// The static library's boundary for C and Rust: the readers, the unroller and the folder over numbers and lent slices. Every
+// answer is five numbers in a lent slice: refusal, place, nodes, length and cost, 0 where the function gives no such value.
+use folder::fold;
+use format::FoldReading;
+use reader::part;
+use reader::read_fold;
+use reader::read_run;
+use unroller::unroll;
+ghost use mathlib.Core.Path.{_≡_};
+ghost use mathlib.Core.List.{_∷_};
+ghost use Prim.Native.Nat.{_≤_};
+ghost use lib.ListN.{length, getD, take, drop};
+ghost use Rattle.format.specs.Limits.{priced};
+ghost use Rattle.format.specs.Readings.{run-reading, fold-reading};
+ghost use Rattle.format.specs.Parts.{part-of};
+ghost use Rattle.optimum.specs.Demands.{CheapestWithin};
+ghost use Rattle.unroller.specs.Unrolling.{unrolling, unroll-answer, unroll-output};
+ghost use Rattle.folder.specs.Folding.{folding, fold-answer, fold-output, fold-work};
+ghost use Rattle.embed.specs.Answers.{status, kept, run-entries, fold-entries, unroll-entries, folder-entries};
+
+// The entries of an answer.
+const ENTRIES: usize = 5;
+// The status where the lent answer is shorter: nothing was read or written. No refusal has this number.
+const SHORT: u8 = 255;
+
+fn wide(x: u8) -> u64
+    ensures { λ r. ⌜ r ≡ x ⌝ }
+{
+    x as u64
+}
+
+// Puts an answer into the first five entries.
+fn store(answer: &mut [u64], a: FoldReading)
+    requires { ⌜ 5 ≤ length (now answer) ⌝ }
+    ensures { λ _. ⌜ now (answer .exit) ≡ (a .refusal) ∷ (a .place) ∷ (a .nodes) ∷ (a .length) ∷ (a .cost) ∷ drop 5 (now (answer .entry)) ⌝ }
+{
+    answer[0] = wide(a.refusal);
+    answer[1] = a.place as u64;
+    answer[2] = a.nodes as u64;
+    answer[3] = a.length as u64;
+    answer[4] = a.cost;
+}
+
+// The run reader: the number of nodes.
+#[no_mangle]
+pub extern "C" fn runfold_read_run(run: &[u8], answer: &mut [u64]) -> u8
+    ensures returned { λ r. ⌜ r ≡ status (now (answer .entry)) (run-reading (now (run .entry)) .refusal) ⌝ }
+    ensures answered { λ _. ⌜ now (answer .exit) ≡ run-entries (now (answer .entry)) (run-reading (now (run .entry))) ⌝ }
+{
+    if answer.len() < ENTRIES {
+        return SHORT;
+    }
+    let r = read_run(run);
+    store(
+        answer,
+        FoldReading {
+            refusal: r.refusal,
+            place: r.place,
+            nodes: r.nodes,
+            length: 0,
+            cost: 0,
+        },
+    );
+    r.refusal
+}
+
+// The part of a node: how many bytes from the offset on are the step or group that starts there, with all it holds; 0 where
+// the run is refused or no node starts there.
+#[no_mangle]
+pub extern "C" fn runfold_part(run: &[u8], at: usize) -> usize
+    ensures long { λ r. ⌜ r ≡ length (part-of (now (run .entry)) at) ⌝ }
+    ensures there { λ r. ⌜ take r (drop at (now (run .entry))) ≡ part-of (now (run .entry)) at ⌝ }
+{
+    part(run, at).len()
+}
+
+// The fold reader at a width limit and costs: the nodes and the bytes of the run, and the fold's cost.
+#[no_mangle]
+pub extern "C" fn runfold_read_fold(
+    fold: &[u8],
+    limit: usize,
+    costs: &[u16],
+    first: u16,
+    each: u16,
+    answer: &mut [u64],
+) -> u8
+    ensures returned { λ r. ⌜ r ≡ status (now (answer .entry)) (fold-reading (now (fold .entry)) limit (now (costs .entry)) first each .refusal) ⌝ }
+    ensures answered { λ _. ⌜ now (answer .exit) ≡ fold-entries (now (answer .entry)) (fold-reading (now (fold .entry)) limit (now (costs .entry)) first each) ⌝ }
+{
+    if answer.len() < ENTRIES {
+        return SHORT;
+    }
+    let r = read_fold(fold, limit, costs, first, each);
+    store(answer, r);
+    r.refusal
+}
+
+// The unroller at a width limit: the length written.
+#[no_mangle]
+pub extern "C" fn runfold_unroll(
+    fold: &[u8],
+    limit: usize,
+    out: &mut [u8],
+    answer: &mut [u64],
+) -> u8
+    ensures returned { λ r. ⌜ r ≡ status (now (answer .entry)) (unroll-answer (unrolling (now (fold .entry)) limit) (length (now (out .entry))) .refusal) ⌝ }
+    ensures answered { λ _. ⌜ now (answer .exit) ≡ unroll-entries (now (answer .entry)) (unroll-answer (unrolling (now (fold .entry)) limit) (length (now (out .entry)))) ⌝ }
+    ensures written { λ _. ⌜ now (out .exit) ≡ kept (now (answer .entry)) (now (out .entry)) (unroll-output (unrolling (now (fold .entry)) limit) (now (out .entry))) ⌝ }
+{
+    if answer.len() < ENTRIES {
+        return SHORT;
+    }
+    let r = unroll(fold, limit, out);
+    store(
+        answer,
+        FoldReading {
+            refusal: r.refusal,
+            place: r.place,
+            nodes: 0,
+            length: r.length,
+            cost: 0,
+        },
+    );
+    r.refusal
+}
+
+// The folder at a width limit and costs, over two lent work slices: the length written and the fold's cost.
+#[no_mangle]
+pub extern "C" fn runfold_fold(
+    run: &[u8],
+    limit: usize,
+    table: &[u16],
+    first: u16,
+    each: u16,
+    costs: &mut [u32],
+    choices: &mut [u32],
+    out: &mut [u8],
+    answer: &mut [u64],
+) -> u8
+    ensures returned { λ r. ⌜ r ≡ status (now (answer .entry)) (fold-answer (folding (now (run .entry)) limit (now (table .entry)) first each) (length (now (costs .entry))) (length (now (choices .entry))) (length (now (out .entry))) .refusal) ⌝ }
+    ensures answered { λ _. ⌜ now (answer .exit) ≡ folder-entries (now (answer .entry)) (fold-answer (folding (now (run .entry)) limit (now (table .entry)) first each) (length (now (costs .entry))) (length (now (choices .entry))) (length (now (out .entry)))) ⌝ }
+    ensures written { λ _. ⌜ now (out .exit) ≡ kept (now (answer .entry)) (now (out .entry)) (fold-output (folding (now (run .entry)) limit (now (table .entry)) first each) (length (now (costs .entry))) (length (now (choices .entry))) (now (out .entry))) ⌝ }
+    ensures costs_cleared { λ _. ⌜ now (costs .exit) ≡ kept (now (answer .entry)) (now (costs .entry)) (fold-work (folding (now (run .entry)) limit (now (table .entry)) first each) (length (now (costs .entry))) (length (now (choices .entry))) (now (costs .entry))) ⌝ }
+    ensures choices_cleared { λ _. ⌜ now (choices .exit) ≡ kept (now (answer .entry)) (now (choices .entry)) (fold-work (folding (now (run .entry)) limit (now (table .entry)) first each) (length (now (costs .entry))) (length (now (choices .entry))) (now (choices .entry))) ⌝ }
+    ensures cheapest { λ r. ⌜ (r ≡ 0 → CheapestWithin (now (run .entry)) limit (priced (now (table .entry)) first each) (take (getD (now (answer .exit)) 3 0) (now (out .exit))) (getD (now (answer .exit)) 4 0)) ⌝ }
+{
+    if answer.len() < ENTRIES {
+        return SHORT;
+    }
+    let r = fold(run, limit, table, first, each, costs, choices, out);
+    store(
+        answer,
+        FoldReading {
+            refusal: r.refusal,
+            place: r.place,
+            nodes: 0,
+            length: r.length,
+            cost: r.cost,
+        },
+    );
+    r.refusal
+}

@@ -1,0 +1,606 @@
+//! Compares the library with the independent implementation on many inputs, short and long, sound and damaged. Every answer,
+//! every byte of the lent output and every entry of the lent work is compared, also those that a call must leave alone.
+//!
+//! Usage: differential [SEED [SCALE]]. One seed and scale give one run. The first difference ends it and prints its input.
+
+use runfold::inputs::{self, Random};
+use runfold::reference::{self, Answer, Item, Prices, Solved};
+use runfold::{raw, work_entries, ENTRIES, SHORT};
+use std::fmt::Write;
+use std::process::exit;
+use std::time::Instant;
+
+/// The entry points, in the order of the counts.
+#[derive(Clone, Copy)]
+enum Entry {
+    Run,
+    Part,
+    Fold,
+    Unroll,
+    Folder,
+}
+
+const ENTRY_NAMES: [&str; 5] = ["run reader", "part of a node", "fold reader", "unroller", "folder"];
+
+/// The refusals that each entry point can give.
+const POSSIBLE: [&[u8]; 5] = [
+    &[1, 2, 3, 4, 5, 8, 10],
+    &[],
+    &[1, 3, 4, 5, 6, 7, 8, 9, 10, 11, 12],
+    &[1, 3, 4, 5, 6, 7, 8, 9, 10, 12, 14],
+    &[1, 2, 3, 4, 5, 8, 10, 11, 12, 13, 14],
+];
+
+struct Compare {
+    seed: u64,
+    random: Random,
+    calls: [u64; 5],
+    refusals: [[u64; 15]; 5],
+    short_answers: u64,
+    against_trial: u64,
+    against_bytes: u64,
+    against_cost: u64,
+    longest: usize,
+    deepest: usize,
+}
+
+fn hex(bytes: &[u8]) -> String {
+    bytes.iter().fold(String::new(), |mut text, b| {
+        let _ = write!(text, "{b:02X}");
+        text
+    })
+}
+
+/// Prices in few words: the label costs are in hexadecimal, four digits each, where they differ.
+fn shown(prices: &Prices) -> String {
+    let labels = &prices.labels;
+    let costs = match labels.first() {
+        Some(cost) if labels.iter().all(|other| other == cost) => format!("all {cost}"),
+        _ => labels.iter().map(|cost| format!("{cost:04X}")).collect(),
+    };
+    format!("{} label costs {costs}, first {}, each {}", labels.len(), prices.first, prices.each)
+}
+
+/// The deepest group of a run.
+fn depth(items: &[Item]) -> usize {
+    items
+        .iter()
+        .map(|item| match item {
+            Item::Group(_, body) => 1 + depth(body),
+            _ => 0,
+        })
+        .max()
+        .unwrap_or(0)
+}
+
+/// Entries that no call writes by chance: each says where it stands.
+fn marked_bytes(n: usize) -> Vec<u8> {
+    (0..n).map(|k| 0xA5 ^ (k as u8).wrapping_mul(29)).collect()
+}
+
+fn marked_words(n: usize) -> Vec<u32> {
+    (0..n).map(|k| 0xDEAD_0000 ^ k as u32).collect()
+}
+
+fn marked_answer(n: usize) -> Vec<u64> {
+    (0..n).map(|k| 0xFEED_FACE_0000_0000 + k as u64).collect()
+}
+
+impl Compare {
+    fn differ(&self, entry: Entry, input: &[u8], call: &dyn Fn() -> String, what: &str, given: &str, expected: &str) -> ! {
+        println!("DIFFERENCE in the {}, seed {}", ENTRY_NAMES[entry as usize], self.seed);
+        println!("input {}", if input.is_empty() { "-".into() } else { hex(input) });
+        println!("call: {}", call());
+        println!("{what}: the library has {given}");
+        println!("{what}: expected is {expected}");
+        exit(1);
+    }
+
+    /// A lent answer slice: mostly of five entries or some more, at times too short.
+    fn answer_slice(&mut self) -> Vec<u64> {
+        let entries = match self.random.below(16) {
+            0 => self.random.below(ENTRIES),
+            k => ENTRIES + k % 3,
+        };
+        marked_answer(entries)
+    }
+
+    /// Holds a status and an answer slice to what is expected; says whether the slice was long enough.
+    fn check_answer(
+        &mut self,
+        entry: Entry,
+        input: &[u8],
+        call: &dyn Fn() -> String,
+        status: u8,
+        answer: &[u64],
+        expected: Answer,
+    ) -> bool {
+        self.calls[entry as usize] += 1;
+        let mut after = marked_answer(answer.len());
+        let enough = after.len() >= ENTRIES;
+        if enough {
+            after[..ENTRIES].copy_from_slice(&expected.numbers());
+            self.refusals[entry as usize][expected.refusal as usize] += 1;
+        } else {
+            self.short_answers += 1;
+        }
+        if answer != after {
+            self.differ(entry, input, call, "answer", &format!("{answer:?}"), &format!("{after:?}"));
+        }
+        let returned = if enough { expected.refusal } else { SHORT };
+        if status != returned {
+            self.differ(entry, input, call, "status", &status.to_string(), &returned.to_string());
+        }
+        enough
+    }
+
+    fn check_slice<T: PartialEq + std::fmt::Debug>(
+        &self,
+        entry: Entry,
+        input: &[u8],
+        call: &dyn Fn() -> String,
+        what: &str,
+        given: &[T],
+        expected: &[T],
+    ) {
+        if given != expected {
+            let at = (0..given.len()).find(|&k| given[k] != expected[k]).unwrap();
+            let part = |s: &[T]| format!("{:X?} from entry {at} on", &s[at..s.len().min(at + 16)]);
+            self.differ(entry, input, call, what, &part(given), &part(expected));
+        }
+    }
+
+    fn run_reader(&mut self, run: &[u8]) {
+        let mut answer = self.answer_slice();
+        let status = raw::read_run(run, &mut answer);
+        self.check_answer(Entry::Run, run, &String::new, status, &answer, reference::read_run(run));
+    }
+
+    fn part(&mut self, run: &[u8], at: usize) {
+        self.calls[Entry::Part as usize] += 1;
+        let (given, expected) = (runfold::part(run, at), reference::part(run, at));
+        if given != expected {
+            let call = || format!("offset {at}");
+            self.differ(Entry::Part, run, &call, "part", &hex(given), &hex(expected));
+        }
+    }
+
+    fn parts(&mut self, run: &[u8]) {
+        for at in 0..=run.len() + 1 {
+            self.part(run, at);
+        }
+        self.part(run, usize::MAX);
+    }
+
+    fn fold_reader(&mut self, fold: &[u8], limit: usize, prices: &Prices) {
+        let call = || format!("limit {limit}, {}", shown(prices));
+        let mut answer = self.answer_slice();
+        let status = raw::read_fold(fold, limit, &prices.labels, prices.first, prices.each, &mut answer);
+        let expected = reference::read_fold(fold, limit, prices);
+        self.check_answer(Entry::Fold, fold, &call, status, &answer, expected);
+    }
+
+    fn unroller(&mut self, fold: &[u8], limit: usize) {
+        let (unbounded, run) = reference::unroll(fold, limit, usize::MAX);
+        let room = match self.random.below(4) {
+            0 if !run.is_empty() => run.len() - 1 - self.random.below(run.len()),
+            1 => run.len(),
+            _ => run.len() + self.random.below(40),
+        };
+        let (expected, run) =
+            if unbounded.refusal == 0 { reference::unroll(fold, limit, room) } else { (unbounded, run) };
+        let call = || format!("limit {limit}, output of {room} bytes");
+        let mut answer = self.answer_slice();
+        let mut out = marked_bytes(room);
+        let status = raw::unroll(fold, limit, &mut out, &mut answer);
+        let enough = self.check_answer(Entry::Unroll, fold, &call, status, &answer, expected);
+        let mut after = marked_bytes(room);
+        if enough {
+            after[..run.len()].copy_from_slice(&run);
+        }
+        self.check_slice(Entry::Unroll, fold, &call, "output", &out, &after);
+    }
+
+    /// The folder, held to the solution that the independent implementation found.
+    fn folder(&mut self, run: &[u8], limit: usize, prices: &Prices, solved: &Result<Solved, Answer>) {
+        let (nodes, length) = solved.as_ref().map_or((2, 9), |s| (s.nodes, s.bytes.len()));
+        let needed = work_entries(nodes);
+        let lent = |r: &mut Random, needed: usize| match r.below(12) {
+            0 if needed > 0 => needed - 1 - r.below(needed),
+            1 => needed,
+            _ => needed + r.below(30),
+        };
+        let a = lent(&mut self.random, needed);
+        let b = lent(&mut self.random, needed);
+        let room = lent(&mut self.random, length);
+        let (expected, bytes) = match solved {
+            Ok(solved) => reference::lend(solved, a, b, room),
+            Err(refused) => (*refused, Vec::new()),
+        };
+        let call = || {
+            format!("limit {limit}, {}, work of {a} and {b} entries, output of {room} bytes", shown(prices))
+        };
+        let mut answer = self.answer_slice();
+        let (mut costs, mut choices, mut out) = (marked_words(a), marked_words(b), marked_bytes(room));
+        let status = raw::fold(
+            run,
+            limit,
+            &prices.labels,
+            prices.first,
+            prices.each,
+            &mut costs,
+            &mut choices,
+            &mut out,
+            &mut answer,
+        );
+        let enough = self.check_answer(Entry::Folder, run, &call, status, &answer, expected);
+        let mut after = marked_bytes(room);
+        let (mut costs_after, mut choices_after) = (marked_words(a), marked_words(b));
+        if enough {
+            after[..bytes.len()].copy_from_slice(&bytes);
+            if expected.refusal == 0 || expected.refusal == 14 {
+                costs_after[..needed].fill(0);
+                choices_after[..needed].fill(0);
+            }
+        }
+        self.check_slice(Entry::Folder, run, &call, "output", &out, &after);
+        self.check_slice(Entry::Folder, run, &call, "first work slice", &costs, &costs_after);
+        self.check_slice(Entry::Folder, run, &call, "second work slice", &choices, &choices_after);
+        self.longest = self.longest.max(if expected.refusal == 0 { nodes } else { 0 });
+    }
+
+    fn limit(&mut self) -> usize {
+        match self.random.below(24) {
+            0 => 0,
+            1..=3 => 1 + self.random.below(8),
+            4 => self.random.below(1025),
+            5 => 1023,
+            6 => *self.random.pick(&[1025, 1026, 65536, usize::MAX]),
+            _ => 1024,
+        }
+    }
+
+    fn prices(&mut self) -> Prices {
+        let r = &mut self.random;
+        let mut prices = match r.below(8) {
+            0 | 1 => unit(),
+            2 => Prices { labels: vec![1; 256], first: 0, each: r.below(2) as u16 },
+            3 => Prices { labels: vec![1; 256], first: 1, each: r.below(6) as u16 },
+            4 => Prices {
+                labels: (0..256).map(|_| r.below(4) as u16).collect(),
+                first: r.below(4) as u16,
+                each: r.below(3) as u16,
+            },
+            5 => Prices {
+                labels: (0..256).map(|_| r.below(65536) as u16).collect(),
+                first: r.below(65536) as u16,
+                each: r.below(65536) as u16,
+            },
+            6 => Prices {
+                labels: (0..256).map(|_| r.below(1000) as u16).collect(),
+                first: r.below(3000) as u16,
+                each: r.below(100) as u16,
+            },
+            _ => Prices {
+                labels: vec![*r.pick(&[0, 1, 65535]); 256],
+                first: *r.pick(&[0, 1, 2, 65535]),
+                each: *r.pick(&[0, 1, 65535]),
+            },
+        };
+        if r.once_in(60) {
+            let entries = *r.pick(&[0, 1, 255, 257, 300]);
+            prices.labels.resize(entries, 1);
+        }
+        prices
+    }
+
+    /// One run at one limit and prices, through every entry point.
+    fn whole(&mut self, items: &[Item], limit: usize, prices: &Prices) {
+        let run = inputs::bytes_of(items);
+        let solved = reference::solve(&run, limit, prices);
+        self.folder(&run, limit, prices, &solved);
+        self.against_bytes += 1;
+        if let Ok(solved) = solved {
+            assert!(solved.bytes.len() <= 4 * solved.nodes, "a fold of more than four bytes a node");
+            self.deepest = self.deepest.max(depth(items));
+            self.fold_reader(&solved.bytes, limit, prices);
+            self.unroller(&solved.bytes, limit);
+        }
+    }
+
+    /// Every fold of a run, tried: the cheapest of them, the first in byte order of these, is what the folder writes.
+    fn trial(&mut self, items: &[Item], limit: usize, prices: &Prices) {
+        let run = inputs::bytes_of(items);
+        let folds = reference::every_fold(items, limit);
+        let (cost, bytes) = folds
+            .into_iter()
+            .map(|fold| {
+                let read = reference::read_fold(&fold, limit, prices);
+                assert!(read.refusal == 0 && reference::run_of(&fold) == run, "no fold: {}", hex(&fold));
+                (read.cost, fold)
+            })
+            .min()
+            .unwrap();
+        let nodes = reference::count_nodes(items);
+        self.folder(&run, limit, prices, &Ok(Solved { nodes, cost, bytes }));
+        self.against_trial += 1;
+    }
+
+    /// A long run: the fold that the folder writes is a fold of the run within the limit, of the cost that it says, and that
+    /// is the lowest.
+    fn cost_alone(&mut self, items: &[Item], limit: usize, prices: &Prices) {
+        let run = inputs::bytes_of(items);
+        let lent = runfold::Prices { labels: &prices.labels, first: prices.first, each: prices.each };
+        let (bytes, cost) = runfold::folded(&run, limit, lent).expect("the run is sound");
+        let call = || format!("limit {limit}, {}", shown(prices));
+        let lowest = reference::cheapest_cost(items, limit, prices);
+        if cost != lowest {
+            self.differ(Entry::Folder, &run, &call, "cost", &cost.to_string(), &lowest.to_string());
+        }
+        let read = reference::read_fold(&bytes, limit, prices);
+        if read.refusal != 0 || read.cost != cost || reference::run_of(&bytes) != run {
+            self.differ(Entry::Folder, &run, &call, "fold", &hex(&bytes), "a fold of the run, of the cost said");
+        }
+        self.calls[Entry::Folder as usize] += 1;
+        self.refusals[Entry::Folder as usize][0] += 1;
+        self.against_cost += 1;
+        self.longest = self.longest.max(reference::count_nodes(items));
+        self.deepest = self.deepest.max(depth(items));
+        self.fold_reader(&bytes, limit, prices);
+        self.unroller(&bytes, limit);
+    }
+
+    /// Bytes of any kind, through every entry point.
+    fn any_bytes(&mut self, bytes: &[u8]) {
+        let (limit, prices) = (self.limit(), self.prices());
+        self.run_reader(bytes);
+        let at = self.random.below(bytes.len() + 3);
+        self.part(bytes, at);
+        self.fold_reader(bytes, limit, &prices);
+        self.unroller(bytes, limit);
+        // A long sequence is left to the other comparisons: the independent folder is slow.
+        if bytes.len() <= 120 || reference::read_run(bytes).refusal != 0 {
+            let solved = reference::solve(bytes, limit, &prices);
+            self.folder(bytes, limit, &prices, &solved);
+            self.against_bytes += 1;
+        }
+    }
+}
+
+fn unit() -> Prices {
+    Prices { labels: vec![1; 256], first: 1, each: 0 }
+}
+
+/// The inputs that stand at the edges of the rules, sound and refused.
+fn edges() -> Vec<Vec<u8>> {
+    let rep = |piece: &[u8], n: usize| piece.repeat(n);
+    let nested = |depth: usize, width_one: &[u8]| {
+        let mut bytes = rep(&[0x20, 0, 2, 0, 1], depth);
+        bytes.extend(width_one);
+        bytes.extend(rep(&[0x21], depth));
+        bytes
+    };
+    let powers = |depth: u32| {
+        // 2 to the power of `depth` nodes: each repeat's body is the one inside it.
+        let mut bytes = Vec::new();
+        for k in (0..depth).rev() {
+            let [high, low] = (1u16 << k).to_be_bytes();
+            bytes.extend([0x20, 0, 2, high, low]);
+        }
+        bytes.extend([0x10, 7]);
+        bytes.extend(rep(&[0x21], depth as usize));
+        bytes
+    };
+    let groups = |depth: usize| [rep(&[0x11, 1], depth), vec![0x10, 1], rep(&[0x12], depth)].concat();
+    vec![
+        vec![],
+        vec![0x13],
+        vec![0x10, 7, 0x21],
+        vec![0x10, 7, 0x20],
+        vec![0x11, 5],
+        vec![0x12],
+        vec![0x21],
+        vec![0x11, 5, 0x12],
+        vec![0x11, 5, 0x21],
+        vec![0x20, 0, 2, 0, 1, 0x12],
+        vec![0x20, 0, 1, 0, 1, 0x10, 7, 0x21],
+        vec![0x20, 0, 0, 0, 1, 0x10, 7, 0x21],
+        vec![0x20, 0, 1],
+        vec![0x20, 0, 2, 0, 0, 0x21],
+        vec![0x20, 0, 2, 0, 0, 0x10, 1, 0x21],
+        vec![0x20, 0, 2, 0, 2, 0x10, 7, 0x10, 7, 0x21],
+        vec![0x20, 0, 2, 0, 2, 0x10, 7, 0x21],
+        vec![0x20, 4, 1, 0, 1, 0x10, 7, 0x21],
+        vec![0x20, 4, 0, 0, 1, 0x10, 7, 0x21],
+        vec![0x20, 0xFF, 0xFF, 0, 1, 0x10, 7, 0x21],
+        vec![0x20, 0xFF, 0xFF, 0xFF, 0xFF, 0x10, 7, 0x21],
+        vec![0x10, 1, 0x10, 1],
+        vec![0x10],
+        vec![0x10, 1, 0x11],
+        rep(&[0x11, 1], 9),
+        rep(&[0x11, 1], 8),
+        [rep(&[0x11, 1], 8), vec![0x11]].concat(),
+        groups(8),
+        groups(9),
+        nested(1, &[0x10, 7]),
+        nested(10, &[0x10, 7]),
+        nested(11, &[0x10, 7]),
+        powers(9),
+        powers(10),
+        powers(11),
+        rep(&[0x10, 1], 1024),
+        rep(&[0x10, 1], 1025),
+        [rep(&[0x10, 1], 1024), vec![0x11, 1, 0x10, 1, 0x12]].concat(),
+        [vec![0x11, 1], rep(&[0x10, 1], 1023), vec![0x12]].concat(),
+        [vec![0x11, 1], rep(&[0x10, 1], 1024), vec![0x12]].concat(),
+        [vec![0x20, 2, 0, 0, 2], rep(&[0x10, 1], 2), vec![0x21]].concat(),
+        [vec![0x20, 2, 1, 0, 2], rep(&[0x10, 1], 2), vec![0x21]].concat(),
+    ]
+}
+
+fn main() {
+    let mut args = std::env::args().skip(1).map(|word| word.parse::<u64>().expect("a number"));
+    let seed = args.next().unwrap_or(1);
+    let scale = args.next().unwrap_or(40) as usize;
+    let began = Instant::now();
+    let mut c = Compare {
+        seed,
+        random: Random::new(seed),
+        calls: [0; 5],
+        refusals: [[0; 15]; 5],
+        short_answers: 0,
+        against_trial: 0,
+        against_bytes: 0,
+        against_cost: 0,
+        longest: 0,
+        deepest: 0,
+    };
+    let done = |what: &str| println!("{:6.1} s  {what}", began.elapsed().as_secs_f64());
+
+    for input in edges() {
+        for limit in [1024, 0, 1, 2, 1023, 1025] {
+            let prices = c.prices();
+            c.fold_reader(&input, limit, &prices);
+            c.unroller(&input, limit);
+        }
+        c.run_reader(&input);
+        c.parts(&input);
+        for _ in 0..scale {
+            c.any_bytes(&input);
+        }
+    }
+    done("the edges of the rules");
+
+    for n in 0..=7 {
+        inputs::every_run(n, &mut |items| {
+            let run = inputs::bytes_of(items);
+            c.run_reader(&run);
+            if n <= 6 {
+                c.parts(&run);
+            }
+            c.whole(items, 1024, &unit());
+            let (limit, prices) = (c.limit(), c.prices());
+            c.whole(items, limit, &prices);
+        });
+    }
+    done("every run of up to 7 nodes over two labels, groups among them");
+
+    for n in 0..=13 {
+        inputs::every_word(n, &mut |items| {
+            c.whole(items, 1024, &unit());
+            let (limit, prices) = (c.limit(), c.prices());
+            c.whole(items, limit, &prices);
+        });
+    }
+    done("every run of up to 13 steps over two labels");
+
+    for n in 0..=6 {
+        inputs::every_run(n, &mut |items| {
+            for _ in 0..2 {
+                let (limit, mut prices) = (c.limit().min(1024), c.prices());
+                prices.labels.resize(256, 1);
+                c.trial(items, limit, &prices);
+            }
+        });
+    }
+    for n in 7..=10 {
+        inputs::every_word(n, &mut |items| {
+            let (limit, mut prices) = (c.limit().min(1024), c.prices());
+            prices.labels.resize(256, 1);
+            c.trial(items, limit, &prices);
+        });
+    }
+    done("a trial of every fold of short runs");
+
+    for k in 0..600 * scale {
+        let most = match k {
+            _ if k % 100 == 0 => 300,
+            _ if k % 10 == 0 => 120,
+            _ => 40,
+        };
+        let nodes = 10 + c.random.below(most);
+        let labels = 1 + c.random.below(4);
+        let items = match k % 4 {
+            0 => inputs::deep_run(&mut c.random, nodes.max(20), labels, 8),
+            1 => inputs::regular_run(&mut c.random, nodes),
+            _ => {
+                let depth = c.random.below(9);
+                inputs::structured_run(&mut c.random, nodes, labels, depth)
+            }
+        };
+        let run = inputs::bytes_of(&items);
+        c.run_reader(&run);
+        let at = c.random.below(run.len());
+        c.part(&run, at);
+        let (limit, prices) = (c.limit(), c.prices());
+        c.whole(&items, limit, &prices);
+    }
+    done("structured and regular runs, groups down to eight levels");
+
+    for k in 0..2 * scale {
+        let nodes = if k % 4 == 0 { 1024 } else { 300 + c.random.below(725) };
+        let (labels, depth) = (1 + c.random.below(4), c.random.below(9));
+        let items = match k % 3 {
+            0 => inputs::structured_run(&mut c.random, nodes, labels, depth),
+            1 => inputs::deep_run(&mut c.random, nodes, labels, 8),
+            _ => inputs::regular_run(&mut c.random, nodes),
+        };
+        let (limit, mut prices) = (c.limit().min(1024), c.prices());
+        prices.labels.resize(256, 1);
+        c.cost_alone(&items, limit, &prices);
+    }
+    done("long runs, by cost");
+
+    for _ in 0..8000 * scale {
+        let size = 1 + c.random.below(40);
+        let (labels, depth) = (1 + c.random.below(3), c.random.below(9));
+        let fold = inputs::bytes_of(&inputs::random_fold(&mut c.random, size, labels, depth, 5));
+        let fold = if c.random.once_in(5) { fold } else { inputs::damaged(&mut c.random, &fold) };
+        c.any_bytes(&fold);
+    }
+    done("damaged folds");
+
+    for _ in 0..8000 * scale {
+        let commands = c.random.below(30);
+        let bytes = inputs::random_commands(&mut c.random, commands);
+        c.any_bytes(&bytes);
+    }
+    done("random commands");
+
+    let mut missing = Vec::new();
+    println!("\nrefusals seen, by number (0: accepted)");
+    for entry in 0..5 {
+        if entry == Entry::Part as usize {
+            continue;
+        }
+        let seen: Vec<String> = (0..15)
+            .filter(|&n| c.refusals[entry][n] > 0)
+            .map(|n| format!("{n}: {}", c.refusals[entry][n]))
+            .collect();
+        println!("  {:15} {}", ENTRY_NAMES[entry], seen.join("  "));
+        for &number in POSSIBLE[entry] {
+            if c.refusals[entry][number as usize] == 0 {
+                missing.push(format!("{} {number}", ENTRY_NAMES[entry]));
+            }
+        }
+    }
+    println!("  answer slice too short: {}", c.short_answers);
+    if !missing.is_empty() {
+        println!("REFUSALS NEVER SEEN: {}", missing.join(", "));
+        exit(1);
+    }
+    println!("\ncompared calls");
+    for (name, calls) in ENTRY_NAMES.iter().zip(c.calls) {
+        println!("  {name:15} {calls:9}");
+    }
+    println!(
+        "  folds byte for byte against the report's programme: {}; against a trial of every fold: {}; by cost: {}",
+        c.against_bytes, c.against_trial, c.against_cost
+    );
+    println!("  longest run {} nodes, deepest group {} levels", c.longest, c.deepest);
+    println!(
+        "total {} calls compared, 0 differences, seed {seed}, scale {scale}, {:.0} s",
+        c.calls.iter().sum::<u64>(),
+        began.elapsed().as_secs_f64()
+    );
+}

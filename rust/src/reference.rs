@@ -1,0 +1,539 @@
+//! An independent implementation, to compare the library with: readers, unroller and folder, written from the document that
+//! fixes the bytes and from the report, and not from the Rattle code. It is plain and slow. The folder is the report's
+//! dynamic programme over the intervals of each sequence; ties are settled by comparing the bytes of whole folds.
+
+use std::cmp::Ordering;
+
+/// What a call answers: refusal number, place, nodes, length and cost.
+#[derive(Clone, Copy, Debug, Default, PartialEq, Eq)]
+pub struct Answer {
+    pub refusal: u8,
+    pub place: usize,
+    pub nodes: usize,
+    pub length: usize,
+    pub cost: u64,
+}
+
+impl Answer {
+    fn refuse(refusal: u8, place: usize) -> Answer {
+        Answer { refusal, place, ..Answer::default() }
+    }
+
+    pub fn numbers(self) -> [u64; 5] {
+        [self.refusal as u64, self.place as u64, self.nodes as u64, self.length as u64, self.cost]
+    }
+}
+
+/// The prices of labels and repeats.
+#[derive(Clone, Debug, PartialEq, Eq)]
+pub struct Prices {
+    pub labels: Vec<u16>,
+    pub first: u16,
+    pub each: u16,
+}
+
+impl Prices {
+    fn label(&self, label: u8) -> u64 {
+        self.labels[label as usize] as u64
+    }
+
+    fn repeat(&self, count: usize) -> u64 {
+        self.first as u64 + self.each as u64 * (count as u64 - 2)
+    }
+}
+
+/// An item of a sequence.
+#[derive(Clone, Debug, PartialEq, Eq)]
+pub enum Item {
+    Step(u8),
+    Group(u8, Vec<Item>),
+    Repeat(usize, usize, Vec<Item>),
+}
+
+/// The bytes of a sequence.
+pub fn encode(items: &[Item], out: &mut Vec<u8>) {
+    for item in items {
+        match item {
+            Item::Step(label) => out.extend([0x10, *label]),
+            Item::Group(label, body) => {
+                out.extend([0x11, *label]);
+                encode(body, out);
+                out.push(0x12);
+            }
+            Item::Repeat(count, width, body) => {
+                out.push(0x20);
+                out.extend((*count as u16).to_be_bytes());
+                out.extend((*width as u16).to_be_bytes());
+                encode(body, out);
+                out.push(0x21);
+            }
+        }
+    }
+}
+
+/// The items with every repeat written out.
+pub fn expand(items: &[Item]) -> Vec<Item> {
+    let mut out = Vec::new();
+    for item in items {
+        match item {
+            Item::Step(label) => out.push(Item::Step(*label)),
+            Item::Group(label, body) => out.push(Item::Group(*label, expand(body))),
+            Item::Repeat(count, _, body) => {
+                let once = expand(body);
+                for _ in 0..*count {
+                    out.extend_from_slice(&once);
+                }
+            }
+        }
+    }
+    out
+}
+
+pub fn count_nodes(items: &[Item]) -> usize {
+    items
+        .iter()
+        .map(|item| match item {
+            Item::Step(_) => 1,
+            Item::Group(_, body) => 1 + count_nodes(body),
+            Item::Repeat(count, _, body) => count * count_nodes(body),
+        })
+        .sum()
+}
+
+/// What is open: the close that ends it, its operands where it is a repeat, and what the level outside had when it opened.
+struct Open {
+    close: u8,
+    count: u64,
+    width: u64,
+    siblings_outside: u64,
+    nodes_before: u64,
+    length_before: u64,
+}
+
+/// Reads commands from left to right by the table of numbered refusals. `limit` and `prices` are those of a fold; a run has
+/// neither and no repeats.
+fn read(bytes: &[u8], limit: Option<usize>, prices: Option<&Prices>) -> Result<Answer, Answer> {
+    let a_run = limit.is_none();
+    let limit = limit.unwrap_or(0) as u64;
+    let mut open: Vec<Open> = Vec::new();
+    let (mut siblings, mut nodes, mut length, mut cost) = (0u64, 0u64, 0u64, 0u64);
+    let mut at = 0;
+    let mut just_opened = false;
+    while at < bytes.len() {
+        let command = bytes[at];
+        let refuse = |number| Err(Answer::refuse(number, at));
+        let operands = match command {
+            0x10 | 0x11 => 1,
+            0x20 => 4,
+            0x12 | 0x21 => 0,
+            _ => return refuse(1),
+        };
+        if a_run && (command == 0x20 || command == 0x21) {
+            return refuse(2);
+        }
+        if bytes.len() - at - 1 < operands {
+            return Err(Answer::refuse(3, bytes.len()));
+        }
+        let operand = |k: usize| bytes[at + 1 + k] as u64;
+        match command {
+            0x10 | 0x11 => {
+                let groups = open.iter().filter(|o| o.close == 0x12).count();
+                if command == 0x11 && groups == 8 {
+                    return refuse(8);
+                }
+                if nodes + 1 > 1024 {
+                    return refuse(10);
+                }
+                nodes += 1;
+                cost += prices.map_or(0, |p| p.label(bytes[at + 1]));
+                if command == 0x10 {
+                    siblings += 1;
+                    length += 2;
+                    just_opened = false;
+                } else {
+                    open.push(Open {
+                        close: 0x12,
+                        count: 1,
+                        width: 0,
+                        siblings_outside: siblings,
+                        nodes_before: nodes,
+                        length_before: length,
+                    });
+                    siblings = 0;
+                    length += 2;
+                    just_opened = true;
+                }
+            }
+            0x20 => {
+                let count = operand(0) * 256 + operand(1);
+                let width = operand(2) * 256 + operand(3);
+                if count < 2 {
+                    return refuse(6);
+                }
+                if width > limit {
+                    return refuse(7);
+                }
+                if open.iter().filter(|o| o.close == 0x21).count() == 10 {
+                    return refuse(8);
+                }
+                cost += prices.map_or(0, |p| p.repeat(count as usize));
+                open.push(Open {
+                    close: 0x21,
+                    count,
+                    width,
+                    siblings_outside: siblings,
+                    nodes_before: nodes,
+                    length_before: length,
+                });
+                siblings = 0;
+                just_opened = true;
+            }
+            _ => {
+                match open.last() {
+                    Some(innermost) if innermost.close == command => {}
+                    _ => return refuse(4),
+                }
+                if just_opened {
+                    return refuse(5);
+                }
+                let ended = open.pop().unwrap();
+                if command == 0x12 {
+                    siblings = ended.siblings_outside + 1;
+                    length += 1;
+                } else {
+                    if siblings != ended.width {
+                        return refuse(9);
+                    }
+                    let more = ended.count - 1;
+                    if nodes + more * (nodes - ended.nodes_before) > 1024 {
+                        return refuse(10);
+                    }
+                    nodes += more * (nodes - ended.nodes_before);
+                    length += more * (length - ended.length_before);
+                    siblings = ended.siblings_outside + ended.count * siblings;
+                }
+                just_opened = false;
+            }
+        }
+        at += 1 + operands;
+    }
+    if !open.is_empty() {
+        return Err(Answer::refuse(3, bytes.len()));
+    }
+    Ok(Answer { refusal: 0, place: 0, nodes: nodes as usize, length: length as usize, cost })
+}
+
+fn either(read: Result<Answer, Answer>) -> Answer {
+    read.unwrap_or_else(|refused| refused)
+}
+
+/// The run reader.
+pub fn read_run(run: &[u8]) -> Answer {
+    let read = read(run, None, None).map(|a| Answer { nodes: a.nodes, ..Answer::default() });
+    either(read)
+}
+
+/// Refusals 11 and 12, for those who take a table and a limit.
+fn terms(limit: usize, prices: Option<&Prices>) -> Result<(), Answer> {
+    if prices.is_some_and(|p| p.labels.len() != 256) {
+        return Err(Answer::refuse(11, 0));
+    }
+    if limit > 1024 {
+        return Err(Answer::refuse(12, 0));
+    }
+    Ok(())
+}
+
+/// The fold reader.
+pub fn read_fold(fold: &[u8], limit: usize, prices: &Prices) -> Answer {
+    either(terms(limit, Some(prices)).and_then(|()| read(fold, Some(limit), Some(prices))))
+}
+
+/// The items of accepted bytes.
+pub fn decode(bytes: &[u8]) -> Vec<Item> {
+    let mut at = 0;
+    let items = decode_from(bytes, &mut at);
+    assert_eq!(at, bytes.len());
+    items
+}
+
+fn decode_from(bytes: &[u8], at: &mut usize) -> Vec<Item> {
+    let mut items = Vec::new();
+    while *at < bytes.len() {
+        let here = *at;
+        match bytes[here] {
+            0x10 => {
+                *at += 2;
+                items.push(Item::Step(bytes[here + 1]));
+            }
+            0x11 => {
+                *at += 2;
+                let body = decode_from(bytes, at);
+                *at += 1;
+                items.push(Item::Group(bytes[here + 1], body));
+            }
+            0x20 => {
+                *at += 5;
+                let body = decode_from(bytes, at);
+                *at += 1;
+                let two = |k: usize| u16::from_be_bytes([bytes[here + k], bytes[here + k + 1]]) as usize;
+                items.push(Item::Repeat(two(1), two(3), body));
+            }
+            _ => break,
+        }
+    }
+    items
+}
+
+/// The run that accepted bytes of a fold unroll to.
+pub fn run_of(fold: &[u8]) -> Vec<u8> {
+    let mut run = Vec::new();
+    encode(&expand(&decode(fold)), &mut run);
+    run
+}
+
+/// The unroller: its answer where the output has room for `room` bytes, and the bytes it writes.
+pub fn unroll(fold: &[u8], limit: usize, room: usize) -> (Answer, Vec<u8>) {
+    if let Err(refused) = terms(limit, None).and_then(|()| read(fold, Some(limit), None)) {
+        return (refused, Vec::new());
+    }
+    let run = run_of(fold);
+    if run.len() > room {
+        return (Answer::refuse(14, 0), Vec::new());
+    }
+    (Answer { length: run.len(), ..Answer::default() }, run)
+}
+
+/// The part of a run that is the node at an offset, as bytes; empty where the run is refused or no node starts there.
+pub fn part(run: &[u8], at: usize) -> &[u8] {
+    if read_run(run).refusal != 0 {
+        return &[];
+    }
+    // The offsets of all commands, with how many groups are open behind each.
+    let mut commands = Vec::new();
+    let (mut here, mut depth) = (0, 0usize);
+    while here < run.len() {
+        depth = match run[here] {
+            0x11 => depth + 1,
+            0x12 => depth - 1,
+            _ => depth,
+        };
+        commands.push((here, depth));
+        here += if run[here] == 0x12 { 1 } else { 2 };
+    }
+    let Some(first) = commands.iter().position(|&(offset, _)| offset == at) else {
+        return &[];
+    };
+    match run[at] {
+        0x10 => &run[at..at + 2],
+        0x11 => {
+            let outside = commands[first].1 - 1;
+            let close = commands[first..].iter().find(|&&(_, depth)| depth == outside).unwrap().0;
+            &run[at..close + 1]
+        }
+        _ => &[],
+    }
+}
+
+/// The cheapest fold of a sequence of nodes, with its cost: the report's dynamic programme. A stretch of siblings is the one
+/// node, or one repetition of a shorter stretch (case 1), or two stretches one after the other (case 2).
+pub fn cheapest(nodes: &[Item], limit: usize, prices: &Prices) -> (u64, Vec<u8>) {
+    let n = nodes.len();
+    if n == 0 {
+        return (0, Vec::new());
+    }
+    // best[i][d - 1] is the cheapest fold of d siblings from i on.
+    let mut best: Vec<Vec<(u64, Vec<u8>)>> = nodes
+        .iter()
+        .map(|node| {
+            vec![match node {
+                Item::Step(label) => (prices.label(*label), vec![0x10, *label]),
+                Item::Group(label, body) => {
+                    let (cost, bytes) = cheapest(body, limit, prices);
+                    let mut whole = vec![0x11, *label];
+                    whole.extend(bytes);
+                    whole.push(0x12);
+                    (prices.label(*label) + cost, whole)
+                }
+                Item::Repeat(..) => unreachable!("a run has no repeats"),
+            }]
+        })
+        .collect();
+    for d in 2..=n {
+        for i in 0..=n - d {
+            let found = cheapest_stretch(nodes, &best, i, d, limit, prices);
+            best[i].push(found);
+        }
+    }
+    best[0].pop().unwrap()
+}
+
+/// The cost of the cheapest fold alone, by the same programme: for runs too long to keep the bytes of every stretch.
+pub fn cheapest_cost(nodes: &[Item], limit: usize, prices: &Prices) -> u64 {
+    let n = nodes.len();
+    if n == 0 {
+        return 0;
+    }
+    // Equal siblings have equal classes.
+    let class: Vec<usize> =
+        nodes.iter().map(|node| nodes.iter().position(|other| other == node).unwrap()).collect();
+    let mut best = vec![vec![u64::MAX; n + 1]; n];
+    for (i, node) in nodes.iter().enumerate() {
+        best[i][1] = match node {
+            Item::Step(label) => prices.label(*label),
+            Item::Group(label, body) => prices.label(*label) + cheapest_cost(body, limit, prices),
+            Item::Repeat(..) => unreachable!("a run has no repeats"),
+        };
+    }
+    for d in 1..=n {
+        for i in 0..=n - d {
+            let split = (1..d).map(|e| best[i][e] + best[i + e][d - e]).min();
+            best[i][d] = best[i][d].min(split.unwrap_or(u64::MAX));
+            // This stretch repeated, as far as its copies go.
+            let mut count = 2;
+            while d <= limit
+                && i + count * d <= n
+                && class[i..i + d] == class[i + (count - 1) * d..i + count * d]
+            {
+                best[i][count * d] = best[i][count * d].min(best[i][d] + prices.repeat(count));
+                count += 1;
+            }
+        }
+    }
+    best[0][n]
+}
+
+fn cheapest_stretch(
+    nodes: &[Item],
+    best: &[Vec<(u64, Vec<u8>)>],
+    i: usize,
+    d: usize,
+    limit: usize,
+    prices: &Prices,
+) -> (u64, Vec<u8>) {
+    let two = |e: usize| (&best[i][e - 1], &best[i + e][d - e - 1]);
+    let lowest = (1..d).map(|e| two(e).0 .0 + two(e).1 .0).min().unwrap();
+    let mut split: Option<(&[u8], &[u8])> = None;
+    for e in 1..d {
+        let (left, right) = two(e);
+        if left.0 + right.0 == lowest {
+            let pair = (&left.1[..], &right.1[..]);
+            if split.is_none_or(|other| compare_pairs(pair, other) == Ordering::Less) {
+                split = Some(pair);
+            }
+        }
+    }
+    let (left, right) = split.unwrap();
+    let mut found = (lowest, [left, right].concat());
+    for width in 1..=limit.min(d / 2) {
+        if d % width == 0 && (width..d).all(|k| nodes[i + k] == nodes[i + k - width]) {
+            let count = d / width;
+            let (body_cost, body) = &best[i][width - 1];
+            let mut bytes = vec![0x20];
+            bytes.extend((count as u16).to_be_bytes());
+            bytes.extend((width as u16).to_be_bytes());
+            bytes.extend(body);
+            bytes.push(0x21);
+            let candidate = (body_cost + prices.repeat(count), bytes);
+            if candidate < found {
+                found = candidate;
+            }
+        }
+    }
+    found
+}
+
+/// The order of two byte strings, each given in two parts.
+fn compare_pairs(a: (&[u8], &[u8]), b: (&[u8], &[u8])) -> Ordering {
+    if a.0.len() > b.0.len() {
+        return compare_pairs(b, a).reverse();
+    }
+    // a's first part is the shorter: then b's continues against a's second part.
+    let cut = a.0.len();
+    let rest = b.0.len() - cut;
+    a.0.cmp(&b.0[..cut])
+        .then_with(|| a.1[..rest.min(a.1.len())].cmp(&b.0[cut..]))
+        .then_with(|| a.1[rest..].cmp(b.1))
+}
+
+/// The folder: its answer where the work slices have `costs` and `choices` entries and the output room for `room` bytes, and
+/// the bytes it writes.
+pub fn fold(
+    run: &[u8],
+    limit: usize,
+    prices: &Prices,
+    costs: usize,
+    choices: usize,
+    room: usize,
+) -> (Answer, Vec<u8>) {
+    match solve(run, limit, prices) {
+        Err(refused) => (refused, Vec::new()),
+        Ok(solved) => lend(&solved, costs, choices, room),
+    }
+}
+
+/// What follows from run, limit and prices alone: the nodes, the cheapest fold and its cost.
+#[derive(Clone, Debug)]
+pub struct Solved {
+    pub nodes: usize,
+    pub cost: u64,
+    pub bytes: Vec<u8>,
+}
+
+pub fn solve(run: &[u8], limit: usize, prices: &Prices) -> Result<Solved, Answer> {
+    terms(limit, Some(prices))?;
+    let nodes = read(run, None, None)?.nodes;
+    let (cost, bytes) = cheapest(&decode(run), limit, prices);
+    Ok(Solved { nodes, cost, bytes })
+}
+
+/// The answer for the lent slices' sizes: 13, then 14.
+pub fn lend(solved: &Solved, costs: usize, choices: usize, room: usize) -> (Answer, Vec<u8>) {
+    let needed = solved.nodes * (solved.nodes + 1) / 2;
+    if costs < needed || choices < needed {
+        return (Answer::refuse(13, 0), Vec::new());
+    }
+    if room < solved.bytes.len() {
+        return (Answer::refuse(14, 0), Vec::new());
+    }
+    (Answer { length: solved.bytes.len(), cost: solved.cost, ..Answer::default() }, solved.bytes.clone())
+}
+
+/// Every fold of a sequence of nodes whose widths are within a limit, by its bytes: a first item, which is the first node or a
+/// repeat, and then every fold of what is left.
+pub fn every_fold(nodes: &[Item], limit: usize) -> Vec<Vec<u8>> {
+    if nodes.is_empty() {
+        return vec![Vec::new()];
+    }
+    let mut folds = Vec::new();
+    let mut join = |heads: Vec<Vec<u8>>, rest: &[Item]| {
+        let tails = every_fold(rest, limit);
+        for head in &heads {
+            for tail in &tails {
+                folds.push([&head[..], &tail[..]].concat());
+            }
+        }
+    };
+    let plain = match &nodes[0] {
+        Item::Step(label) => vec![vec![0x10, *label]],
+        Item::Group(label, body) => {
+            every_fold(body, limit).into_iter().map(|b| [&[0x11, *label], &b[..], &[0x12]].concat()).collect()
+        }
+        Item::Repeat(..) => unreachable!("a run has no repeats"),
+    };
+    join(plain, &nodes[1..]);
+    for width in 1..=limit.min(nodes.len() / 2) {
+        let mut count = 1;
+        while (count + 1) * width <= nodes.len()
+            && nodes[..width] == nodes[count * width..(count + 1) * width]
+        {
+            count += 1;
+            let [c, w] = [count, width].map(|x| (x as u16).to_be_bytes());
+            let bodies = every_fold(&nodes[..width], limit);
+            let heads =
+                bodies.into_iter().map(|b| [&[0x20], &c[..], &w[..], &b[..], &[0x21]].concat()).collect();
+            join(heads, &nodes[count * width..]);
+        }
+    }
+    folds
+}

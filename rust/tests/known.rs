@@ -1,0 +1,130 @@
+//! The known folds and the examples of the numbered refusals, as document 01 lists them, on the library through its safe
+//! interface and on the independent implementation.
+
+use runfold::reference;
+use runfold::{fold, folded, part, read_fold, read_run, unroll, work_entries, Folding, Prices, Refusal};
+
+const UNIT: [u16; 256] = [1; 256];
+
+fn prices(first: u16, each: u16) -> Prices<'static> {
+    Prices { labels: &UNIT, first, each }
+}
+
+fn bytes(hex: &str) -> Vec<u8> {
+    let digits: Vec<u32> = hex.chars().filter_map(|c| c.to_digit(16)).collect();
+    digits.chunks(2).map(|pair| (pair[0] * 16 + pair[1]) as u8).collect()
+}
+
+/// Letters a, b, c .. as steps 01, 02, 03 ..
+fn word(letters: &str) -> Vec<u8> {
+    letters.bytes().flat_map(|letter| [0x10, letter - b'a' + 1]).collect()
+}
+
+fn check(run: &[u8], limit: usize, prices: Prices, expected: &[u8], cost: u64) {
+    assert_eq!(folded(run, limit, prices), Ok((expected.to_vec(), cost)));
+    let read = read_fold(expected, limit, prices).unwrap();
+    assert_eq!((read.length, read.cost), (run.len(), cost));
+    let mut back = vec![0; run.len()];
+    assert_eq!(unroll(expected, limit, &mut back), Ok(run.len()));
+    assert_eq!(back, run);
+    let same = reference::Prices { labels: UNIT.to_vec(), first: prices.first, each: prices.each };
+    let solved = reference::solve(run, limit, &same).unwrap();
+    assert_eq!((solved.bytes, solved.cost), (expected.to_vec(), cost));
+}
+
+#[test]
+fn known_folds() {
+    let unit = prices(1, 0);
+    check(&[], 1024, unit, &[], 0);
+    check(&word("a"), 1024, unit, &word("a"), 1);
+    check(&word("a"), 0, unit, &word("a"), 1);
+    check(&word("aa"), 1024, unit, &word("aa"), 2);
+    check(&word("aaa"), 1024, unit, &bytes("20 0003 0001 1001 21"), 2);
+    check(&word("aaa"), 0, unit, &word("aaa"), 3);
+    check(&word("aaaa"), 1024, prices(0, 0), &bytes("20 0002 0002 20 0002 0001 1001 21 21"), 1);
+    check(&word("aaaa"), 1024, prices(1, 5), &bytes("20 0002 0002 1001 1001 21"), 3);
+    let group = bytes("1105 1001 1001 1001 12");
+    let twice = bytes("20 0002 0001 1105 20 0003 0001 1001 21 12 21");
+    check(&group.repeat(2), 1024, unit, &twice, 4);
+    check(&group.repeat(2), 1, unit, &twice, 4);
+}
+
+#[test]
+fn folds_that_a_habit_misses() {
+    let unit = prices(1, 0);
+    let half = [bytes("20 0002 0005"), word("abbca"), vec![0x21]].concat();
+    check(&word("abbcaabbca"), 1024, unit, &half, 6);
+    check(&word("abbcaabbca"), 4, unit, &word("abbcaabbca"), 10);
+    let half = [bytes("20 0002 0005"), word("abaab"), vec![0x21]].concat();
+    check(&word("abaababaab"), 1024, unit, &half, 6);
+    assert!(folded(&word("abaababaabbaab"), 1024, unit).unwrap().1 <= 9);
+}
+
+#[test]
+fn longest_runs() {
+    let unit = prices(1, 0);
+    let run = word("a").repeat(1024);
+    assert_eq!(read_run(&run), Ok(1024));
+    assert_eq!(folded(&run, 1024, unit), Ok((bytes("20 0400 0001 1001 21"), 2)));
+    let over = word("a").repeat(1025);
+    let refused = Refusal { number: 10, place: 2048 };
+    assert_eq!(read_run(&over), Err(refused));
+    assert_eq!(folded(&over, 1024, unit), Err(refused));
+}
+
+#[test]
+fn numbered_refusals() {
+    let unit = prices(1, 0);
+    let refused = |number, place| Err(Refusal { number, place });
+    for (run, number, place) in [
+        (bytes("13"), 1, 0),
+        (bytes("1007 21"), 2, 2),
+        (bytes("1105"), 3, 2),
+        (bytes("12"), 4, 0),
+        (bytes("1105 12"), 5, 2),
+        (bytes("1101").repeat(9), 8, 16),
+    ] {
+        assert_eq!(read_run(&run), refused(number, place));
+        assert_eq!(reference::read_run(&run).numbers()[..2], [number as u64, place as u64]);
+        assert_eq!(folded(&run, 1024, unit).map(|_| 0), refused(number, place));
+        assert_eq!(part(&run, 0), []);
+    }
+    for (fold, limit, number, place) in [
+        (bytes("20 0001 0001 1007 21"), 1024, 6, 0),
+        (bytes("20 0002 0002 1007 1007 21"), 1, 7, 0),
+        (bytes("20 0002 0002 1007 21"), 1024, 9, 7),
+        (bytes("20 0401 0001 1007 21"), 1024, 10, 7),
+        (bytes("1007"), 1025, 12, 0),
+    ] {
+        assert_eq!(read_fold(&fold, limit, unit).map(|r| r.nodes), refused(number, place));
+        assert_eq!(unroll(&fold, limit, &mut [0; 64]), refused(number, place));
+    }
+    let short = Prices { labels: &UNIT[..255], first: 1, each: 0 };
+    assert_eq!(read_fold(&[], 1025, short).map(|r| r.nodes), refused(11, 0));
+    assert_eq!(folded(&[], 1025, short).map(|_| 0), refused(11, 0));
+    assert_eq!(folded(&[], 1025, unit).map(|_| 0), refused(12, 0));
+    let run = word("aa");
+    let mut out = [0; 8];
+    assert_eq!(fold(&run, 1024, unit, &mut [0; 2], &mut [0; 3], &mut out), refused(13, 0).map(none));
+    assert_eq!(fold(&run, 1024, unit, &mut [0; 3], &mut [0; 2], &mut out), refused(13, 0).map(none));
+    let one = word("a");
+    assert_eq!(fold(&one, 1024, unit, &mut [0; 1], &mut [0; 1], &mut [0; 1]), refused(14, 0).map(none));
+    assert_eq!(work_entries(2), 3);
+}
+
+fn none(_: usize) -> Folding {
+    unreachable!()
+}
+
+#[test]
+fn parts() {
+    let run = bytes("1001 1102 1003 1104 1005 12 12 1001");
+    assert_eq!(part(&run, 0), bytes("1001"));
+    assert_eq!(part(&run, 2), bytes("1102 1003 1104 1005 12 12"));
+    assert_eq!(part(&run, 6), bytes("1104 1005 12"));
+    assert_eq!(part(&run, 1), []);
+    assert_eq!(part(&run, 10), []);
+    assert_eq!(part(&run, 12), bytes("1001"));
+    assert_eq!(part(&run, 14), []);
+    assert_eq!(part(&run, usize::MAX), []);
+}
