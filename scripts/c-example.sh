@@ -3,7 +3,7 @@
 set -euo pipefail
 cd "$(dirname "$0")/.."
 
-rt staticlib embed
+scripts/library.sh
 
 out=target/example
 mkdir -p "$out"

@@ -1,10 +1,15 @@
 #!/usr/bin/env bash
 # Compares the static library with the independent Rust implementation; the last lines count what was compared.
-# Usage: scripts/differential.sh [SEED [SCALE]]   one seed gives one run; a larger scale compares more
+# Usage: scripts/differential.sh [SEED [SCALE]]   one seed and scale give one run; a larger scale compares more
 set -euo pipefail
 cd "$(dirname "$0")/.."
 
-rt staticlib embed
+scripts/library.sh
 
-(cd rust && cargo test --offline --locked --profile compare --test known && cargo build --offline --locked --profile compare --bin differential)
-exec target/cargo/compare/differential "${1:-1}" "${2:-40}"
+export CARGO_TARGET_DIR=$PWD/target/cargo
+(
+    cd rust
+    cargo test --quiet --offline --locked --profile compare --test known
+    cargo build --quiet --offline --locked --profile compare --bin differential
+)
+exec target/cargo/compare/differential "${1:-1}" "${2:-100}"

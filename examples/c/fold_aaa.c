@@ -8,8 +8,8 @@ int main(void)
 {
     const uint8_t run[] = {0x10, 0x01, 0x10, 0x01, 0x10, 0x01};
     uint16_t table[256];
-    uint32_t costs[RUNFOLD_WORK(3)];
-    uint32_t choices[RUNFOLD_WORK(3)];
+    uint32_t costs[RUNFOLD_WORK(3)] = {0};
+    uint32_t choices[RUNFOLD_WORK(3)] = {0};
     uint8_t out[RUNFOLD_ROOM(3)];
     uint8_t back[sizeof run];
     uint64_t answer[RUNFOLD_ENTRIES];

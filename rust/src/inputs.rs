@@ -2,26 +2,27 @@
 
 use crate::reference::{count_nodes, encode, expand, Item};
 
-/// A small generator of pseudo-random numbers: a Weyl sequence, mixed by two rounds of shifts and products.
+/// A small generator of pseudo-random numbers: a counter with a fixed odd stride, whose bits are mixed by shifts and products
+/// (stride and factors are the first bits of the golden ratio, of pi and of e).
 #[derive(Clone)]
 pub struct Random(u64);
 
 impl Random {
     pub fn new(seed: u64) -> Random {
-        Random(seed.wrapping_mul(0x9E37_79B9_7F4A_7C15) ^ 0x5851_F42D_4C95_7F2D)
+        Random(seed.wrapping_mul(0x243F_6A88_85A3_08D3))
     }
 
-    pub fn next(&mut self) -> u64 {
+    pub fn word(&mut self) -> u64 {
         self.0 = self.0.wrapping_add(0x9E37_79B9_7F4A_7C15);
         let mut x = self.0;
-        x = (x ^ (x >> 32)).wrapping_mul(0xD6E8_FEB8_6659_FD93);
-        x = (x ^ (x >> 32)).wrapping_mul(0xD6E8_FEB8_6659_FD93);
+        x = (x ^ (x >> 31)).wrapping_mul(0x243F_6A88_85A3_08D3);
+        x = (x ^ (x >> 29)).wrapping_mul(0xB7E1_5162_8AED_2A6B);
         x ^ (x >> 32)
     }
 
     /// A number below n.
     pub fn below(&mut self, n: usize) -> usize {
-        ((self.next() >> 11) % n as u64) as usize
+        ((self.word() >> 11) % n as u64) as usize
     }
 
     pub fn byte(&mut self) -> u8 {
@@ -46,31 +47,28 @@ pub fn bytes_of(items: &[Item]) -> Vec<u8> {
 
 /// Calls `each` on every run of exactly n nodes over labels 1 and 2: every shape, every node with every label.
 pub fn every_run(n: usize, each: &mut impl FnMut(&[Item])) {
-    for forest in forests(n) {
-        each(&forest);
-    }
-}
-
-fn forests(n: usize) -> Vec<Vec<Item>> {
     if n == 0 {
-        return vec![Vec::new()];
+        return each(&[]);
     }
-    let mut all = Vec::new();
     // The first tree has k nodes: a step, or a group that holds k - 1 of them.
     for k in 1..=n {
-        let bodies = forests(k - 1);
-        for rest in forests(n - k) {
+        let bodies = runs(k - 1);
+        for rest in runs(n - k) {
             for body in &bodies {
                 for label in [1, 2] {
-                    let first =
-                        if body.is_empty() { Item::Step(label) } else { Item::Group(label, body.clone()) };
-                    let mut forest = vec![first];
-                    forest.extend_from_slice(&rest);
-                    all.push(forest);
+                    let first = if k == 1 { Item::Step(label) } else { Item::Group(label, body.clone()) };
+                    let mut run = vec![first];
+                    run.extend_from_slice(&rest);
+                    each(&run);
                 }
             }
         }
     }
+}
+
+fn runs(n: usize) -> Vec<Vec<Item>> {
+    let mut all = Vec::new();
+    every_run(n, &mut |run| all.push(run.to_vec()));
     all
 }
 
@@ -83,13 +81,7 @@ pub fn every_word(n: usize, each: &mut impl FnMut(&[Item])) {
 }
 
 /// A random fold of about `budget` nodes when unrolled, with at most `groups` open groups and `repeats` open repeats.
-pub fn random_fold(
-    r: &mut Random,
-    budget: usize,
-    labels: usize,
-    groups: usize,
-    repeats: usize,
-) -> Vec<Item> {
+pub fn random_fold(r: &mut Random, budget: usize, labels: usize, groups: usize, repeats: usize) -> Vec<Item> {
     let mut items = Vec::new();
     let mut left = budget as isize;
     while left > 0 {
@@ -317,25 +309,41 @@ pub mod families {
         steps(word)
     }
 
-    /// Groups in groups, down to eight levels, with repeated groups and steps at each level. Exactly that many nodes.
-    pub fn groups(r: &mut Random, nodes: usize) -> Vec<Item> {
+    /// Eight groups, each in the one before: nine sequences of about equal length, of repeats and noise.
+    pub fn deep_groups(r: &mut Random, nodes: usize) -> Vec<Item> {
+        let mut items = nested(r, nodes / 9);
+        let mut left = nodes - items.len();
+        for level in (0..8).rev() {
+            let outside = nested(r, left / (level + 1) - 1);
+            left -= outside.len() + 1;
+            let group = Item::Group(r.below(4) as u8, items);
+            items = outside;
+            let at = r.below(items.len() + 1);
+            items.insert(at, group);
+        }
+        items
+    }
+
+    /// Many small groups, down to eight levels: at each level half of the nodes in one group, the rest in steps and in small
+    /// groups that stand several times.
+    pub fn small_groups(r: &mut Random, nodes: usize) -> Vec<Item> {
         fn sequence(r: &mut Random, nodes: usize, level: usize) -> Vec<Item> {
-            let mut items: Vec<Item> = Vec::new();
-            let mut left = nodes;
+            if level == 0 {
+                return random(r, nodes, 2);
+            }
+            let size = (nodes / 2).max(2 * level);
+            let mut items = vec![Item::Group(r.below(2) as u8, sequence(r, size - 1, level - 1))];
+            let mut left = nodes - size;
             while left > 0 {
-                if level == 0 || left < 4 || r.once_in(3) {
-                    let length = left.min(1 + r.below(6));
-                    items.extend(steps((0..length).map(|_| r.below(2) as u8)));
-                    left -= length;
+                let body = 1 + r.below(6);
+                let count = 1 + r.below(4);
+                if level > 1 && count * (body + 1) <= left {
+                    let group = Item::Group(r.below(2) as u8, random(r, body, 2));
+                    items.extend(vec![group; count]);
+                    left -= count * (body + 1);
                 } else {
-                    // A group of about half of what is left, or a smaller one several times over.
-                    let count = 1 + r.below(4.min(left / 2));
-                    let size = (left / (count + 1)).max(2);
-                    let body = sequence(r, size - 1, level - 1);
-                    for _ in 0..count {
-                        items.push(Item::Group(r.below(2) as u8, body.clone()));
-                    }
-                    left -= count * size;
+                    items.push(Item::Step(r.below(2) as u8));
+                    left -= 1;
                 }
             }
             items

@@ -245,8 +245,7 @@ pub fn fold(
     out: &mut [u8],
 ) -> Result<Folding, Refusal> {
     let mut answer = [0; ENTRIES];
-    let status =
-        raw::fold(run, limit, prices.labels, prices.first, prices.each, costs, choices, out, &mut answer);
+    let status = raw::fold(run, limit, prices.labels, prices.first, prices.each, costs, choices, out, &mut answer);
     answered(status, &answer)?;
     Ok(Folding { length: answer[3] as usize, cost: answer[4] })
 }

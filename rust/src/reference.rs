@@ -375,8 +375,7 @@ pub fn cheapest_cost(nodes: &[Item], limit: usize, prices: &Prices) -> u64 {
         return 0;
     }
     // Equal siblings have equal classes.
-    let class: Vec<usize> =
-        nodes.iter().map(|node| nodes.iter().position(|other| other == node).unwrap()).collect();
+    let class: Vec<usize> = nodes.iter().map(|node| nodes.iter().position(|other| other == node).unwrap()).collect();
     let mut best = vec![vec![u64::MAX; n + 1]; n];
     for (i, node) in nodes.iter().enumerate() {
         best[i][1] = match node {
@@ -391,10 +390,7 @@ pub fn cheapest_cost(nodes: &[Item], limit: usize, prices: &Prices) -> u64 {
             best[i][d] = best[i][d].min(split.unwrap_or(u64::MAX));
             // This stretch repeated, as far as its copies go.
             let mut count = 2;
-            while d <= limit
-                && i + count * d <= n
-                && class[i..i + d] == class[i + (count - 1) * d..i + count * d]
-            {
+            while d <= limit && i + count * d <= n && class[i..i + d] == class[i + (count - 1) * d..i + count * d] {
                 best[i][count * d] = best[i][count * d].min(best[i][d] + prices.repeat(count));
                 count += 1;
             }
@@ -451,21 +447,12 @@ fn compare_pairs(a: (&[u8], &[u8]), b: (&[u8], &[u8])) -> Ordering {
     // a's first part is the shorter: then b's continues against a's second part.
     let cut = a.0.len();
     let rest = b.0.len() - cut;
-    a.0.cmp(&b.0[..cut])
-        .then_with(|| a.1[..rest.min(a.1.len())].cmp(&b.0[cut..]))
-        .then_with(|| a.1[rest..].cmp(b.1))
+    a.0.cmp(&b.0[..cut]).then_with(|| a.1[..rest.min(a.1.len())].cmp(&b.0[cut..])).then_with(|| a.1[rest..].cmp(b.1))
 }
 
 /// The folder: its answer where the work slices have `costs` and `choices` entries and the output room for `room` bytes, and
 /// the bytes it writes.
-pub fn fold(
-    run: &[u8],
-    limit: usize,
-    prices: &Prices,
-    costs: usize,
-    choices: usize,
-    room: usize,
-) -> (Answer, Vec<u8>) {
+pub fn fold(run: &[u8], limit: usize, prices: &Prices, costs: usize, choices: usize, room: usize) -> (Answer, Vec<u8>) {
     match solve(run, limit, prices) {
         Err(refused) => (refused, Vec::new()),
         Ok(solved) => lend(&solved, costs, choices, room),
@@ -524,14 +511,11 @@ pub fn every_fold(nodes: &[Item], limit: usize) -> Vec<Vec<u8>> {
     join(plain, &nodes[1..]);
     for width in 1..=limit.min(nodes.len() / 2) {
         let mut count = 1;
-        while (count + 1) * width <= nodes.len()
-            && nodes[..width] == nodes[count * width..(count + 1) * width]
-        {
+        while (count + 1) * width <= nodes.len() && nodes[..width] == nodes[count * width..(count + 1) * width] {
             count += 1;
             let [c, w] = [count, width].map(|x| (x as u16).to_be_bytes());
             let bodies = every_fold(&nodes[..width], limit);
-            let heads =
-                bodies.into_iter().map(|b| [&[0x20], &c[..], &w[..], &b[..], &[0x21]].concat()).collect();
+            let heads = bodies.into_iter().map(|b| [&[0x20], &c[..], &w[..], &b[..], &[0x21]].concat()).collect();
             join(heads, &nodes[count * width..]);
         }
     }

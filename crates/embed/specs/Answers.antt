@@ -18,23 +18,19 @@ status a n = cond (ltb (length a) 5) 255 n
 unfoldable pub kept : (answer before after : List ℕ) → List ℕ
 kept a before after = cond (ltb (length a) 5) before after
 
--- The answer slice afterwards: five numbers in front and the rest as it was.
-unfoldable pub entries : (answer : List ℕ) → (refusal place nodes length cost : ℕ) → List ℕ
+-- The answer slice afterwards: five numbers in front and the rest as it was. The fold reader's answer has all five.
+unfoldable pub entries : (answer : List ℕ) → FoldReading → List ℕ
 unfolding kept
-entries a n p k l c = kept a a (n ∷ p ∷ k ∷ l ∷ c ∷ drop 5 a)
+entries a r = kept a a (r .refusal ∷ r .place ∷ r .nodes ∷ r .length ∷ r .cost ∷ drop 5 a)
 
 -- The run reader gives the nodes.
-abbrev pub run-entries : List ℕ → RunReading → List ℕ
-run-entries a r = entries a (r .refusal) (r .place) (r .nodes) 0 0
-
--- The fold reader gives the nodes and the bytes of the run, and the cost.
-abbrev pub fold-entries : List ℕ → FoldReading → List ℕ
-fold-entries a r = entries a (r .refusal) (r .place) (r .nodes) (r .length) (r .cost)
+abbrev pub of-run : RunReading → FoldReading
+of-run r = record { refusal = r .refusal; place = r .place; nodes = r .nodes; length = 0; cost = 0 }
 
 -- The unroller gives the length written.
-abbrev pub unroll-entries : List ℕ → Unrolled → List ℕ
-unroll-entries a r = entries a (r .refusal) (r .place) 0 (r .length) 0
+abbrev pub of-unroll : Unrolled → FoldReading
+of-unroll r = record { refusal = r .refusal; place = r .place; nodes = 0; length = r .length; cost = 0 }
 
 -- The folder gives the length written and the cost.
-abbrev pub folder-entries : List ℕ → Folded → List ℕ
-folder-entries a r = entries a (r .refusal) (r .place) 0 (r .length) (r .cost)
+abbrev pub of-fold : Folded → FoldReading
+of-fold r = record { refusal = r .refusal; place = r .place; nodes = 0; length = r .length; cost = r .cost }

@@ -16,7 +16,7 @@ ghost use Rattle.format.specs.Parts.{part-of};
 ghost use Rattle.optimum.specs.Demands.{CheapestWithin};
 ghost use Rattle.unroller.specs.Unrolling.{unrolling, unroll-answer, unroll-output};
 ghost use Rattle.folder.specs.Folding.{folding, fold-answer, fold-output, fold-work};
-ghost use Rattle.embed.specs.Answers.{status, kept, run-entries, fold-entries, unroll-entries, folder-entries};
+ghost use Rattle.embed.specs.Answers.{status, kept, entries, of-run, of-unroll, of-fold};
 
 // The entries of an answer.
 const ENTRIES: usize = 5;
@@ -45,7 +45,7 @@ fn store(answer: &mut [u64], a: FoldReading)
 #[no_mangle]
 pub extern "C" fn runfold_read_run(run: &[u8], answer: &mut [u64]) -> u8
     ensures returned { λ r. ⌜ r ≡ status (now (answer .entry)) (run-reading (now (run .entry)) .refusal) ⌝ }
-    ensures answered { λ _. ⌜ now (answer .exit) ≡ run-entries (now (answer .entry)) (run-reading (now (run .entry))) ⌝ }
+    ensures answered { λ _. ⌜ now (answer .exit) ≡ entries (now (answer .entry)) (of-run (run-reading (now (run .entry)))) ⌝ }
 {
     if answer.len() < ENTRIES {
         return SHORT;
@@ -85,7 +85,7 @@ pub extern "C" fn runfold_read_fold(
     answer: &mut [u64],
 ) -> u8
     ensures returned { λ r. ⌜ r ≡ status (now (answer .entry)) (fold-reading (now (fold .entry)) limit (now (costs .entry)) first each .refusal) ⌝ }
-    ensures answered { λ _. ⌜ now (answer .exit) ≡ fold-entries (now (answer .entry)) (fold-reading (now (fold .entry)) limit (now (costs .entry)) first each) ⌝ }
+    ensures answered { λ _. ⌜ now (answer .exit) ≡ entries (now (answer .entry)) (fold-reading (now (fold .entry)) limit (now (costs .entry)) first each) ⌝ }
 {
     if answer.len() < ENTRIES {
         return SHORT;
@@ -104,7 +104,7 @@ pub extern "C" fn runfold_unroll(
     answer: &mut [u64],
 ) -> u8
     ensures returned { λ r. ⌜ r ≡ status (now (answer .entry)) (unroll-answer (unrolling (now (fold .entry)) limit) (length (now (out .entry))) .refusal) ⌝ }
-    ensures answered { λ _. ⌜ now (answer .exit) ≡ unroll-entries (now (answer .entry)) (unroll-answer (unrolling (now (fold .entry)) limit) (length (now (out .entry)))) ⌝ }
+    ensures answered { λ _. ⌜ now (answer .exit) ≡ entries (now (answer .entry)) (of-unroll (unroll-answer (unrolling (now (fold .entry)) limit) (length (now (out .entry))))) ⌝ }
     ensures written { λ _. ⌜ now (out .exit) ≡ kept (now (answer .entry)) (now (out .entry)) (unroll-output (unrolling (now (fold .entry)) limit) (now (out .entry))) ⌝ }
 {
     if answer.len() < ENTRIES {
@@ -138,7 +138,7 @@ pub extern "C" fn runfold_fold(
     answer: &mut [u64],
 ) -> u8
     ensures returned { λ r. ⌜ r ≡ status (now (answer .entry)) (fold-answer (folding (now (run .entry)) limit (now (table .entry)) first each) (length (now (costs .entry))) (length (now (choices .entry))) (length (now (out .entry))) .refusal) ⌝ }
-    ensures answered { λ _. ⌜ now (answer .exit) ≡ folder-entries (now (answer .entry)) (fold-answer (folding (now (run .entry)) limit (now (table .entry)) first each) (length (now (costs .entry))) (length (now (choices .entry))) (length (now (out .entry)))) ⌝ }
+    ensures answered { λ _. ⌜ now (answer .exit) ≡ entries (now (answer .entry)) (of-fold (fold-answer (folding (now (run .entry)) limit (now (table .entry)) first each) (length (now (costs .entry))) (length (now (choices .entry))) (length (now (out .entry))))) ⌝ }
     ensures written { λ _. ⌜ now (out .exit) ≡ kept (now (answer .entry)) (now (out .entry)) (fold-output (folding (now (run .entry)) limit (now (table .entry)) first each) (length (now (costs .entry))) (length (now (choices .entry))) (now (out .entry))) ⌝ }
     ensures costs_cleared { λ _. ⌜ now (costs .exit) ≡ kept (now (answer .entry)) (now (costs .entry)) (fold-work (folding (now (run .entry)) limit (now (table .entry)) first each) (length (now (costs .entry))) (length (now (choices .entry))) (now (costs .entry))) ⌝ }
     ensures choices_cleared { λ _. ⌜ now (choices .exit) ≡ kept (now (answer .entry)) (now (choices .entry)) (fold-work (folding (now (run .entry)) limit (now (table .entry)) first each) (length (now (costs .entry))) (length (now (choices .entry))) (now (choices .entry))) ⌝ }

@@ -141,7 +141,11 @@ impl Tables {
         }
         let width = if self.method == Method::Plain {
             let kind = self.kind(i, j);
-            if kind >> 16 == 1 { kind & 0xFFFF } else { 0 }
+            if kind >> 16 == 1 {
+                kind & 0xFFFF
+            } else {
+                0
+            }
         } else {
             self.repeat_at(nodes, prices, i, j)
         };
@@ -242,8 +246,20 @@ impl Bench {
         self.checked += 1;
     }
 
+    /// The mean over the runs of a family.
+    fn measure(&mut self, which: usize, nodes: usize, prices: &Prices) -> Times {
+        let mut sum = [0.0; 4];
+        for instance in 0..instances(which) {
+            let Times(times) = self.measure_run(FAMILIES[which], &family(which, nodes, instance), prices);
+            for (total, time) in sum.iter_mut().zip(times) {
+                *total += time / instances(which) as f64;
+            }
+        }
+        Times(sum)
+    }
+
     /// The lowest time of several rounds; in each round every method runs once, one after the other.
-    fn measure(&mut self, name: &str, items: &[Item], prices: &Prices) -> Times {
+    fn measure_run(&mut self, name: &str, items: &[Item], prices: &Prices) -> Times {
         let run = bytes_of(items);
         let mut times = [f64::INFINITY; 4];
         let (mut fold, mut began, mut round) = (Vec::new(), 0.0, 0);
@@ -260,7 +276,7 @@ impl Bench {
             }
             for m in 0..3 {
                 // The plain method is slow and steady: fewer rounds.
-                if m == 0 && run.len() > 600 && round > 2 {
+                if m == 0 && run.len() > 600 && round > 1 {
                     continue;
                 }
                 fold.clear();
@@ -278,11 +294,28 @@ impl Bench {
     }
 }
 
-const FAMILIES: [&str; 7] =
-    ["random, 2 labels", "random, 4 labels", "random, 256 labels", "one label", "Fibonacci word", "nested, noise", "groups, 8 levels"];
+const FAMILIES: [&str; 8] = [
+    "random, 2 labels",
+    "random, 4 labels",
+    "random, 256 labels",
+    "one label",
+    "Fibonacci word",
+    "nested, noise",
+    "groups, long sequences",
+    "groups, small",
+];
 
-fn family(which: usize, nodes: usize) -> Vec<Item> {
-    let r = &mut Random::new(which as u64 * 7919 + nodes as u64);
+/// How many runs of a family are measured; the time is their mean.
+fn instances(which: usize) -> u64 {
+    if which == 3 || which == 4 {
+        1
+    } else {
+        3
+    }
+}
+
+fn family(which: usize, nodes: usize, instance: u64) -> Vec<Item> {
+    let r = &mut Random::new((which as u64 * 7919 + nodes as u64) * 3 + instance);
     let items = match which {
         0 => families::random(r, nodes, 2),
         1 => families::random(r, nodes, 4),
@@ -290,10 +323,18 @@ fn family(which: usize, nodes: usize) -> Vec<Item> {
         3 => families::one_label(nodes),
         4 => families::fibonacci(nodes),
         5 => families::nested(r, nodes),
-        _ => families::groups(r, nodes),
+        6 => families::deep_groups(r, nodes),
+        _ => families::small_groups(r, nodes),
     };
     assert_eq!(reference::count_nodes(&items), nodes);
+    assert_eq!(depth(&items), if which < 6 { 0 } else { 8 });
     items
+}
+
+/// The deepest group of a run.
+fn depth(items: &[Item]) -> usize {
+    let inside = |item: &Item| if let Item::Group(_, body) = item { 1 + depth(body) } else { 0 };
+    items.iter().map(inside).max().unwrap_or(0)
 }
 
 fn price_sets() -> [(&'static str, Prices); 4] {
@@ -332,12 +373,12 @@ fn main() {
         "| run of 1,024 nodes | prices | folder, ms | plain, ms | transposed, ms | blocked, ms | of plain | of transposed | of blocked |\n|---|---|---:|---:|---:|---:|---:|---:|---:|\n",
     );
     let mut growth = Vec::new();
-    let mut over = Vec::new();
+    let mut summary =
+        String::from("| run of 1,024 nodes | of plain | of transposed | of blocked |\n|---|---:|---:|---:|\n");
     for (which, name) in FAMILIES.iter().enumerate() {
-        let items = family(which, 1024);
+        let mut ratios = [(f64::INFINITY, 0f64); 3];
         for (k, (prices_name, prices)) in price_sets().iter().enumerate() {
-            let label = format!("{name}, {prices_name}");
-            let Times(t) = bench.measure(&label, &items, prices);
+            let Times(t) = bench.measure(which, 1024, prices);
             let row = format!(
                 "| {name} | {prices_name} | {:.2} | {:.1} | {:.2} | {:.2} | {:.3} | {:.2} | {:.2} |",
                 t[0] * 1e3,
@@ -354,15 +395,18 @@ fn main() {
             if k == 0 {
                 growth.push((which, 1024, t));
             }
-            if t[0] / t[2] > 0.2 {
-                over.push(format!("{name}, {prices_name} ({:.2})", t[0] / t[2]));
+            for (m, (least, most)) in ratios.iter_mut().enumerate() {
+                *least = least.min(t[0] / t[1 + m]);
+                *most = most.max(t[0] / t[1 + m]);
             }
         }
+        let [a, b, c] = ratios.map(|(least, most)| format!("{least:.3} to {most:.3}"));
+        let _ = writeln!(summary, "| {name} | {a} | {b} | {c} |");
     }
     for (which, name) in FAMILIES.iter().enumerate() {
         for &nodes in &SIZES[..3] {
             let unit = &price_sets()[0].1;
-            let Times(t) = bench.measure(name, &family(which, nodes), unit);
+            let Times(t) = bench.measure(which, nodes, unit);
             println!("{name}, {nodes} nodes, unit: {:.3} ms, {:.2} of transposed", t[0] * 1e3, t[0] / t[2]);
             growth.push((which, nodes, t));
         }
@@ -377,14 +421,14 @@ fn main() {
             .collect();
         let _ = writeln!(small, "| {name} | {} |", cells.join(" | "));
     }
-    let over = if over.is_empty() { "nowhere".into() } else { over.join("; ") };
+    println!("\nthe folder's part of each method's time, lowest to highest over the prices\n{summary}");
     println!("{} folds read back, all costs agree", bench.checked);
-    println!("above 0.2 of the transposed method at 1,024 nodes: {over}");
-    std::fs::write(page, page_text(date, compiler, &full, &small, &over, bench.checked)).expect("the page is written");
+    let text = page_text(date, compiler, &full, &small, &summary, bench.checked);
+    std::fs::write(page, text).expect("the page is written");
     std::fs::write(plot, plot_text(&growth)).expect("the plot is written");
 }
 
-fn page_text(date: &str, compiler: &str, full: &str, small: &str, over: &str, checked: usize) -> String {
+fn page_text(date: &str, compiler: &str, full: &str, small: &str, summary: &str, checked: usize) -> String {
     let processor = std::fs::read_to_string("/proc/cpuinfo").unwrap_or_default();
     let processor = processor
         .lines()
@@ -394,7 +438,8 @@ fn page_text(date: &str, compiler: &str, full: &str, small: &str, over: &str, ch
         "<!-- How fast the folder is beside the report's method. Written by scripts/benchmark.sh. -->
 # The folder beside the report's method
 
-Measured on {date}, on one processor ({processor}), {compiler}. `scripts/benchmark.sh` measures again and writes this page.
+Measured on {date} on one processor ({processor}); C by {compiler}.
+`scripts/benchmark.sh` measures again and writes this page.
 
 **What is compared.** All in one run, on the same bytes:
 
@@ -408,19 +453,23 @@ Measured on {date}, on one processor ({processor}), {compiler}. `scripts/benchma
 
 The report's forms get the siblings' letters from a hash table and write a cheapest fold too, any one of them: they have no tie
 rule. Width limit 1,024. Memory is allocated once and touched before the first round; the folder's work is 0 at entry and at
-exit, the others set up their tables themselves. A time is processor time, the lowest of at least five rounds (plain: three); in
-a round each method runs once. The costs of all four are compared on every input, and each fold is read back and unrolled
-({checked} folds in this run). No time is a test.
+exit, the others set up their tables themselves. A time is processor time, the lowest of at least five rounds (plain: two); in a
+round each method runs once. Where a family has random runs, three are measured and the mean is given. The costs of all four are
+compared on every input, and each fold is read back and unrolled ({checked} folds in this run). No time is a test.
 
 Inputs follow from fixed seeds (`rust/src/inputs.rs`): random labels; one label; the Fibonacci word; repeats in repeats with
-another label at one node in 64; groups in groups down to eight levels. Unit prices are 1 for each label, first 1, each 0; random
-prices are up to 1,000 a label.
+another label at one node in 64; groups down to eight levels, once as nine long sequences, each inside the one before, once as
+many small groups. Unit prices are 1 for each label, first 1, each 0; the prices \"first 0\" have 1 for each label too; random
+prices are up to 1,000 a label, first up to 2,000 and each up to 100.
 
 ## 1,024 nodes
 
-{full}
-Above 0.2 of *transposed*: {over}.
+The folder's part of each method's time, lowest to highest over the four prices:
 
+{summary}
+All times:
+
+{full}
 ## Growth
 
 Milliseconds of the folder, and in parentheses its part of plain, transposed and blocked.
@@ -462,7 +511,8 @@ fn plot_text(growth: &[(usize, usize, [f64; 4])]) -> String {
         (3, 0, "folder, one label", "#c0392b", ""),
         (4, 0, "folder, Fibonacci word", "#27ae60", ""),
         (5, 0, "folder, nested, noise", "#8e44ad", ""),
-        (6, 0, "folder, groups, 8 levels", "#e67e22", ""),
+        (6, 0, "folder, groups, long sequences", "#e67e22", ""),
+        (7, 0, "folder, groups, small", "#d4ac0d", ""),
     ];
     for (k, (which, method, name, colour, dash)) in lines.iter().enumerate() {
         let points: Vec<String> = growth

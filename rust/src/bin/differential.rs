@@ -38,7 +38,7 @@ struct Compare {
     refusals: [[u64; 15]; 5],
     short_answers: u64,
     against_trial: u64,
-    against_bytes: u64,
+    written: u64,
     against_cost: u64,
     longest: usize,
     deepest: usize,
@@ -87,7 +87,15 @@ fn marked_answer(n: usize) -> Vec<u64> {
 }
 
 impl Compare {
-    fn differ(&self, entry: Entry, input: &[u8], call: &dyn Fn() -> String, what: &str, given: &str, expected: &str) -> ! {
+    fn differ(
+        &self,
+        entry: Entry,
+        input: &[u8],
+        call: &dyn Fn() -> String,
+        what: &str,
+        given: &str,
+        expected: &str,
+    ) -> ! {
         println!("DIFFERENCE in the {}, seed {}", ENTRY_NAMES[entry as usize], self.seed);
         println!("input {}", if input.is_empty() { "-".into() } else { hex(input) });
         println!("call: {}", call());
@@ -217,9 +225,7 @@ impl Compare {
             Ok(solved) => reference::lend(solved, a, b, room),
             Err(refused) => (*refused, Vec::new()),
         };
-        let call = || {
-            format!("limit {limit}, {}, work of {a} and {b} entries, output of {room} bytes", shown(prices))
-        };
+        let call = || format!("limit {limit}, {}, work of {a} and {b} entries, output of {room} bytes", shown(prices));
         let mut answer = self.answer_slice();
         let (mut costs, mut choices, mut out) = (marked_words(a), marked_words(b), marked_bytes(room));
         let status = raw::fold(
@@ -246,7 +252,10 @@ impl Compare {
         self.check_slice(Entry::Folder, run, &call, "output", &out, &after);
         self.check_slice(Entry::Folder, run, &call, "first work slice", &costs, &costs_after);
         self.check_slice(Entry::Folder, run, &call, "second work slice", &choices, &choices_after);
-        self.longest = self.longest.max(if expected.refusal == 0 { nodes } else { 0 });
+        if enough && expected.refusal == 0 {
+            self.written += 1;
+            self.longest = self.longest.max(nodes);
+        }
     }
 
     fn limit(&mut self) -> usize {
@@ -299,7 +308,6 @@ impl Compare {
         let run = inputs::bytes_of(items);
         let solved = reference::solve(&run, limit, prices);
         self.folder(&run, limit, prices, &solved);
-        self.against_bytes += 1;
         if let Ok(solved) = solved {
             assert!(solved.bytes.len() <= 4 * solved.nodes, "a fold of more than four bytes a node");
             self.deepest = self.deepest.max(depth(items));
@@ -362,7 +370,6 @@ impl Compare {
         if bytes.len() <= 120 || reference::read_run(bytes).refusal != 0 {
             let solved = reference::solve(bytes, limit, &prices);
             self.folder(bytes, limit, &prices, &solved);
-            self.against_bytes += 1;
         }
     }
 }
@@ -441,7 +448,7 @@ fn edges() -> Vec<Vec<u8>> {
 fn main() {
     let mut args = std::env::args().skip(1).map(|word| word.parse::<u64>().expect("a number"));
     let seed = args.next().unwrap_or(1);
-    let scale = args.next().unwrap_or(40) as usize;
+    let scale = args.next().unwrap_or(100) as usize;
     let began = Instant::now();
     let mut c = Compare {
         seed,
@@ -450,7 +457,7 @@ fn main() {
         refusals: [[0; 15]; 5],
         short_answers: 0,
         against_trial: 0,
-        against_bytes: 0,
+        written: 0,
         against_cost: 0,
         longest: 0,
         deepest: 0,
@@ -471,19 +478,21 @@ fn main() {
     }
     done("the edges of the rules");
 
-    for n in 0..=7 {
+    for n in 0..=8 {
         inputs::every_run(n, &mut |items| {
             let run = inputs::bytes_of(items);
             c.run_reader(&run);
             if n <= 6 {
                 c.parts(&run);
             }
-            c.whole(items, 1024, &unit());
+            if n <= 7 {
+                c.whole(items, 1024, &unit());
+            }
             let (limit, prices) = (c.limit(), c.prices());
             c.whole(items, limit, &prices);
         });
     }
-    done("every run of up to 7 nodes over two labels, groups among them");
+    done("every run of up to 8 nodes over two labels, groups among them");
 
     for n in 0..=13 {
         inputs::every_word(n, &mut |items| {
@@ -573,10 +582,8 @@ fn main() {
         if entry == Entry::Part as usize {
             continue;
         }
-        let seen: Vec<String> = (0..15)
-            .filter(|&n| c.refusals[entry][n] > 0)
-            .map(|n| format!("{n}: {}", c.refusals[entry][n]))
-            .collect();
+        let seen: Vec<String> =
+            (0..15).filter(|&n| c.refusals[entry][n] > 0).map(|n| format!("{n}: {}", c.refusals[entry][n])).collect();
         println!("  {:15} {}", ENTRY_NAMES[entry], seen.join("  "));
         for &number in POSSIBLE[entry] {
             if c.refusals[entry][number as usize] == 0 {
@@ -594,8 +601,8 @@ fn main() {
         println!("  {name:15} {calls:9}");
     }
     println!(
-        "  folds byte for byte against the report's programme: {}; against a trial of every fold: {}; by cost: {}",
-        c.against_bytes, c.against_trial, c.against_cost
+        "  folds written and compared byte for byte: {}; runs held to a trial of every fold: {}; long runs held to the lowest cost: {}",
+        c.written, c.against_trial, c.against_cost
     );
     println!("  longest run {} nodes, deepest group {} levels", c.longest, c.deepest);
     println!(

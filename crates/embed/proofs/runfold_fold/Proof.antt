@@ -1,14 +1,10 @@
 -- `embed::runfold_fold` meets its contract: what the folder writes and leaves in the work slices, and its answer stored as
 -- five numbers.
 use borrow.Author.Needs.{needs}
-use mathlib.Core.Path.{_≡_, sym, subst, _∙_}
-use mathlib.Core.List.{List}
-use Prim.Native.Nat.{ℕ}
+use mathlib.Core.Path.{ap, _∙_}
 use native.Mathlib.Omega.{arith}
-use lib.ListN.{getD, take}
-use Rattle.format.specs.Limits.{priced}
-use Rattle.optimum.specs.Demands.{CheapestWithin}
-use Rattle.embed.proofs.Entries.{short-status, short-kept, short-entries, long-kept, folder-stored, cheapest-stored}
+use Rattle.embed.specs.Answers.{of-fold}
+use Rattle.embed.proofs.Entries.{short-status, short-kept, short-entries, long-kept, stored, cheapest-stored}
 use Rattle.embed.proofs.runfold_fold.Statement.{statement}
 use Rattle.embed.proofs.runfold_fold.Tie as tie
 
@@ -18,7 +14,7 @@ returns c =
     let short = c .if1 .taken in (
       short-status a short _,
       (
-        short-entries a short _ _ _ _ _,
+        short-entries a short _,
         (short-kept a short _ _, (short-kept a short _ _, (short-kept a short _ _, λ z. absurd (omega (arith, z))))),
       ),
     )
@@ -46,21 +42,22 @@ returns-2 c =
     let after = c .before .before in
     let done = after .before .before .before .before .before .before .before .before in
     let entry = done .before .before .before .before in
-    let a = entry .before .before .before .before .before .before .before .args in
+    let a = entry .before .before .before .before .before .before .before .args .answer .now in
     let long = entry .if1 .left in
     let said = done .fold .ensures in
-    let numbers = after .store .ensures in
-    let stored = folder-stored (a .answer .now) long _ _ _ (said .0) numbers in (
-      stored .0,
+    let five = after .store .ensures in
+    let answer = of-fold (done .fold .result) in
+    let numbers = stored a long _ answer _ (ap of-fold (said .0)) five in (
+      numbers .0,
       (
-        stored .1,
+        numbers .1,
         (
-          said .1 .0 ∙ long-kept (a .answer .now) long _ _,
+          said .1 .0 ∙ long-kept a long _ _,
           (
-            said .1 .1 .0 ∙ long-kept (a .answer .now) long _ _,
+            said .1 .1 .0 ∙ long-kept a long _ _,
             (
-              said .1 .1 .1 .0 ∙ long-kept (a .answer .now) long _ _,
-              λ z. cheapest-stored _ _ _ _ _ (done .fold .result) _ numbers (said .1 .1 .1 .1 z),
+              said .1 .1 .1 .0 ∙ long-kept a long _ _,
+              λ z. cheapest-stored _ _ _ _ _ answer _ five (said .1 .1 .1 .1 z),
             ),
           ),
         ),

@@ -1,6 +1,6 @@
 -- `embed::runfold_part` meets its contract: a part of a run is the first bytes from its offset on, as many as it has.
 use borrow.Author.Needs.{needs}
-use mathlib.Core.Path.{_≡_, ap, _∙_}
+use mathlib.Core.Path.{ap, _∙_}
 use mathlib.Core.List.{List}
 use Prim.Native.Nat.{ℕ}
 use lib.ListN.{length, take, drop}

@@ -1,13 +1,13 @@
 -- `embed::runfold_read_fold` meets its contract: the fold reader's answer, stored as five numbers.
 use borrow.Author.Needs.{needs}
-use Rattle.embed.proofs.Entries.{short-status, short-entries, fold-stored}
+use Rattle.embed.proofs.Entries.{short-status, short-entries, stored}
 use Rattle.embed.proofs.runfold_read_fold.Statement.{statement}
 use Rattle.embed.proofs.runfold_read_fold.Tie as tie
 
 returns : tie.Need-returns
 returns c =
     let a = c .before .before .before .before .args .answer .now in
-    (short-status a (c .if1 .taken) _, short-entries a (c .if1 .taken) _ _ _ _ _)
+    (short-status a (c .if1 .taken) _, short-entries a (c .if1 .taken) _)
 
 read-fold-requires : tie.Need-read-fold-requires
 read-fold-requires c κs = search needs
@@ -20,9 +20,9 @@ same-length c = search needs
 
 returns-2 : tie.Need-returns-2
 returns-2 c =
-    let read = c .before .before .before .before in
-    fold-stored (read .before .before .before .before .before .args .answer .now) (read .before .if1 .left) _ _ _ (read .read-fold .ensures)
-    (c .before .before .store .ensures)
+    let done = c .before .before .before .before in
+    stored (done .before .before .before .before .before .args .answer .now) (done .before .if1 .left) _ (done .read-fold .result) _
+    (done .read-fold .ensures) (c .before .before .store .ensures)
 
 pub runfold-read-fold-spec : {M : Type 1} → statement M
 runfold-read-fold-spec =

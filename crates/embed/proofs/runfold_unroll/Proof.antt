@@ -1,7 +1,8 @@
 -- `embed::runfold_unroll` meets its contract: what the unroller writes, and its answer stored as five numbers.
 use borrow.Author.Needs.{needs}
-use mathlib.Core.Path.{_∙_}
-use Rattle.embed.proofs.Entries.{short-status, short-kept, short-entries, long-kept, unroll-stored}
+use mathlib.Core.Path.{ap, _∙_}
+use Rattle.embed.specs.Answers.{of-unroll}
+use Rattle.embed.proofs.Entries.{short-status, short-kept, short-entries, long-kept, stored}
 use Rattle.embed.proofs.runfold_unroll.Statement.{statement}
 use Rattle.embed.proofs.runfold_unroll.Tie as tie
 
@@ -9,7 +10,7 @@ returns : tie.Need-returns
 returns c =
     let a = c .before .before .before .before .args .answer .now in
     let short = c .if1 .taken in
-    (short-status a short _, (short-entries a short _ _ _ _ _, short-kept a short _ _))
+    (short-status a short _, (short-entries a short _, short-kept a short _ _))
 
 unroll-requires : tie.Need-unroll-requires
 unroll-requires c κs = search needs
@@ -29,8 +30,9 @@ returns-2 c =
     let entry = done .before .before in
     let a = entry .before .before .before .before .args .answer .now in
     let long = entry .if1 .left in
-    let stored = unroll-stored a long _ _ _ (done .unroll .ensures .0) (c .before .before .store .ensures) in
-    (stored .0, (stored .1, done .unroll .ensures .1 ∙ long-kept a long _ _))
+    let said = done .unroll .ensures in
+    let numbers = stored a long _ (of-unroll (done .unroll .result)) _ (ap of-unroll (said .0)) (c .before .before .store .ensures) in
+    (numbers .0, (numbers .1, said .1 ∙ long-kept a long _ _))
 
 pub runfold-unroll-spec : {M : Type 1} → statement M
 runfold-unroll-spec =

@@ -4,13 +4,10 @@ use native.Mathlib.Omega.{arith}
 use mathlib.Core.Path.{_∙_, ap}
 use mathlib.Core.List.{_∷_}
 use Prim.Native.Nat.{ℕ}
-use lib.ListN.{length, drop, length-set}
+use lib.ListN.{drop, length-set}
 use Rattle.embed.proofs.Entries.{five-set}
 use Rattle.embed.proofs.store.Statement.{statement}
 use Rattle.embed.proofs.store.Tie as tie
-use Rattle.embed.proofs.store.Reads as reads
-use Rattle.embed.proofs.store.Lts as lts
-use Rattle.embed.proofs.wide.Reads as wide-reads
 
 wide-requires : tie.Need-wide-requires
 wide-requires c κs = search needs
