@@ -1,0 +1,48 @@
+-- `known::cases::steps` is safe and ends: a step less is left with each turn.
+use mathlib.Core.Path.{_≡_}
+use Prim.Native.Nat.{_-_}
+use borrow.Author.Needs.{needs}
+use lib.ListN.{length}
+use Rattle.known.proofs.cases.steps.Statement.{statement}
+use Rattle.known.proofs.cases.steps.Tie as tie
+
+abbrev Inv-loop : tie.InvT-loop
+Inv-loop n run₀ i₀ run i = length run ≡ length run₀
+
+abbrev μ-loop : tie.MeasureT-loop
+μ-loop n run₀ i₀ run i = n - i
+
+loop-holds : tie.Need-loop-holds Inv-loop μ-loop
+loop-holds c = search needs
+
+put-step-requires : tie.Need-put-step-requires Inv-loop μ-loop
+put-step-requires c κs = search needs
+
+add-i : tie.Need-add-i Inv-loop μ-loop
+add-i c = search needs
+
+loop-less : tie.Need-loop-less Inv-loop μ-loop
+loop-less c = search needs
+
+loop-again : tie.Need-loop-again Inv-loop μ-loop
+loop-again c = search needs
+
+same-length : tie.Need-same-length Inv-loop μ-loop
+same-length c = search needs
+
+returns : tie.Need-returns Inv-loop μ-loop
+returns c = search needs
+
+pub steps-spec : {M : Type 1} → statement M
+steps-spec =
+    tie.close
+    (tie.spec
+    Inv-loop
+    μ-loop
+    loop-holds
+    put-step-requires
+    add-i
+    loop-less
+    loop-again
+    same-length
+    returns)
