@@ -9,8 +9,8 @@ use Rattle.format.specs.Tree.{tree-of}
 use Rattle.optimum.specs.Cheapest.{Run, back}
 use Rattle.optimum.proofs.Cut.{siblings-le-nodes, siblings-back}
 use Rattle.folder.specs.Table.{Entered, Below, Filled, Kept, KeptOthers, Placed, Numbered, Classed, at-most, prices-of, cells}
-use Rattle.folder.specs.Rows.{Rising, Stored, Single, Matches, Growing, RowReady, RowSolved, LevelReady, RowGround, ScratchReady}
-use Rattle.folder.proofs.Tables.{number-first, rising-numbered, stored-entered, stored-kept, entered-none}
+use Rattle.folder.specs.Rows.{Falling, Stored, Single, Matches, Growing, RowReady, RowSolved, LevelReady, RowGround, ScratchReady}
+use Rattle.folder.proofs.Tables.{number-last, falling-numbered, stored-entered, stored-kept, entered-none}
 use Rattle.folder.proofs.Tables.{kept-others-none, kept-others-then, kept-of-others, below-others}
 
 -- No more siblings than nodes.
@@ -21,23 +21,23 @@ siblings-few {s} {limit = limit} ready =
 
 -- What a row is solved from: the siblings listed, and the rows further on entered.
 module _ {s : List ℕ} {limit : ℕ} {table prices costs choices offsets numbers matches : List ℕ} {i m : ℕ}
-    (ready : LevelReady s (getD numbers 0 0) limit table prices costs choices) (ground : RowGround s offsets numbers i m matches) where
-  pub level-rising : (k room : ℕ) → cells (getD numbers 0 0 + nodes (tree-of s)) ≤ room → k ≤ m → Rising numbers k room
-  level-rising k room fits h =
+    (ready : LevelReady s (getD numbers m 0) limit table prices costs choices) (ground : RowGround s offsets numbers i m matches) where
+  pub level-falling : (k room : ℕ) → cells (getD numbers m 0 + nodes (tree-of s)) ≤ room → k ≤ m → Falling numbers k room
+  level-falling k room fits h =
       let few = siblings-few ready in
-      rising-numbered (at-most limit) (getD numbers 0 0) (tree-of s) numbers room k (ground .numbered .numbered) (ready .spelled .run (at-most limit))
+      falling-numbered (at-most limit) (getD numbers m 0) (tree-of s) numbers room k (ground .numbered .numbered) (ready .spelled .run (at-most limit))
       (ready .total) fits (ground .long-numbers) few (omega (arith, ground .count))
 
   pub row-ready : {own : ℕ} → Single s table costs numbers i own
-      → Entered (at-most limit) (prices-of table prices) (getD numbers 0 0) (tree-of s) (i + 1) costs choices
-      → Below (at-most limit) (prices-of table prices) (getD numbers 0 0) (tree-of s) costs choices
+      → Entered (at-most limit) (prices-of table prices) (getD numbers m 0) (tree-of s) (i + 1) costs choices
+      → Below (at-most limit) (prices-of table prices) (getD numbers m 0) (tree-of s) costs choices
       → RowReady costs numbers i m own limit prices matches
   row-ready single entered below =
       record {
         tree = tree-of s;
         allowed = at-most limit;
         prices-are = prices-of table prices;
-        base = getD numbers 0 0;
+        base = getD numbers m 0;
         choices = choices;
         run = ready .spelled .run (at-most limit);
         count = ground .count;
@@ -49,27 +49,27 @@ module _ {s : List ℕ} {limit : ℕ} {table prices costs choices offsets number
         group-low = ready .prepared .low;
         numbers-are = ground .numbered;
         rows-below = entered;
-        own-cost = single .costs-it (at-most limit) (prices-of table prices) choices (λ l. refl) (λ l. refl) below;
+        own-cost = single .costs-it (at-most limit) (prices-of table prices) choices (λ l. refl) (λ l. refl) (rw (ground .count) below);
         matches = ground .matched;
       }
 
   -- The solved row stored: one more sibling is entered, and nothing but stretches of this sequence has changed.
   module _ {own : ℕ} (single : Single s table costs numbers i own)
-      (entered : Entered (at-most limit) (prices-of table prices) (getD numbers 0 0) (tree-of s) (i + 1) costs choices)
-      (below : Below (at-most limit) (prices-of table prices) (getD numbers 0 0) (tree-of s) costs choices) where
+      (entered : Entered (at-most limit) (prices-of table prices) (getD numbers m 0) (tree-of s) (i + 1) costs choices)
+      (below : Below (at-most limit) (prices-of table prices) (getD numbers m 0) (tree-of s) costs choices) where
     pub row-entered : {rowcosts rowchoices costs′ choices′ : List ℕ} → RowSolved costs numbers i m own limit prices matches rowcosts rowchoices
         → Stored numbers i (m - i) rowcosts costs costs′ → Stored numbers i (m - i) rowchoices choices choices′
-        → Entered (at-most limit) (prices-of table prices) (getD numbers 0 0) (tree-of s) i costs′ choices′
+        → Entered (at-most limit) (prices-of table prices) (getD numbers m 0) (tree-of s) i costs′ choices′
     unfolding row-ready
     row-entered r c k =
         let few = ground .some in
-        stored-entered (at-most limit) (getD numbers 0 0) (tree-of s) numbers i (m - i) (ready .spelled .run (at-most limit)) (omega (arith, ground .count))
+        stored-entered (at-most limit) (getD numbers m 0) (tree-of s) numbers i (m - i) (ready .spelled .run (at-most limit)) (omega (arith, ground .count))
         (ground .numbered .numbered) (prices-of table prices) _ _ _ _ _ _ (r .solved (row-ready single entered below) (m - i) (omega arith)) c k entered
 
-  pub row-kept : {row before after : List ℕ} → Stored numbers i (m - i) row before after → KeptOthers (getD numbers 0 0) (tree-of s) before after
+  pub row-kept : {row before after : List ℕ} → Stored numbers i (m - i) row before after → KeptOthers (getD numbers m 0) (tree-of s) before after
   row-kept {row} {before} {after} =
       let few = ground .some in
-      stored-kept (at-most limit) (getD numbers 0 0) (tree-of s) numbers i (m - i) (ready .spelled .run (at-most limit)) (omega (arith, ground .count))
+      stored-kept (at-most limit) (getD numbers m 0) (tree-of s) numbers i (m - i) (ready .spelled .run (at-most limit)) (omega (arith, ground .count))
       (ground .numbered .numbered) row before after
 
 -- Arrays of zeros are ready to work in.
@@ -117,12 +117,12 @@ module _ {s : List ℕ} {b limit : ℕ} {table prices costs₀ choices₀ : List
   module _ {m i j : ℕ} {costs choices matches matches′ kinds numbers : List ℕ} (count : siblings (tree-of s) ≡ m) (next : j + 1 ≡ i) (near : i ≤ m)
       (numbered : Numbered b (tree-of s) numbers) (d : Descended s b limit table prices costs₀ choices₀ i costs choices matches)
       (classed : Classed (tree-of s) m kinds) (g : Growing kinds j m matches matches′) where
-    first : getD numbers 0 0 ≡ b
-    first = numbered .numbered 0 (omega arith) ∙ number-first b (tree-of s)
+    last : getD numbers m 0 ≡ b
+    last = rw (← count) (numbered .numbered (siblings (tree-of s)) (omega arith) ∙ number-last b (tree-of s) (run .plain))
 
-    level-again : LevelReady s (getD numbers 0 0) limit table prices costs choices
+    level-again : LevelReady s (getD numbers m 0) limit table prices costs choices
     level-again =
-        rw first (record {
+        rw last (record {
           spelled = ready .spelled;
           total = ready .total;
           cost-room = rw (d .kept-costs .same-length) (ready .cost-room);
@@ -139,7 +139,7 @@ module _ {s : List ℕ} {b limit : ℕ} {table prices costs₀ choices₀ : List
           long-offsets = long;
           placed = placed;
           long-numbers = long-numbers;
-          numbered = rw first numbered;
+          numbered = rw last numbered;
           count = count;
           some = omega arith;
           long-matches = g .long;
@@ -148,23 +148,23 @@ module _ {s : List ℕ} {b limit : ℕ} {table prices costs₀ choices₀ : List
 
     pub row-asks : {offsets least covers rowcosts rowchoices : List ℕ} → (length offsets ≡ 1025) × Placed s offsets → length numbers ≡ 1025
         → ScratchReady least covers rowcosts rowchoices → Below (at-most limit) (prices-of table prices) b (tree-of s) costs₀ choices₀
-        → LevelReady s (getD numbers 0 0) limit table prices costs choices
+        → LevelReady s (getD numbers m 0) limit table prices costs choices
         × (RowGround s offsets numbers j m matches′
         × (ScratchReady least covers rowcosts rowchoices
-        × (Entered (at-most limit) (prices-of table prices) (getD numbers 0 0) (tree-of s) (j + 1) costs choices
-        × Below (at-most limit) (prices-of table prices) (getD numbers 0 0) (tree-of s) costs choices)))
+        × (Entered (at-most limit) (prices-of table prices) (getD numbers m 0) (tree-of s) (j + 1) costs choices
+        × Below (at-most limit) (prices-of table prices) (getD numbers m 0) (tree-of s) costs choices)))
     row-asks placed long scratch below =
         let kept = below-others _ _ _ run _ _ _ _ _ (d .kept-costs) (d .kept-choices) below in
-        (level-again, (row-ground (placed .0) (placed .1) long, (scratch, (rw (first, next) (d .entered), rw first kept))))
+        (level-again, (row-ground (placed .0) (placed .1) long, (scratch, (rw (last, next) (d .entered), rw last kept))))
 
-    pub descended-more : {costs′ choices′ : List ℕ} → Entered (at-most limit) (prices-of table prices) (getD numbers 0 0) (tree-of s) j costs′ choices′
-        → KeptOthers (getD numbers 0 0) (tree-of s) costs costs′ → KeptOthers (getD numbers 0 0) (tree-of s) choices choices′
+    pub descended-more : {costs′ choices′ : List ℕ} → Entered (at-most limit) (prices-of table prices) (getD numbers m 0) (tree-of s) j costs′ choices′
+        → KeptOthers (getD numbers m 0) (tree-of s) costs costs′ → KeptOthers (getD numbers m 0) (tree-of s) choices choices′
         → Descended s b limit table prices costs₀ choices₀ j costs′ choices′ matches′
     descended-more e kc kk =
         record {
-          entered = rw first at e;
-          kept-costs = kept-others-then _ _ _ _ _ (d .kept-costs) (rw first at kc);
-          kept-choices = kept-others-then _ _ _ _ _ (d .kept-choices) (rw first at kk);
+          entered = rw last at e;
+          kept-costs = kept-others-then _ _ _ _ _ (d .kept-costs) (rw last at kc);
+          kept-choices = kept-others-then _ _ _ _ _ (d .kept-choices) (rw last at kk);
           long-matches = g .long;
           matched = matched-again;
           low = g .low;

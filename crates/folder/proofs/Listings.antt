@@ -11,14 +11,14 @@ use Rattle.format.specs.Forest.{Forest, end, step, group, repeat, Plain, siblin
 use Rattle.format.specs.Machine.{is-node}
 use Rattle.format.specs.Parts.{node-part}
 use Rattle.format.specs.Tree.{tree-of}
-use Rattle.format.proofs.Forests.{bytes-join, nodes-join}
+use Rattle.format.proofs.Forests.{bytes-join}
 use Rattle.format.proofs.Parts.{Node, a-step, a-group, part-of-node}
 use Rattle.format.proofs.Bridge.{bytes-injective}
 use Rattle.reader.proofs.Walking.{cut-one}
 use Rattle.optimum.specs.Cheapest.{Run, front, back, node}
-use Rattle.optimum.proofs.Cut.{join-cut, front-add, front-whole, back-back, siblings-back, siblings-le-nodes, run-back}
+use Rattle.optimum.proofs.Cut.{join-cut, front-add, front-whole, back-back, siblings-back, siblings-le-nodes, nodes-cut, run-back}
 use Rattle.folder.specs.Table.{Spelled, Placed, Numbered, FirstEqual, Classed, node-count, number}
-use Rattle.folder.proofs.Tables.{number-within}
+use Rattle.folder.proofs.Tables.{number-first, number-within}
 
 -- A list filled from the front: what holds of the first m entries, and of the one put next, holds of the first m + 1.
 pub entry-more : (P : ℕ → ℕ → Type 0) (xs : List ℕ) (m v : ℕ) → m < length xs → ((i : ℕ) → i < m → P i (getD xs i 0)) → P m v
@@ -108,8 +108,8 @@ place-next i t =
     ap (λ (f : Forest). length (bytes f)) (front-add i 1 (i + 1) t refl)
     ∙ rw bytes-join (length-append (bytes (front i t)) (bytes (node i t)))
 
-pub number-next : (b i : ℕ) (t : Forest) → number b t (i + 1) ≡ number b t i + nodes (node i t)
-number-next b i t = omega (arith, ap nodes (front-add i 1 (i + 1) t refl) ∙ nodes-join (front i t) (node i t))
+pub number-next : (b i : ℕ) (t : Forest) → number b t i ≡ number b t (i + 1) + nodes (node i t)
+number-next b i t = omega (arith, nodes-cut 1 (back i t), ap nodes (back-back i 1 (i + 1) t refl))
 
 -- Each sibling of a run is one node, of two bytes at least.
 first-node : (t : Forest) → Plain t → 0 < siblings t → Node (front 1 t)
@@ -136,6 +136,9 @@ pub data Sibling (t : Forest) (i c l : ℕ) : Type 0 where
 module _ (s : List ℕ) (z : Spelled s) where
   run-any : Run (record { widest = 0 }) (tree-of s)
   run-any = z .run (record { widest = 0 })
+
+  pub spelled-count : node-count s 0 ≡ nodes (tree-of s)
+  spelled-count = ap (λ (x : List ℕ). node-count x 0) (sym (z .form)) ∙ node-count-bytes (tree-of s) (run-any .plain)
 
   pub place-rest : (i at : ℕ) → at ≡ place i (tree-of s) → drop at s ≡ bytes (back i (tree-of s))
   place-rest i at e =
@@ -181,15 +184,20 @@ module _ (s : List ℕ) (z : Spelled s) where
         by-form (group l g f) q = is-group g f (rw (byte (group l g f) q 1 (at + 1) refl) q) (byte (group l g f) q 0 at (omega arith))
         by-form (repeat h w g f) q = absurd (rw q at (run-back i run-any .plain))
 
--- A walk over the siblings: m are passed, the next byte is at `at`, and the next node has the number n.
+-- A walk over the siblings: m are passed, the next byte is at `at`, and the next sibling has the number n.
 pub record Walked (s : List ℕ) (b m at n : ℕ) : Type 0 where
   pub few : m ≤ siblings (tree-of s)
   pub placed : at ≡ place m (tree-of s)
   pub numbered : n ≡ number b (tree-of s) m
 
-pub walked-none : (s : List ℕ) (b : ℕ) → Walked s b 0 0 b
-unfolding front bytes nodes
-walked-none s b = record { few = omega arith; placed = refl; numbered = omega arith }
+pub walked-none : (s : List ℕ) (z : Spelled s) (b k : ℕ) → k ≡ node-count s 0 → Walked s b 0 0 (b + k)
+unfolding front bytes
+walked-none s z b k e =
+    record {
+      few = omega arith;
+      placed = refl;
+      numbered = omega (arith, spelled-count s z, number-first b (tree-of s));
+    }
 
 module _ (s : List ℕ) (z : Spelled s) (b m at n : ℕ) (w : Walked s b m at n) where
   -- Siblings are left exactly where bytes are.
@@ -225,14 +233,18 @@ module _ (s : List ℕ) (z : Spelled s) (b m at n : ℕ) (w : Walked s b m at n)
     pub walked-long : 2 ≤ length part
     walked-long = rw walked-part (node-long (node m (tree-of s)) (sibling-node s z m (walked-on h)))
 
-    pub walked-more : (k : ℕ) → k ≡ node-count part 0 → Walked s b (m + 1) (at + length part) (n + k)
+    walked-count : node-count part 0 ≡ nodes (node m (tree-of s))
+    walked-count = rw walked-part (node-count-bytes (node m (tree-of s)) (node-plain _ (sibling-node s z m (walked-on h))))
+
+    pub walked-left : node-count part 0 ≤ n
+    walked-left = omega (arith, walked-count, w .numbered, number-next b m (tree-of s))
+
+    pub walked-more : (k : ℕ) → k ≡ node-count part 0 → Walked s b (m + 1) (at + length part) (n - k)
     walked-more k e =
-        let count : k ≡ nodes (node m (tree-of s)) =
-        e ∙ rw walked-part (node-count-bytes (node m (tree-of s)) (node-plain _ (sibling-node s z m (walked-on h)))) in
         record {
           few = omega (arith, walked-on h);
           placed = omega (arith, w .placed, ap length walked-part, place-next m (tree-of s));
-          numbered = omega (arith, w .numbered, number-next b m (tree-of s));
+          numbered = omega (arith, walked-count, w .numbered, number-next b m (tree-of s));
         }
 
 -- The two lists of a walk's places, up to the next sibling.
@@ -242,15 +254,14 @@ pub record Listed (s : List ℕ) (b m : ℕ) (offsets numbers : List ℕ) : Type
   pub offset : (i : ℕ) → i < m + 1 → getD offsets i 0 ≡ place i (tree-of s)
   pub numbered : (i : ℕ) → i < m + 1 → getD numbers i 0 ≡ number b (tree-of s) i
 
-pub listed-none : (s : List ℕ) (b : ℕ) (offsets numbers : List ℕ) → length offsets ≡ 1025 → length numbers ≡ 1025
-    → Listed s b 0 (set offsets 0 0) (set numbers 0 b)
-listed-none s b offsets numbers p q =
-    let w = walked-none s b in
+pub listed-none : (s : List ℕ) (b n : ℕ) (offsets numbers : List ℕ) → Walked s b 0 0 n → length offsets ≡ 1025 → length numbers ≡ 1025
+    → Listed s b 0 (set offsets 0 0) (set numbers 0 n)
+listed-none s b n offsets numbers w p q =
     record {
       long-offsets = simp length-set p;
       long-numbers = simp length-set q;
       offset = entry-more (λ i x. x ≡ place i (tree-of s)) offsets 0 0 (omega arith) (λ i h. absurd (omega arith)) (w .placed);
-      numbered = entry-more (λ i x. x ≡ number b (tree-of s) i) numbers 0 b (omega arith) (λ i h. absurd (omega arith)) (w .numbered);
+      numbered = entry-more (λ i x. x ≡ number b (tree-of s) i) numbers 0 n (omega arith) (λ i h. absurd (omega arith)) (w .numbered);
     }
 
 pub listed-more : (s : List ℕ) (b m at n : ℕ) (offsets numbers : List ℕ) → m < 1024 → Walked s b (m + 1) at n → Listed s b m offsets numbers

@@ -13,47 +13,47 @@ use Rattle.format.specs.Tree.{tree-of}
 use Rattle.format.proofs.Tree.{tree-of-bytes}
 use Rattle.optimum.specs.Cheapest.{front, back}
 use Rattle.optimum.proofs.Cut.{run-back, run-body}
-use Rattle.folder.specs.Table.{Below, Filled, Kept, node-count}
+use Rattle.folder.specs.Table.{Below, Filled, Kept, Spelled, node-count, number}
 use Rattle.folder.specs.Rows.{LevelReady}
 use Rattle.folder.proofs.Cells.{cells-mono}
 use Rattle.folder.proofs.Tables.{number-within, number-after-group, kept-none, kept-then, below-none, below-step, below-whole, kept-in-group, below-group}
-use Rattle.folder.proofs.Listings.{Sibling, is-step, is-group, place-rest, sibling-first, Walked, walked-none, walked-on, walked-all, walked-within, walked-part, walked-long, walked-more}
+use Rattle.folder.proofs.Listings.{Sibling, is-step, is-group, place-rest, sibling-first, Walked, walked-none, walked-on, walked-all, walked-within, walked-part, walked-long, walked-left, walked-more}
 
 -- After i siblings of the sequence that s spells: what lies below those passed is entered, and only entries of the sequence's
 -- own interval have changed.
 pub record Through (A : Allowed) (P : Prices) (s : List ℕ) (b : ℕ) (costs₀ choices₀ costs choices : List ℕ) (at n : ℕ) : Type 0 where
   pub i : ℕ
   pub walked : Walked s b i at n
-  pub below : Below A P b (front i (tree-of s)) costs choices
+  pub below : Below A P (number b (tree-of s) i) (front i (tree-of s)) costs choices
   pub kept-costs : Kept b (nodes (tree-of s)) costs₀ costs
   pub kept-choices : Kept b (nodes (tree-of s)) choices₀ choices
 
-pub through-none : (A : Allowed) (P : Prices) (s : List ℕ) (b : ℕ) (costs choices : List ℕ)
-    → Through A P s b costs choices costs choices 0 b
-through-none A P s b costs choices =
+pub through-none : (A : Allowed) (P : Prices) (s : List ℕ) (z : Spelled s) (b : ℕ) (costs choices : List ℕ) (k : ℕ) → k ≡ node-count s 0
+    → Through A P s b costs choices costs choices 0 (b + k)
+through-none A P s z b costs choices k e =
     record {
       i = 0;
-      walked = walked-none s b;
+      walked = walked-none s z b k e;
       below = below-none A P costs choices b (tree-of s);
       kept-costs = kept-none b (nodes (tree-of s)) costs;
       kept-choices = kept-none b (nodes (tree-of s)) choices;
     }
 
--- The part of the next sibling lies within the bytes, and its nodes within the sequence's.
-pub record Passing (s : List ℕ) (b at n : ℕ) (part : List ℕ) : Type 0 where
+-- The part of the next sibling lies within the bytes, and its nodes among those from it on.
+pub record Passing (s : List ℕ) (at n : ℕ) (part : List ℕ) : Type 0 where
   pub long : 2 ≤ length part
   pub within : at + length part ≤ length s
-  pub counted : n + node-count part 0 ≤ b + nodes (tree-of s)
+  pub counted : node-count part 0 ≤ n
 
 -- What the part of a group has between its label and its close, as the code cuts it out.
 abbrev pub inside : (s : List ℕ) (at : ℕ) (part : List ℕ) → List ℕ
 inside s at part = take (at + length part - 1 - (at + 2)) (drop (at + 2) s)
 
--- Where the next sibling is a group, all that a call on what is inside it rests on.
+-- Where the next sibling is a group, all that a call on what is inside it rests on: n nodes follow.
 pub record Opening (s : List ℕ) (at n : ℕ) (part : List ℕ) (limit : ℕ) (table prices costs choices : List ℕ) : Type 0 where
   pub long : 3 ≤ length part
   pub shorter : length (inside s at part) < length s
-  pub ready : LevelReady (inside s at part) (n + 1) limit table prices costs choices
+  pub ready : LevelReady (inside s at part) n limit table prices costs choices
 
 -- What that group is.
 record GroupAt (s : List ℕ) (i at : ℕ) (part : List ℕ) : Type 0 where
@@ -87,21 +87,25 @@ module _ {A : Allowed} {P : Prices} {s : List ℕ} {b limit : ℕ} {table prices
     first : Sibling (tree-of s) (w .i) (getD s at 0) (getD s (at + 1) 0)
     first = sibling-first s (l .spelled) (w .i) (walked-on s (l .spelled) b (w .i) at n (w .walked) more) at (w .walked .placed)
 
-    further : (count : ℕ) → count ≡ node-count part 0 → Walked s b (w .i + 1) (at + length part) (n + count)
+    further : (count : ℕ) → count ≡ node-count part 0 → Walked s b (w .i + 1) (at + length part) (n - count)
     further = walked-more s (l .spelled) b (w .i) at n (w .walked) more part p
 
-    pub passing : Passing s b at n part
+    pub passing : Passing s at n part
     passing =
-        let k = walked-within s (l .spelled) b (w .i + 1) (at + length part) (n + node-count part 0) (further (node-count part 0) refl) in
-        record { long = walked-long s (l .spelled) b (w .i) at n (w .walked) more part p; within = k .0; counted = k .2 }
+        let k = walked-within s (l .spelled) b (w .i + 1) (at + length part) (n - node-count part 0) (further (node-count part 0) refl) in
+        record {
+          long = walked-long s (l .spelled) b (w .i) at n (w .walked) more part p;
+          within = k .0;
+          counted = walked-left s (l .spelled) b (w .i) at n (w .walked) more part p;
+        }
 
     -- A step has nothing below it.
     pub through-step : (getD s at 0 ≡ 0x11 → ⊥) → (count : ℕ) → count ≡ node-count part 0
-        → Through A P s b costs₀ choices₀ costs choices (at + length part) (n + count)
+        → Through A P s b costs₀ choices₀ costs choices (at + length part) (n - count)
     through-step other count e = by-form first
       where
         by-form : Sibling (tree-of s) (w .i) (getD s at 0) (getD s (at + 1) 0)
-            → Through A P s b costs₀ choices₀ costs choices (at + length part) (n + count)
+            → Through A P s b costs₀ choices₀ costs choices (at + length part) (n - count)
         by-form (is-step f q c) =
             record {
               i = w .i + 1;
@@ -137,12 +141,12 @@ module _ {A : Allowed} {P : Prices} {s : List ℕ} {b limit : ℕ} {table prices
       here-tree : tree-of (inside s at part) ≡ here .children
       here-tree = ap tree-of (here .spells) ∙ tree-of-bytes (here .children)
 
-      pub opening : Opening s at n part limit table prices costs choices
-      opening =
+      pub opening : (count : ℕ) → count ≡ node-count part 0 → Opening s at (n - count) part limit table prices costs choices
+      opening count e =
           let after = number-after-group b (w .i) (tree-of s) (here .label) (here .children) (here .rest) (here .stands) in
-          let last : n + 1 + nodes (tree-of (inside s at part)) ≤ b + nodes (tree-of s) =
-          omega (arith, w .walked .numbered, after, number-within b (w .i + 1) (tree-of s), ap nodes here-tree) in
-          let room = cells-mono (n + 1 + nodes (tree-of (inside s at part))) (b + nodes (tree-of s)) last in
+          let last : n - count + nodes (tree-of (inside s at part)) ≤ b + nodes (tree-of s) =
+          omega (arith, further count e .numbered, after, number-within b (w .i) (tree-of s), ap nodes here-tree) in
+          let room = cells-mono (n - count + nodes (tree-of (inside s at part))) (b + nodes (tree-of s)) last in
           record {
             long = omega (arith, here .long);
             shorter = omega (arith, here .long, ap length (here .spells), passing .within);
@@ -158,13 +162,14 @@ module _ {A : Allowed} {P : Prices} {s : List ℕ} {b limit : ℕ} {table prices
             };
           }
 
-      pub through-group : (costs′ choices′ : List ℕ) → Filled A P (n + 1) (tree-of (inside s at part)) costs′ choices′
-          → Kept (n + 1) (nodes (tree-of (inside s at part))) costs costs′ → Kept (n + 1) (nodes (tree-of (inside s at part))) choices choices′
-          → (count : ℕ) → count ≡ node-count part 0 → Through A P s b costs₀ choices₀ costs′ choices′ (at + length part) (n + count)
-      through-group costs′ choices′ filled kc kk count e =
+      pub through-group : (costs′ choices′ : List ℕ) (count : ℕ) → count ≡ node-count part 0
+          → Filled A P (n - count) (tree-of (inside s at part)) costs′ choices′
+          → Kept (n - count) (nodes (tree-of (inside s at part))) costs costs′ → Kept (n - count) (nodes (tree-of (inside s at part))) choices choices′
+          → Through A P s b costs₀ choices₀ costs′ choices′ (at + length part) (n - count)
+      through-group costs′ choices′ count e filled kc kk =
           let t = tree-of s in
           let h = here in
-          let same = w .walked .numbered in
+          let same = further count e .numbered in
           let kc′ = rw (same, here-tree) at kc in
           let kk′ = rw (same, here-tree) at kk in
           let filled′ = rw (same, here-tree) at filled in

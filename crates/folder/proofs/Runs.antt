@@ -126,8 +126,9 @@ module _ (s : List ℕ) (limit : ℕ) (table prices costs choices costs′ choic
         | no e ↦
             let some-siblings : 0 < m = has-siblings t (run .plain) (omega arith) in
             let x = filled .top .entry 0 m (omega arith) some-siblings (omega arith) in
-            let last : number 0 t (0 + m) ≡ n = ap (number 0 t) (zero-add m) ∙ (number-last 0 t (run .plain) ∙ (zero-add (nodes t) ∙ count)) in
-            let c : getD costs′ (cell 0 n) 0 ≡ best-cost (at-most limit) P (stretch t 0 m) = rw (number-first 0 t, last) at (x .costs) in
+            let first : number 0 t 0 ≡ n = number-first 0 t ∙ (zero-add (nodes t) ∙ count) in
+            let last : number 0 t (0 + m) ≡ 0 = ap (number 0 t) (zero-add m) ∙ number-last 0 t (run .plain) in
+            let c : getD costs′ (cell 0 n) 0 ≡ best-cost (at-most limit) P (stretch t 0 m) = rw (first, last) at (x .costs) in
             some (omega arith) ∙ (c ∙ ap (best-cost (at-most limit) P) (whole-stretch t (run .plain)))
       ]
 

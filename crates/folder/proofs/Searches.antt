@@ -151,7 +151,7 @@ module _ (least : List ℕ) (c n : ℕ) (before : List ℕ) where
 
 -- The cost of the stretch from sibling i up to j, as the table has it; the keys that the search compares.
 abbrev pub cost-at : (costs numbers : List ℕ) (i j : ℕ) → ℕ
-cost-at costs numbers i j = getD costs (cell (getD numbers i 0) (getD numbers j 0)) 0
+cost-at costs numbers i j = getD costs (cell (getD numbers j 0) (getD numbers i 0)) 0
 
 abbrev pub plain-key : (costs numbers : List ℕ) (i d own : ℕ) → ℕ
 plain-key costs numbers i d own = (own + cost-at costs numbers (i + 1) (i + d)) * 2097152

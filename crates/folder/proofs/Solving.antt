@@ -16,27 +16,19 @@ use Rattle.optimum.proofs.Powers.{reach, power-front, power-of-front, spans-usu
 use Rattle.optimum.proofs.Rank.{rank-usual, rank-inj}
 use Rattle.optimum.proofs.Least.{price-piece, least-unique}
 use Rattle.optimum.proofs.Cheapest.{best-cost-run, best-cost-end, best-cost-least}
-use Rattle.folder.specs.Table.{Entry, cells}
-use Rattle.folder.specs.Rows.{Rising, RowReady, RowSolved, ScratchReady, Reset, SearchSafe, Searching, Inserting, Offering}
+use Rattle.folder.specs.Table.{Entry}
+use Rattle.folder.specs.Rows.{Falling, RowReady, RowSolved, ScratchReady, Reset, SearchSafe, Searching, Inserting, Offering}
 use Rattle.folder.specs.Rows.{Offer, Offered, Solved, Alone, Covers, BestKey, key, no-key}
-use Rattle.folder.proofs.Cells.{cells-mono}
-use Rattle.folder.proofs.Tables.{rising-most}
 
--- The first of numbers that rise.
-pub rising-less : {numbers : List ℕ} {m room : ℕ} (k : ℕ) → k ≤ m → Rising numbers m room → Rising numbers k room
-rising-less {numbers} {m} {room} k h r =
+-- The first of numbers that fall.
+pub falling-less : {numbers : List ℕ} {m room : ℕ} (k : ℕ) → k ≤ m → Falling numbers m room → Falling numbers k room
+falling-less k h r =
     record {
       short = omega (arith, r .short);
-      rise = λ i j l n. r .rise i j l (omega arith);
-      last = rising-most numbers m room r k h;
-      fits = by-place (decLt k m);
+      fall = λ i j l n. r .fall i j l (omega arith);
+      first = r .first;
+      fits = r .fits;
     }
-  where
-    by-place : Dec (k < m) → cells (getD numbers k 0) ≤ room
-    by-place (yes l) =
-        let x = r .rise k m l (omega arith) in
-        omega (arith, cells-mono (getD numbers k 0) (getD numbers m 0) (omega arith), r .fits)
-    by-place (no n) = let e : k ≡ m = omega arith in rw e (r .fits)
 
 -- A run costs at most 65,535 for each node, where labels have prices of 16 bits.
 cost-most : (P : Prices) → ((l : ℕ) → P .of-step l < 65536) → ((l : ℕ) → P .of-group l < 65536) → (t : Forest) → Plain t

@@ -19,9 +19,9 @@ use Rattle.optimum.proofs.Powers.{reach, spans-usual}
 use Rattle.optimum.proofs.Least.{least-one}
 use Rattle.optimum.proofs.Cheapest.{cheapest-optimal, is-cheapest, least-builds, optimal-end}
 use Rattle.folder.specs.Table.{Entry, Placed, Numbered, cell, number, packed, stretch}
-use Rattle.folder.specs.Rows.{Rising}
+use Rattle.folder.specs.Rows.{Falling}
 use Rattle.folder.proofs.Cells.{cells-mono}
-use Rattle.folder.proofs.Tables.{rising-numbered, number-first, number-within, number-after-group, below-at}
+use Rattle.folder.proofs.Tables.{falling-numbered, number-last, number-within, number-after-group, below-at}
 use Rattle.folder.specs.Writing.{WriteReady, SpanReady, FoldLength, SpanLength, fold-bytes, span-bytes}
 
 -- A sound fold has at most four bytes for each node that it unrolls to, and one of a single node has two: a repeat takes six
@@ -162,7 +162,7 @@ module _ (A : Allowed) (P : Prices) (t : Forest) (r : Run A t) (few : siblings t
 
 -- What the table says of the siblings from i up to j.
 abbrev pub choice-at : (choices numbers : List ℕ) → (i j : ℕ) → ℕ
-choice-at choices numbers i j = getD choices (cell (getD numbers i 0) (getD numbers j 0)) 0
+choice-at choices numbers i j = getD choices (cell (getD numbers j 0) (getD numbers i 0)) 0
 
 -- The choice 0 is the plain node, and any other a repeat with its count and width as digits.
 least-plain : (A : Allowed) (P : Prices) (t : Forest) (h w : ℕ) → packed h w ≡ 0 → Least A P usual (best-cost A P) t h w
@@ -199,9 +199,9 @@ module _ {s choices offsets numbers : List ℕ} {i j : ℕ} (z : SpanReady s cho
   ready-few =
       omega (arith, siblings-le-nodes (tree-of s) (z .ready .spelled .run (z .ready .allowed) .plain), z .ready .total)
 
-  pub span-rising : Rising numbers j (length choices)
-  span-rising =
-      rising-numbered (z .ready .allowed) (getD numbers 0 0) (tree-of s) numbers (length choices) j (z .numbered .numbered)
+  pub span-falling : Falling numbers j (length choices)
+  span-falling =
+      falling-numbered (z .ready .allowed) (getD numbers (siblings (tree-of s)) 0) (tree-of s) numbers (length choices) j (z .numbered .numbered)
       (z .ready .spelled .run (z .ready .allowed)) (z .ready .total) (z .ready .room) (z .long-numbers) ready-few (z .end)
 
   span-short : length (span-bytes z) ≤ 4 * nodes (stretch (tree-of s) i (j - i))
@@ -222,11 +222,11 @@ module _ {s choices offsets numbers : List ℕ} {i j : ℕ} (z : SpanReady s cho
   module _ (k c : ℕ) (h : k < j) (e : c ≡ choice-at choices numbers k j) where
     entry-at : (cost : ℕ) × Entry (z .ready .allowed) (z .ready .prices-are) (stretch (tree-of s) k (j - k)) cost c
     entry-at =
-        let b = getD numbers 0 0 in
+        let b = getD numbers (siblings (tree-of s)) 0 in
         let t = tree-of s in
         let last : k + (j - k) ≡ j = omega arith in
         let at = z .ready .filled .top .entry k (j - k) (omega arith) (omega arith) (omega (arith, z .end)) in (
-          getD (z .ready .costs) (cell (number b t k) (number b t j)) 0,
+          getD (z .ready .costs) (cell (number b t j) (number b t k)) 0,
           rw (e, z .numbered .numbered k (omega (arith, z .end)), z .numbered .numbered j (z .end)) (rw last at at),
         )
 
@@ -263,8 +263,8 @@ pub listed : {s : List ℕ} {b : ℕ} {choices : List ℕ} (z : WriteReady s b c
     → Siblings s b offsets numbers m → Listed z offsets numbers m
 listed {s} {b} {choices} z offsets numbers m all =
     let t = tree-of s in
-    let e : getD numbers 0 0 ≡ b = all .1 .1 .1 .numbered 0 (omega arith) ∙ number-first b t in
-    let ready : WriteReady s (getD numbers 0 0) choices = record {
+    let e : getD numbers (siblings t) 0 ≡ b = all .1 .1 .1 .numbered (siblings t) (omega arith) ∙ number-last b t (z .spelled .run (z .allowed) .plain) in
+    let ready : WriteReady s (getD numbers (siblings (tree-of s)) 0) choices = record {
       allowed = z .allowed;
       prices-are = z .prices-are;
       costs = z .costs;
@@ -333,7 +333,7 @@ children s offsets i = take (getD offsets (i + 1) 0 - 1 - (getD offsets i 0 + 2)
 
 -- A group alone: what it holds is a part of the bytes, with a part of the table.
 pub record Grouped {s choices offsets numbers : List ℕ} {i : ℕ} (z : SpanReady s choices offsets numbers i (i + 1)) : Type 0 where
-  pub inside : WriteReady (children s offsets i) (getD numbers i 0 + 1) choices
+  pub inside : WriteReady (children s offsets i) (getD numbers (i + 1) 0) choices
   pub spelled : span-bytes z ≡ getD s (getD offsets i 0) 0 ∷ getD s (getD offsets i 0 + 1) 0 ∷ fold-bytes inside ++ 0x12 ∷ []
   pub shorter : length (children s offsets i) < length s
   pub ahead : getD offsets i 0 + 3 ≤ getD offsets (i + 1) 0
@@ -406,13 +406,13 @@ module _ {s choices offsets numbers : List ℕ} {i : ℕ} (z : SpanReady s choic
     part-tree : tree-of (children s offsets i) ≡ g
     part-tree = ap tree-of part-bytes ∙ tree-of-bytes g
 
-    inside-ready : WriteReady (children s offsets i) (getD numbers i 0 + 1) choices
+    inside-ready : WriteReady (children s offsets i) (getD numbers (i + 1) 0) choices
     inside-ready =
         let A = z .ready .allowed in
-        let b = getD numbers 0 0 in
-        let n = z .numbered .numbered i (omega (arith, z .end)) in
+        let b = getD numbers (siblings (tree-of s)) 0 in
+        let n = z .numbered .numbered (i + 1) (z .end) in
         let last = number-after-group b i tree l g f e in
-        let all = number-within b (i + 1) tree in
+        let all = number-within b i tree in
         record {
           allowed = A;
           prices-are = z .ready .prices-are;
@@ -421,7 +421,7 @@ module _ {s choices offsets numbers : List ℕ} {i : ℕ} (z : SpanReady s choic
           total = rw part-tree (omega (arith, z .ready .total));
           room =
               rw part-tree
-              (omega (arith, z .ready .room, cells-mono (getD numbers i 0 + 1 + nodes g) (b + nodes tree) (omega arith)));
+              (omega (arith, z .ready .room, cells-mono (getD numbers (i + 1) 0 + nodes g) (b + nodes tree) (omega arith)));
           filled =
               rw (part-tree, n)
               (below-at A (z .ready .prices-are) (z .ready .costs) choices b tree i l g f (run-any A) e (z .ready .filled .below));
@@ -472,7 +472,7 @@ module _ {s choices offsets numbers : List ℕ} {i : ℕ} (z : SpanReady s choic
   step-length h = length-of z 2 (λ y. sym (ap length (node-step y h)))
 
   pub group-length : (n : ℕ) → (getD s (getD offsets i 0) 0 ≡ 0x10 → ⊥)
-      → FoldLength (children s offsets i) (getD numbers i 0 + 1) choices n
+      → FoldLength (children s offsets i) (getD numbers (i + 1) 0) choices n
       → SpanLength s choices offsets numbers i (i + 1) (3 + n)
   group-length n h l =
       length-of z (3 + n)

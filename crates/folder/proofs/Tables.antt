@@ -1,6 +1,6 @@
 -- The table's records: where a row goes, what a stored row enters and leaves alone, and what stays entered.
 use mathlib.Core.Path.{_≡_, refl, sym, ap, _∙_}
-use mathlib.Core.Logic.{_⊎_, inr, ⊎-elim}
+use mathlib.Core.Logic.{_⊎_, inl, ⊎-elim}
 use mathlib.Core.List.{List}
 use Prim.Native.Nat.{ℕ, _+_, _-_, _<_, _≤_}
 use native.Mathlib.Decide.{decLt}
@@ -11,28 +11,32 @@ use Rattle.format.specs.Limits.{Prices}
 use Rattle.format.specs.Forest.{Forest, end, step, group, repeat, join, Plain, Allowed, siblings, nodes}
 use Rattle.format.proofs.Forests.{nodes-join}
 use Rattle.optimum.specs.Cheapest.{Run, front, back}
-use Rattle.optimum.proofs.Cut.{join-cut, front-add, front-whole, back-back, siblings-piece, siblings-le-nodes, nodes-cut}
+use Rattle.optimum.proofs.Cut.{join-cut, front-add, front-whole, back-whole, back-back, siblings-piece, siblings-le-nodes, nodes-cut}
 use Rattle.optimum.proofs.Cut.{run-front, run-back, run-rest, run-body, run-after}
 use Rattle.folder.specs.Table.{Entry, Entered, Below, Filled, Kept, KeptOthers, cell, cells, number, stretch}
-use Rattle.folder.specs.Rows.{Rising, Stored, Solved}
-use Rattle.folder.proofs.Cells.{cell-in, cell-same, cells-mono}
+use Rattle.folder.specs.Rows.{Falling, Stored, Solved}
+use Rattle.folder.proofs.Cells.{cell-in, cell-same}
 
--- Numbers that rise.
-module _ (numbers : List ℕ) (m room : ℕ) (r : Rising numbers m room) where
-  rising-to : (j : ℕ) → j ≤ m → getD numbers j 0 ≤ getD numbers m 0
-  rising-to j h = by-place (decLt j m)
+-- Numbers that fall.
+module _ (numbers : List ℕ) (m room : ℕ) (r : Falling numbers m room) where
+  pub falling-from : (j : ℕ) → j ≤ m → getD numbers j 0 ≤ getD numbers 0 0
+  falling-from j h = by-place (decLt 0 j)
     where
-      by-place : Dec (j < m) → getD numbers j 0 ≤ getD numbers m 0
-      by-place (yes l) = omega (arith, r .rise j m l (omega arith))
-      by-place (no n) = let e : j ≡ m = omega arith in rw e (omega arith)
+      by-place : Dec (0 < j) → getD numbers j 0 ≤ getD numbers 0 0
+      by-place (yes l) = omega (arith, r .fall 0 j l h)
+      by-place (no n) = let e : j ≡ 0 = omega arith in rw e (omega arith)
 
-  pub rising-most : (j : ℕ) → j ≤ m → getD numbers j 0 ≤ 1024
-  rising-most j h = omega (arith, r .last, rising-to j h)
+  pub falling-most : (j : ℕ) → j ≤ m → getD numbers j 0 ≤ 1024
+  falling-most j h = omega (arith, r .first, falling-from j h)
 
   -- The table has the entry of every stretch.
-  pub rising-cell : (i j : ℕ) → i < j → j ≤ m → cell (getD numbers i 0) (getD numbers j 0) < room
-  rising-cell i j l h =
-      omega (arith, cell-in (getD numbers i 0) (getD numbers j 0) (getD numbers m 0) (r .rise i j l h) (rising-to j h), r .fits)
+  pub falling-cell : (i j : ℕ) → i < j → j ≤ m → cell (getD numbers j 0) (getD numbers i 0) < room
+  falling-cell i j l h =
+      omega (
+        arith,
+        cell-in (getD numbers j 0) (getD numbers i 0) (getD numbers 0 0) (r .fall i j l h) (falling-from i (omega arith)),
+        r .fits,
+      )
 
 -- A row is stored entry by entry.
 pub stored-none : (numbers : List ℕ) (i : ℕ) (row before : List ℕ) → Stored numbers i 0 row before before
@@ -40,27 +44,27 @@ stored-none numbers i row before =
     record { same-length = refl; entered = λ d h l. absurd (omega arith); others = λ x h. refl }
 
 pub stored-more : (numbers : List ℕ) (i m d : ℕ) (row before after : List ℕ) (k : ℕ) → m + 1 ≡ d → i + d ≤ k
-    → Rising numbers k (length before) → Stored numbers i m row before after
-    → Stored numbers i d row before (set after (cell (getD numbers i 0) (getD numbers (i + d) 0)) (getD row d 0))
+    → Falling numbers k (length before) → Stored numbers i m row before after
+    → Stored numbers i d row before (set after (cell (getD numbers (i + d) 0) (getD numbers i 0)) (getD row d 0))
 stored-more numbers i m d row before after k e l r s =
     record { same-length = simp length-set (s .same-length); entered = entered; others = others }
   where
     at : ℕ → ℕ
-    at c = cell (getD numbers i 0) (getD numbers (i + c) 0)
+    at c = cell (getD numbers (i + c) 0) (getD numbers i 0)
 
     entered : (c : ℕ) → 0 < c → c ≤ d → getD (set after (at d) (getD row d 0)) (at c) 0 ≡ getD row c 0
     entered c p q = by-place (decLt c d)
       where
         by-place : Dec (c < d) → getD (set after (at d) (getD row d 0)) (at c) 0 ≡ getD row c 0
         by-place (yes h) =
-            let short = r .rise i (i + c) (omega arith) (omega arith) in
-            let long = r .rise i (i + d) (omega arith) l in
+            let short = r .fall i (i + c) (omega arith) (omega arith) in
+            let long = r .fall i (i + d) (omega arith) l in
             getD-set-other after (at d) (at c) (getD row d 0) 0
-            (λ z. omega (arith, r .rise (i + c) (i + d) (omega arith) l, cell-same _ _ _ _ short long z .1))
+            (λ z. omega (arith, r .fall (i + c) (i + d) (omega arith) l, cell-same _ _ _ _ short long z .0))
             ∙ s .entered c p (omega arith)
         by-place (no n) =
             let z : c ≡ d = omega arith in
-            let room = rising-cell numbers k (length before) r i (i + d) (omega arith) l in
+            let room = falling-cell numbers k (length before) r i (i + d) (omega arith) l in
             rw z (getD-set-same after (at d) (getD row d 0) 0 (omega (arith, s .same-length)))
 
     others : (x : ℕ) → ((c : ℕ) → 0 < c → c ≤ d → x ≡ at c → ⊥) → getD (set after (at d) (getD row d 0)) x 0 ≡ getD before x 0
@@ -68,52 +72,53 @@ stored-more numbers i m d row before after k e l r s =
         getD-set-other after (at d) x (getD row d 0) 0 (f d (omega arith) (omega arith))
         ∙ s .others x (λ c p q z. f c p (omega arith) z)
 
--- The numbers of a sequence's siblings: they rise, and stay within the interval of all its nodes.
+-- The numbers of a sequence's siblings: they fall, and stay within the interval of all its nodes.
 pub number-within : (b i : ℕ) (t : Forest) → number b t i ≤ b + nodes t
 number-within b i t = omega (arith, nodes-cut i t)
 
-pub number-first : (b : ℕ) (t : Forest) → number b t 0 ≡ b
-unfolding front nodes
-number-first b t = omega arith
+pub number-first : (b : ℕ) (t : Forest) → number b t 0 ≡ b + nodes t
+unfolding back
+number-first b t = refl
 
-pub number-last : (b : ℕ) (t : Forest) → Plain t → number b t (siblings t) ≡ b + nodes t
-number-last b t p = rw (front-whole (siblings t) t p refl)
+pub number-last : (b : ℕ) (t : Forest) → Plain t → number b t (siblings t) ≡ b
+unfolding nodes
+number-last b t p = rw (back-whole (siblings t) t p refl) (omega arith)
 
-nodes-add : (i j : ℕ) (t : Forest) → i ≤ j → nodes (front j t) ≡ nodes (front i t) + nodes (front (j - i) (back i t))
+nodes-add : (i j : ℕ) (t : Forest) → i ≤ j → nodes (back i t) ≡ nodes (front (j - i) (back i t)) + nodes (back j t)
 nodes-add i j t h =
-    ap nodes (front-add i (j - i) j t (omega arith)) ∙ nodes-join (front i t) (front (j - i) (back i t))
+    sym (nodes-cut (j - i) (back i t)) ∙ rw (back-back i (j - i) j t (omega arith))
 
-pub number-mono : (b i j : ℕ) (t : Forest) → i ≤ j → number b t i ≤ number b t j
+pub number-mono : (b i j : ℕ) (t : Forest) → i ≤ j → number b t j ≤ number b t i
 number-mono b i j t h = omega (arith, nodes-add i j t h)
 
-pub number-rise : (A : Allowed) (b i j : ℕ) (t : Forest) → Run A t → i < j → j ≤ siblings t → number b t i < number b t j
-number-rise A b i j t r l h =
+pub number-fall : (A : Allowed) (b i j : ℕ) (t : Forest) → Run A t → i < j → j ≤ siblings t → number b t j < number b t i
+number-fall A b i j t r l h =
     let some = siblings-le-nodes (front (j - i) (back i t)) (run-front (j - i) (run-back i r) .plain) in
     omega (arith, nodes-add i j t (omega arith), siblings-piece i (j - i) r (omega arith))
 
--- So the list of them is one that rises.
-pub rising-numbered : (A : Allowed) (b : ℕ) (t : Forest) (numbers : List ℕ) (room m : ℕ)
+-- So the list of them is one that falls.
+pub falling-numbered : (A : Allowed) (b : ℕ) (t : Forest) (numbers : List ℕ) (room m : ℕ)
     → ((j : ℕ) → j ≤ siblings t → getD numbers j 0 ≡ number b t j) → Run A t → b + nodes t ≤ 1024 → cells (b + nodes t) ≤ room
-    → length numbers ≡ 1025 → siblings t ≤ 1024 → m ≤ siblings t → Rising numbers m room
-rising-numbered A b t numbers room m numbered r few fits long narrow h =
-    let last : getD numbers m 0 ≤ b + nodes t = rw (numbered m h) (number-within b m t) in
+    → length numbers ≡ 1025 → siblings t ≤ 1024 → m ≤ siblings t → Falling numbers m room
+falling-numbered A b t numbers room m numbered r few fits long narrow h =
+    let first : getD numbers 0 0 ≡ b + nodes t = numbered 0 (omega arith) ∙ number-first b t in
     record {
       short = omega arith;
-      rise = λ i j l k. rw (numbered i (omega arith), numbered j (omega arith)) (number-rise A b i j t r l (omega arith));
-      last = omega arith;
-      fits = omega (arith, cells-mono (getD numbers m 0) (b + nodes t) last);
+      fall = λ i j l k. rw (numbered i (omega arith), numbered j (omega arith)) (number-fall A b i j t r l (omega arith));
+      first = omega arith;
+      fits = rw first fits;
     }
 
 -- A row stored at sibling i of the sequence t: all stretches from there on.
 module _ (A : Allowed) (b : ℕ) (t : Forest) (numbers : List ℕ) (i n : ℕ) (r : Run A t) (whole : i + n ≡ siblings t)
     (numbered : (j : ℕ) → j ≤ siblings t → getD numbers j 0 ≡ number b t j) where
   stored-at : (row before after : List ℕ) → Stored numbers i n row before after → (d : ℕ) → 0 < d → d ≤ n
-      → getD after (cell (number b t i) (number b t (i + d))) 0 ≡ getD row d 0
+      → getD after (cell (number b t (i + d)) (number b t i)) 0 ≡ getD row d 0
   stored-at row before after s d p q =
       rw (numbered i (omega arith), numbered (i + d) (omega arith)) at (s .entered d p q)
 
   stored-other : (row before after : List ℕ) → Stored numbers i n row before after → (x : ℕ)
-      → ((d : ℕ) → 0 < d → d ≤ n → x ≡ cell (number b t i) (number b t (i + d)) → ⊥) → getD after x 0 ≡ getD before x 0
+      → ((d : ℕ) → 0 < d → d ≤ n → x ≡ cell (number b t (i + d)) (number b t i) → ⊥) → getD after x 0 ≡ getD before x 0
   stored-other row before after s x f =
       s .others x (λ d p q z. f d p q (rw (numbered i (omega arith), numbered (i + d) (omega arith)) at z))
 
@@ -127,13 +132,13 @@ module _ (A : Allowed) (b : ℕ) (t : Forest) (numbers : List ℕ) (i n : ℕ) (
 
   -- The rows further on stay, since no two stretches share an entry.
   stored-further : (row before after : List ℕ) → Stored numbers i n row before after → (j d : ℕ) → i < j → 0 < d → j + d ≤ siblings t
-      → getD after (cell (number b t j) (number b t (j + d))) 0 ≡ getD before (cell (number b t j) (number b t (j + d))) 0
+      → getD after (cell (number b t (j + d)) (number b t j)) 0 ≡ getD before (cell (number b t (j + d)) (number b t j)) 0
   stored-further row before after s j d h p q =
-      stored-other row before after s (cell (number b t j) (number b t (j + d)))
+      stored-other row before after s (cell (number b t (j + d)) (number b t j))
       (λ c k l z. omega (
         arith,
-        number-rise A b i j t r h (omega arith),
-        cell-same _ _ _ _ (number-rise A b j (j + d) t r (omega arith) q) (number-rise A b i (i + c) t r (omega arith) (omega arith)) z .0,
+        number-fall A b i j t r h (omega arith),
+        cell-same _ _ _ _ (number-fall A b j (j + d) t r (omega arith) q) (number-fall A b i (i + c) t r (omega arith) (omega arith)) z .1,
       ))
 
   -- Solved rows, with the rows further on entered before, enter one sibling more.
@@ -144,8 +149,8 @@ module _ (A : Allowed) (b : ℕ) (t : Forest) (numbers : List ℕ) (i n : ℕ) (
       record { entry = λ j d h p q. by-place j d h p q (decLt i j) }
     where
       by-place : (j d : ℕ) → i ≤ j → 0 < d → j + d ≤ siblings t → Dec (i < j)
-          → Entry A P (stretch t j d) (getD costs′ (cell (number b t j) (number b t (j + d))) 0)
-          (getD choices′ (cell (number b t j) (number b t (j + d))) 0)
+          → Entry A P (stretch t j d) (getD costs′ (cell (number b t (j + d)) (number b t j)) 0)
+          (getD choices′ (cell (number b t (j + d)) (number b t j)) 0)
       by-place j d h p q (yes l) =
           rw (stored-further row-costs costs costs′ sc j d l p q, stored-further row-choices choices choices′ sk j d l p q)
           (e .entry j d (omega arith) p q)
@@ -185,7 +190,7 @@ kept-of-others A b t xs ys r k =
     record {
       same-length = k .same-length;
       outside = λ x f. k .others x (λ i j l h z.
-          f (number b t i) (number b t j) (omega arith) (number-rise A b i j t r l h) (number-within b j t) z);
+          f (number b t j) (number b t i) (omega arith) (number-fall A b i j t r l h) (number-within b i t) z);
     }
 
 -- All entries of intervals within [b, b + n) are the same in both lists.
@@ -202,9 +207,9 @@ module _ (A : Allowed) (P : Prices) (cs ks cs′ ks′ : List ℕ) where
   entered-alike b t i r ac ak e =
       record {
         entry = λ j d h p q.
-            let l = number-rise A b j (j + d) t r (omega arith) q in
-            let w = number-within b (j + d) t in
-            rw (ac .alike (number b t j) (number b t (j + d)) (omega arith) l w, ak .alike (number b t j) (number b t (j + d)) (omega arith) l w)
+            let l = number-fall A b j (j + d) t r (omega arith) q in
+            let w = number-within b j t in
+            rw (ac .alike (number b t (j + d)) (number b t j) (omega arith) l w, ak .alike (number b t (j + d)) (number b t j) (omega arith) l w)
             (e .entry j d h p q);
       }
 
@@ -212,16 +217,16 @@ module _ (A : Allowed) (P : Prices) (cs ks cs′ ks′ : List ℕ) where
   unfolding nodes
   below-alike b end r ac ak w = tt
   below-alike b (step l f) r ac ak w =
-      below-alike (b + 1) f (run-rest r) (alike-within b (1 + nodes f) (b + 1) (nodes f) cs cs′ (omega arith) (omega arith) ac)
-      (alike-within b (1 + nodes f) (b + 1) (nodes f) ks ks′ (omega arith) (omega arith) ak) w
+      below-alike b f (run-rest r) (alike-within b (1 + nodes f) b (nodes f) cs cs′ (omega arith) (omega arith) ac)
+      (alike-within b (1 + nodes f) b (nodes f) ks ks′ (omega arith) (omega arith) ak) w
   below-alike b (group l g f) r ac ak w =
-      let gc = alike-within b (1 + nodes g + nodes f) (b + 1) (nodes g) cs cs′ (omega arith) (omega arith) ac in
-      let gk = alike-within b (1 + nodes g + nodes f) (b + 1) (nodes g) ks ks′ (omega arith) (omega arith) ak in
-      let fc = alike-within b (1 + nodes g + nodes f) (b + 1 + nodes g) (nodes f) cs cs′ (omega arith) (omega arith) ac in
-      let fk = alike-within b (1 + nodes g + nodes f) (b + 1 + nodes g) (nodes f) ks ks′ (omega arith) (omega arith) ak in (
-        entered-alike (b + 1) g 0 (run-body r) gc gk (w .0),
-        below-alike (b + 1) g (run-body r) gc gk (w .1),
-        below-alike (b + 1 + nodes g) f (run-after r) fc fk (w .2),
+      let gc = alike-within b (1 + nodes g + nodes f) (b + nodes f) (nodes g) cs cs′ (omega arith) (omega arith) ac in
+      let gk = alike-within b (1 + nodes g + nodes f) (b + nodes f) (nodes g) ks ks′ (omega arith) (omega arith) ak in
+      let fc = alike-within b (1 + nodes g + nodes f) b (nodes f) cs cs′ (omega arith) (omega arith) ac in
+      let fk = alike-within b (1 + nodes g + nodes f) b (nodes f) ks ks′ (omega arith) (omega arith) ak in (
+        entered-alike (b + nodes f) g 0 (run-body r) gc gk (w .0),
+        below-alike (b + nodes f) g (run-body r) gc gk (w .1),
+        below-alike b f (run-after r) fc fk (w .2),
       )
   below-alike b (repeat h v g f) r ac ak w = tt
 
@@ -246,22 +251,17 @@ module _ (A : Allowed) (P : Prices) (b : ℕ) (t : Forest) (b′ n′ : ℕ) (cs
   pub filled-kept : Filled A P b t cs ks → Filled A P b t cs′ ks′
   filled-kept f = record { top = entered-kept 0 (f .top); below = below-kept (f .below) }
 
--- The number after a step's and after a group's, and no sibling's number lies between two that follow each other.
+-- A group's number by the one after it, and no sibling's number lies between two that follow each other.
 back-next : (i : ℕ) (t f : Forest) → back i t ≡ f → back (i + 1) t ≡ back 1 f
 back-next i t f e = sym (back-back i 1 (i + 1) t refl) ∙ ap (back 1) e
 
-pub number-after-step : (b i : ℕ) (t : Forest) (l : ℕ) (f : Forest) → back i t ≡ step l f → number b t (i + 1) ≡ number b t i + 1
-unfolding back nodes
-number-after-step b i t l f e =
-    omega (arith, nodes-cut i t, nodes-cut (i + 1) t, ap nodes e, ap nodes (back-next i t (step l f) e))
-
 pub number-after-group : (b i : ℕ) (t : Forest) (l : ℕ) (g f : Forest) → back i t ≡ group l g f
-    → number b t (i + 1) ≡ number b t i + 1 + nodes g
+    → number b t i ≡ number b t (i + 1) + 1 + nodes g
 unfolding back nodes
 number-after-group b i t l g f e =
-    omega (arith, nodes-cut i t, nodes-cut (i + 1) t, ap nodes e, ap nodes (back-next i t (group l g f) e))
+    omega (arith, ap nodes e, ap nodes (back-next i t (group l g f) e))
 
-number-between : (b i j : ℕ) (t : Forest) → number b t i < number b t j → number b t j < number b t (i + 1) → ⊥
+number-between : (b i j : ℕ) (t : Forest) → number b t (i + 1) < number b t j → number b t j < number b t i → ⊥
 number-between b i j t l h = by-place (decLt i j)
   where
     by-place : Dec (i < j) → ⊥
@@ -271,83 +271,92 @@ number-between b i j t l h = by-place (decLt i j)
 -- So a change of the sequence's own stretches leaves the children of its groups alone.
 module _ (A : Allowed) (b : ℕ) (t : Forest) (r : Run A t) where
   others-alike : (i l : ℕ) (g f : Forest) (xs ys : List ℕ) → back i t ≡ group l g f → KeptOthers b t xs ys
-      → Alike (number b t i + 1) (nodes g) xs ys
+      → Alike (number b t (i + 1)) (nodes g) xs ys
   others-alike i l g f xs ys e k =
       record {
         alike = λ p q u v w. k .others (cell p q) (λ i′ j′ m n z.
-            let same = cell-same p q (number b t i′) (number b t j′) v (number-rise A b i′ j′ t r m n) z in
+            let same = cell-same p q (number b t j′) (number b t i′) v (number-fall A b i′ j′ t r m n) z in
             number-between b i i′ t (omega arith) (omega (arith, number-after-group b i t l g f e)));
       }
 
   module _ (P : Prices) (cs ks cs′ ks′ : List ℕ) (kc : KeptOthers b t cs cs′) (kk : KeptOthers b t ks ks′) where
-    others-from : (i c : ℕ) (f : Forest) → c ≡ number b t i → Run A f → back i t ≡ f → Below A P c f cs ks → Below A P c f cs′ ks′
+    others-from : (i : ℕ) (f : Forest) → Run A f → back i t ≡ f → Below A P b f cs ks → Below A P b f cs′ ks′
     unfolding back
-    others-from i c end n q e w = tt
-    others-from i c (step l f) n q e w =
-        others-from (i + 1) (c + 1) f (omega (arith, number-after-step b i t l f e)) (run-rest q) (back-next i t (step l f) e) w
-    others-from i c (group l g f) n q e w =
-        let ac = rw (← n) at (others-alike i l g f cs cs′ e kc) in
-        let ak = rw (← n) at (others-alike i l g f ks ks′ e kk) in (
-          entered-alike A P cs ks cs′ ks′ (c + 1) g 0 (run-body q) ac ak (w .0),
-          below-alike A P cs ks cs′ ks′ (c + 1) g (run-body q) ac ak (w .1),
-          others-from (i + 1) (c + 1 + nodes g) f (omega (arith, number-after-group b i t l g f e)) (run-after q) (back-next i t (group l g f) e) (w .2),
+    others-from i end q e w = tt
+    others-from i (step l f) q e w = others-from (i + 1) f (run-rest q) (back-next i t (step l f) e) w
+    others-from i (group l g f) q e w =
+        let next = back-next i t (group l g f) e in
+        let ac = rw next at (others-alike i l g f cs cs′ e kc) in
+        let ak = rw next at (others-alike i l g f ks ks′ e kk) in (
+          entered-alike A P cs ks cs′ ks′ (b + nodes f) g 0 (run-body q) ac ak (w .0),
+          below-alike A P cs ks cs′ ks′ (b + nodes f) g (run-body q) ac ak (w .1),
+          others-from (i + 1) f (run-after q) next (w .2),
         )
-    others-from i c (repeat h v g f) n q e w = tt
+    others-from i (repeat h v g f) q e w = tt
 
     pub below-others : Below A P b t cs ks → Below A P b t cs′ ks′
-    unfolding front back nodes
-    below-others = others-from 0 b t (omega arith) r refl
+    unfolding back
+    below-others = others-from 0 t r refl
 
 -- What lies below two sequences, one after the other.
 module _ (A : Allowed) (P : Prices) (cs ks : List ℕ) where
-  below-join : (b c : ℕ) (x y : Forest) → c ≡ b + nodes x → Below A P b x cs ks → Below A P c y cs ks → Below A P b (join x y) cs ks
-  unfolding join nodes
-  below-join b c end y e v w = let z : c ≡ b = omega arith in rw z at w
-  below-join b c (step l f) y e v w = below-join (b + 1) c f y (omega arith) v w
-  below-join b c (group l g f) y e v w = (v .0, v .1, below-join (b + 1 + nodes g) c f y (omega arith) (v .2) w)
+  below-join : (b c : ℕ) (x y : Forest) → c ≡ b + nodes y → Below A P c x cs ks → Below A P b y cs ks → Below A P b (join x y) cs ks
+  unfolding join
+  below-join b c end y e v w = w
+  below-join b c (step l f) y e v w = below-join b c f y e v w
+  below-join b c (group l g f) y e v w =
+      let z : b + nodes (join f y) ≡ c + nodes f = omega (arith, nodes-join f y) in
+      (rw z (v .0), rw z (v .1), below-join b c f y e (v .2) w)
   below-join b c (repeat h u g f) y e v w = tt
 
-  below-rest : (b c : ℕ) (x y : Forest) → Plain x → c ≡ b + nodes x → Below A P b (join x y) cs ks → Below A P c y cs ks
-  unfolding join nodes
-  below-rest b c end y p e w = let z : c ≡ b = omega arith in rw z w
-  below-rest b c (step l f) y p e w = below-rest (b + 1) c f y p (omega arith) w
-  below-rest b c (group l g f) y p e w = below-rest (b + 1 + nodes g) c f y (p .1) (omega arith) (w .2)
-  below-rest b c (repeat h u g f) y p e w = absurd p
+  below-rest : (b : ℕ) (x y : Forest) → Plain x → Below A P b (join x y) cs ks → Below A P b y cs ks
+  unfolding join
+  below-rest b end y p w = w
+  below-rest b (step l f) y p w = below-rest b f y p w
+  below-rest b (group l g f) y p w = below-rest b f y (p .1) (w .2)
+  below-rest b (repeat h u g f) y p w = absurd p
 
   -- For a loop over the siblings: what lies below the first i of them.
   module _ (b : ℕ) (t : Forest) where
-    pub below-none : Below A P b (front 0 t) cs ks
+    pub below-none : Below A P (number b t 0) (front 0 t) cs ks
     unfolding front
     below-none = tt
 
-    below-next : (i : ℕ) (f : Forest) → back i t ≡ f → Below A P b (front i t) cs ks → Below A P (number b t i) (front 1 f) cs ks
-        → Below A P b (front (i + 1) t) cs ks
+    below-next : (i : ℕ) (f : Forest) → back i t ≡ f → Below A P (number b t i) (front i t) cs ks
+        → Below A P (number b t (i + 1)) (front 1 f) cs ks → Below A P (number b t (i + 1)) (front (i + 1) t) cs ks
     below-next i f e v w =
-        rw (front-add i 1 (i + 1) t refl, e) (below-join b (number b t i) (front i t) (front 1 f) refl v w)
+        let z : number b t i ≡ number b t (i + 1) + nodes (front 1 f) =
+        omega (arith, nodes-cut 1 f, ap nodes e, ap nodes (back-next i t f e)) in
+        rw (front-add i 1 (i + 1) t refl, e) (below-join (number b t (i + 1)) (number b t i) (front i t) (front 1 f) z v w)
 
-    pub below-step : (i l : ℕ) (f : Forest) → back i t ≡ step l f → Below A P b (front i t) cs ks → Below A P b (front (i + 1) t) cs ks
+    pub below-step : (i l : ℕ) (f : Forest) → back i t ≡ step l f → Below A P (number b t i) (front i t) cs ks
+        → Below A P (number b t (i + 1)) (front (i + 1) t) cs ks
     unfolding front
     below-step i l f e v = below-next i (step l f) e v tt
 
-    pub below-whole : Plain t → Below A P b (front (siblings t) t) cs ks → Below A P b t cs ks
-    below-whole p w = rw (front-whole (siblings t) t p refl) at w
+    pub below-whole : Plain t → Below A P (number b t (siblings t)) (front (siblings t) t) cs ks → Below A P b t cs ks
+    below-whole p w = rw (number-last b t p, front-whole (siblings t) t p refl) at w
 
     -- And what lies below one group.
-    pub below-at : (i l : ℕ) (g f : Forest) → Run A t → back i t ≡ group l g f → Below A P b t cs ks → Filled A P (number b t i + 1) g cs ks
+    pub below-at : (i l : ℕ) (g f : Forest) → Run A t → back i t ≡ group l g f → Below A P b t cs ks → Filled A P (number b t (i + 1)) g cs ks
+    unfolding back
     below-at i l g f r e w =
-        let v = below-rest b (number b t i) (front i t) (group l g f) (run-front i r .plain) refl (rw (← e, join-cut) w) in
-        record { top = v .0; below = v .1 }
+        let v = below-rest b (front i t) (group l g f) (run-front i r .plain) (rw (← e, join-cut) w) in
+        rw (back-next i t (group l g f) e) (record { top = v .0; below = v .1 })
 
 -- The next group filled: only entries of its children have changed.
 module _ (A : Allowed) (b : ℕ) (t : Forest) (r : Run A t) (i l : ℕ) (g f : Forest) (e : back i t ≡ group l g f) where
-  pub kept-in-group : (xs ys : List ℕ) → Kept (number b t i + 1) (nodes g) xs ys → Kept b (nodes t) xs ys
+  pub kept-in-group : (xs ys : List ℕ) → Kept (number b t (i + 1)) (nodes g) xs ys → Kept b (nodes t) xs ys
   kept-in-group xs ys =
-      kept-within (number b t i + 1) (nodes g) b (nodes t) xs ys (omega arith)
-      (omega (arith, number-after-group b i t l g f e, number-within b (i + 1) t))
+      kept-within (number b t (i + 1)) (nodes g) b (nodes t) xs ys (omega arith)
+      (omega (arith, number-after-group b i t l g f e, number-within b i t))
 
-  pub below-group : (P : Prices) (cs ks cs′ ks′ : List ℕ) → Kept (number b t i + 1) (nodes g) cs cs′ → Kept (number b t i + 1) (nodes g) ks ks′
-      → Filled A P (number b t i + 1) g cs′ ks′ → Below A P b (front i t) cs ks → Below A P b (front (i + 1) t) cs′ ks′
-  unfolding front
+  pub below-group : (P : Prices) (cs ks cs′ ks′ : List ℕ) → Kept (number b t (i + 1)) (nodes g) cs cs′ → Kept (number b t (i + 1)) (nodes g) ks ks′
+      → Filled A P (number b t (i + 1)) g cs′ ks′ → Below A P (number b t i) (front i t) cs ks
+      → Below A P (number b t (i + 1)) (front (i + 1) t) cs′ ks′
+  unfolding front nodes
   below-group P cs ks cs′ ks′ kc kk w v =
-      let kept = below-kept A P b (front i t) (number b t i + 1) (nodes g) cs ks cs′ ks′ (run-front i r) (inr (omega arith)) kc kk v in
-      below-next A P cs′ ks′ b t i (group l g f) e kept (w .top, w .below, tt)
+      let apart = number-after-group b i t l g f e in
+      let kept = below-kept A P (number b t i) (front i t) (number b t (i + 1)) (nodes g) cs ks cs′ ks′ (run-front i r) (inl (omega arith)) kc kk v in
+      let z : number b t (i + 1) + 0 ≡ number b t (i + 1) = omega arith in
+      below-next A P cs′ ks′ b t i (group l g f) e kept (rw z (w .top), rw z (w .below), tt)

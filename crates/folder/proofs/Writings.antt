@@ -230,7 +230,7 @@ module _ {s choices offsets numbers : List ℕ} {i to : ℕ} (before : List ℕ)
   step-written h = all-written (λ z. head-written (span-bytes z) [] (node-step z h))
 
   module _ (h : getD s (getD offsets i 0) 0 ≡ 0x10 → ⊥) where
-    pub group-room : FoldRoom (children s offsets i) (getD numbers i 0 + 1) choices (length (behind-head s offsets i to before))
+    pub group-room : FoldRoom (children s offsets i) (getD numbers (i + 1) 0) choices (length (behind-head s offsets i to before))
     group-room =
         let g = node-group (m .ready) h in
         let now : List ℕ = headed s offsets i to before in
@@ -242,7 +242,7 @@ module _ {s choices offsets numbers : List ℕ} {i to : ℕ} (before : List ℕ)
         }
 
     module _ (n : ℕ) (after : List ℕ) (same : length after ≡ length (behind-head s offsets i to before))
-        (w : FoldWritten (children s offsets i) (getD numbers i 0 + 1) choices (behind-head s offsets i to before) after n) where
+        (w : FoldWritten (children s offsets i) (getD numbers (i + 1) 0) choices (behind-head s offsets i to before) after n) where
       inside-written : (z : SpanReady s choices offsets numbers i (i + 1))
           → Along (span-bytes z) (0x12 ∷ []) to before (to + 2 + n) (with-inside s offsets i to before after)
       inside-written z =

@@ -75,18 +75,18 @@ pub record BestKey (A : Allowed) (P : Prices) (t : Forest) (k : ℕ) : Type 0 wh
   pub least : Least A P usual (best-cost A P) t count width
   pub is-rank : k ≡ rank usual (best-cost A P t) count width
 
--- The first m + 1 numbers rise, and the table has their intervals.
-pub record Rising (numbers : List ℕ) (m room : ℕ) : Type 0 where
+-- The first m + 1 numbers fall, and the table has their intervals.
+pub record Falling (numbers : List ℕ) (m room : ℕ) : Type 0 where
   pub short : m < length numbers
-  pub rise : (i j : ℕ) → i < j → j ≤ m → getD numbers i 0 < getD numbers j 0
-  pub last : getD numbers m 0 ≤ 1024
-  pub fits : cells (getD numbers m 0) ≤ room
+  pub fall : (i j : ℕ) → i < j → j ≤ m → getD numbers j 0 < getD numbers i 0
+  pub first : getD numbers 0 0 ≤ 1024
+  pub fits : cells (getD numbers 0 0) ≤ room
 
 -- A row is entered: the stretches of 1 to n siblings from sibling i on, and nothing else.
 pub record Stored (numbers : List ℕ) (i n : ℕ) (row before after : List ℕ) : Type 0 where
   pub same-length : length after ≡ length before
-  pub entered : (d : ℕ) → 0 < d → d ≤ n → getD after (cell (getD numbers i 0) (getD numbers (i + d) 0)) 0 ≡ getD row d 0
-  pub others : (x : ℕ) → ((d : ℕ) → 0 < d → d ≤ n → x ≡ cell (getD numbers i 0) (getD numbers (i + d) 0) → ⊥) → getD after x 0 ≡ getD before x 0
+  pub entered : (d : ℕ) → 0 < d → d ≤ n → getD after (cell (getD numbers (i + d) 0) (getD numbers i 0)) 0 ≡ getD row d 0
+  pub others : (x : ℕ) → ((d : ℕ) → 0 < d → d ≤ n → x ≡ cell (getD numbers (i + d) 0) (getD numbers i 0) → ⊥) → getD after x 0 ≡ getD before x 0
 
 -- What offering the repeats of width d does to the least keys.
 pub record Offering (prices : List ℕ) (cost d reach : ℕ) (before after : List ℕ) : Type 0 where
@@ -170,14 +170,14 @@ pub record Growing (kinds : List ℕ) (i m : ℕ) (before after : List ℕ) : Ty
 -- The cost of sibling i by itself, where the sequences inside the groups are entered.
 pub record Single (s table costs numbers : List ℕ) (i r : ℕ) : Type 0 where
   pub costs-it : (A : Allowed) (P : Prices) (choices : List ℕ) → ((l : ℕ) → P .of-step l ≡ getD table l 0) → ((l : ℕ) → P .of-group l ≡ getD table l 0)
-      → Below A P (getD numbers 0 0) (tree-of s) costs choices → r ≡ best-cost A P (node i (tree-of s))
+      → Below A P (getD numbers (siblings (tree-of s)) 0) (tree-of s) costs choices → r ≡ best-cost A P (node i (tree-of s))
 
 -- The siblings of the sequence are listed, and the matches from sibling i on are known.
 pub record RowGround (s offsets numbers : List ℕ) (i m : ℕ) (matches : List ℕ) : Type 0 where
   pub long-offsets : length offsets ≡ 1025
   pub placed : Placed s offsets
   pub long-numbers : length numbers ≡ 1025
-  pub numbered : Numbered (getD numbers 0 0) (tree-of s) numbers
+  pub numbered : Numbered (getD numbers m 0) (tree-of s) numbers
   pub count : siblings (tree-of s) ≡ m
   pub some : i < m
   pub long-matches : length matches ≡ 1025

@@ -1,5 +1,6 @@
--- The triangular table of the whole run. The nodes of a run are numbered in the order of their bytes, so a stretch of siblings
--- of any sequence is an interval of numbers, and no two sequences share one: one table serves the whole tree.
+-- The triangular table of the whole run. The nodes of a run are numbered from its end, against the order of their bytes, so a
+-- stretch of siblings of any sequence is an interval of numbers, and no two sequences share one: one table serves the whole tree.
+-- The stretches that begin at one sibling end at one number, so a row's entries lie together.
 use mathlib.Core.Path.{_≡_}
 use mathlib.Core.Bool.{cond}
 use mathlib.Core.List.{List, [], _∷_}
@@ -18,9 +19,9 @@ cells n = n * (n + 1) / 2
 abbrev pub cell : (p q : ℕ) → ℕ
 cell p q = q * (q - 1) / 2 + p
 
--- The number of sibling i of a sequence whose first node has the number b.
+-- The number of sibling i of a sequence behind whose end b nodes of the run follow: the nodes of the run from that sibling on.
 abbrev pub number : ℕ → Forest → ℕ → ℕ
-number b t i = b + nodes (front i t)
+number b t i = b + nodes (back i t)
 
 -- The stretch of d siblings from sibling i on.
 abbrev pub stretch : Forest → (i d : ℕ) → Forest
@@ -41,13 +42,13 @@ pub record Entry (A : Allowed) (P : Prices) (t : Forest) (cost choice : ℕ) : T
 -- All stretches of one sequence from sibling i on are entered.
 pub record Entered (A : Allowed) (P : Prices) (b : ℕ) (t : Forest) (i : ℕ) (costs choices : List ℕ) : Type 0 where
   pub entry : (j d : ℕ) → i ≤ j → 0 < d → j + d ≤ siblings t
-      → Entry A P (stretch t j d) (getD costs (cell (number b t j) (number b t (j + d))) 0) (getD choices (cell (number b t j) (number b t (j + d))) 0)
+      → Entry A P (stretch t j d) (getD costs (cell (number b t (j + d)) (number b t j)) 0) (getD choices (cell (number b t (j + d)) (number b t j)) 0)
 
--- The sequences inside a sequence's groups are entered, and theirs.
+-- The sequences inside a sequence's groups are entered, and theirs. What follows a group follows its children.
 abbrev pub Below : Allowed → Prices → ℕ → Forest → (costs choices : List ℕ) → Type 0
 Below A P b end cs ks = Unit
-Below A P b (step l f) cs ks = Below A P (b + 1) f cs ks
-Below A P b (group l g f) cs ks = Entered A P (b + 1) g 0 cs ks × Below A P (b + 1) g cs ks × Below A P (b + 1 + nodes g) f cs ks
+Below A P b (step l f) cs ks = Below A P b f cs ks
+Below A P b (group l g f) cs ks = Entered A P (b + nodes f) g 0 cs ks × Below A P (b + nodes f) g cs ks × Below A P b f cs ks
 Below A P b (repeat h w g f) cs ks = Unit
 
 -- A whole tree is entered: its top sequence and all that lies below.
@@ -63,14 +64,14 @@ pub record Kept (b n : ℕ) (before after : List ℕ) : Type 0 where
 -- Only entries of stretches of the sequence t have changed.
 pub record KeptOthers (b : ℕ) (t : Forest) (before after : List ℕ) : Type 0 where
   pub same-length : length after ≡ length before
-  pub others : (x : ℕ) → ((i j : ℕ) → i < j → j ≤ siblings t → x ≡ cell (number b t i) (number b t j) → ⊥) → getD after x 0 ≡ getD before x 0
+  pub others : (x : ℕ) → ((i j : ℕ) → i < j → j ≤ siblings t → x ≡ cell (number b t j) (number b t i) → ⊥) → getD after x 0 ≡ getD before x 0
 
 -- Bytes that spell a run.
 pub record Spelled (s : List ℕ) : Type 0 where
   pub form : bytes (tree-of s) ≡ s
   pub run : (A : Allowed) → Run A (tree-of s)
 
--- The offsets of the siblings of the sequence that the bytes spell, and their numbers from b on; the last entry is the end.
+-- The offsets of the siblings of the sequence that the bytes spell, and their numbers down to b; the last entry is the end.
 pub record Placed (s : List ℕ) (offsets : List ℕ) : Type 0 where
   pub offset : (i : ℕ) → i ≤ siblings (tree-of s) → getD offsets i 0 ≡ length (bytes (front i (tree-of s)))
 

@@ -21,11 +21,11 @@ pub record WriteReady (s : List ℕ) (b : ℕ) (choices : List ℕ) : Type 0 whe
 
 -- The same for a span of siblings.
 pub record SpanReady (s choices offsets numbers : List ℕ) (i j : ℕ) : Type 0 where
-  pub ready : WriteReady s (getD numbers 0 0) choices
+  pub ready : WriteReady s (getD numbers (siblings (tree-of s)) 0) choices
   pub long-offsets : length offsets ≡ 1025
   pub placed : Placed s offsets
   pub long-numbers : length numbers ≡ 1025
-  pub numbered : Numbered (getD numbers 0 0) (tree-of s) numbers
+  pub numbered : Numbered (getD numbers (siblings (tree-of s)) 0) (tree-of s) numbers
   pub order : i ≤ j
   pub end : j ≤ siblings (tree-of s)
 

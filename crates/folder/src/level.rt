@@ -34,14 +34,14 @@ pub fn enter_row(
     costs: &mut [u32],
     choices: &mut [u32],
 )
-    requires { ⌜ LevelReady (now s) (getD (now numbers) 0 0) limit (now table) (now prices) (now costs) (now choices) ⌝ }
+    requires { ⌜ LevelReady (now s) (getD (now numbers) m 0) limit (now table) (now prices) (now costs) (now choices) ⌝ }
     requires { ⌜ RowGround (now s) (now offsets) (now numbers) i m (now matches) ⌝ }
     requires { ⌜ ScratchReady (now least) (now covers) (now «row_costs») (now «row_choices») ⌝ }
-    requires { ⌜ Entered (at-most limit) (prices-of (now table) (now prices)) (getD (now numbers) 0 0) (tree-of (now s)) (i + 1) (now costs) (now choices) ⌝ }
-    requires { ⌜ Below (at-most limit) (prices-of (now table) (now prices)) (getD (now numbers) 0 0) (tree-of (now s)) (now costs) (now choices) ⌝ }
+    requires { ⌜ Entered (at-most limit) (prices-of (now table) (now prices)) (getD (now numbers) m 0) (tree-of (now s)) (i + 1) (now costs) (now choices) ⌝ }
+    requires { ⌜ Below (at-most limit) (prices-of (now table) (now prices)) (getD (now numbers) m 0) (tree-of (now s)) (now costs) (now choices) ⌝ }
     ensures scratch { λ _. ⌜ ScratchReady (now (least .exit)) (now (covers .exit)) (now («row_costs» .exit)) (now («row_choices» .exit)) ⌝ }
-    ensures entered { λ _. ⌜ Entered (at-most limit) (prices-of (now (table .entry)) (now (prices .entry))) (getD (now (numbers .entry)) 0 0) (tree-of (now (s .entry))) i (now (costs .exit)) (now (choices .exit)) ⌝ }
-    ensures kept { λ _. ⌜ KeptOthers (getD (now (numbers .entry)) 0 0) (tree-of (now (s .entry))) (now (costs .entry)) (now (costs .exit)) × KeptOthers (getD (now (numbers .entry)) 0 0) (tree-of (now (s .entry))) (now (choices .entry)) (now (choices .exit)) ⌝ }
+    ensures entered { λ _. ⌜ Entered (at-most limit) (prices-of (now (table .entry)) (now (prices .entry))) (getD (now (numbers .entry)) m 0) (tree-of (now (s .entry))) i (now (costs .exit)) (now (choices .exit)) ⌝ }
+    ensures kept { λ _. ⌜ KeptOthers (getD (now (numbers .entry)) m 0) (tree-of (now (s .entry))) (now (costs .entry)) (now (costs .exit)) × KeptOthers (getD (now (numbers .entry)) m 0) (tree-of (now (s .entry))) (now (choices .entry)) (now (choices .exit)) ⌝ }
 {
     let n = m - i;
     reset(least, n);
@@ -64,8 +64,8 @@ pub fn enter_row(
     store_row(choices, numbers, i, n, row_choices);
 }
 
-// Enters all stretches of the sequence s, whose first node has the number b, from the last sibling to the first. The sequences
-// inside its groups are entered already.
+// Enters all stretches of the sequence s, behind which b nodes of the run follow, from the last sibling to the first. The
+// sequences inside its groups are entered already.
 pub fn enter_level(
     s: &[u8],
     b: usize,
@@ -129,22 +129,14 @@ pub fn enter_tree(
     ensures kept { λ _. ⌜ Kept b (nodes (tree-of (now (s .entry)))) (now (costs .entry)) (now (costs .exit)) × Kept b (nodes (tree-of (now (s .entry)))) (now (choices .entry)) (now (choices .exit)) ⌝ }
 {
     let mut at = 0;
-    let mut n = b;
+    let mut n = b + count_nodes(s);
     while at < s.len() {
         let part = node_at(s, at);
         let end = at + part.len();
+        n -= count_nodes(part);
         if s[at] == Format::GROUP {
-            enter_tree(
-                &s[at + 2..end - 1],
-                n + 1,
-                table,
-                prices,
-                limit,
-                costs,
-                choices,
-            );
+            enter_tree(&s[at + 2..end - 1], n, table, prices, limit, costs, choices);
         }
-        n += count_nodes(part);
         at = end;
     }
     enter_level(s, b, table, prices, limit, costs, choices);

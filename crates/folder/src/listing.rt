@@ -1,4 +1,4 @@
-// The siblings of a sequence: where each starts in its bytes, and the number of its first node.
+// The siblings of a sequence: where each starts in its bytes, and its number.
 use check::same;
 use reader::node_at;
 use reader::opens_node;
@@ -31,7 +31,7 @@ pub fn count_nodes(s: &[u8]) -> usize
     n
 }
 
-// Lists the siblings of the sequence s, whose first node has the number b, and answers how many there are. The entry behind
+// Lists the siblings of the sequence s, behind which b nodes of the run follow, and answers how many there are. The entry behind
 // the last one is the end.
 pub fn list_siblings(s: &[u8], b: usize, offsets: &mut [usize], numbers: &mut [usize]) -> usize
     requires { ⌜ Spelled (now s) ⌝ }
@@ -43,13 +43,13 @@ pub fn list_siblings(s: &[u8], b: usize, offsets: &mut [usize], numbers: &mut [u
 {
     let mut m = 0;
     let mut at = 0;
-    let mut n = b;
+    let mut n = b + count_nodes(s);
     offsets[0] = 0;
-    numbers[0] = b;
+    numbers[0] = n;
     while at < s.len() {
         let part = node_at(s, at);
         at += part.len();
-        n += count_nodes(part);
+        n -= count_nodes(part);
         m += 1;
         offsets[m] = at;
         numbers[m] = n;

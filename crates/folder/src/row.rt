@@ -12,7 +12,7 @@ ghost use lib.ListN.{length, getD};
 ghost use Rattle.format.specs.Forest.{siblings};
 ghost use Rattle.format.specs.Tree.{tree-of};
 ghost use Rattle.folder.specs.Table.{Spelled, Placed, Numbered};
-ghost use Rattle.folder.specs.Rows.{Growing, RowReady, RowSolved, Rising, Reset, Single, no-key};
+ghost use Rattle.folder.specs.Rows.{Growing, RowReady, RowSolved, Falling, Reset, Single, no-key};
 
 // Grows the matches from sibling i + 1 to sibling i: how many siblings from i on equal the one w further, for each width w.
 pub fn grow(kinds: &[usize], i: usize, m: usize, matches: &mut [usize])
@@ -57,7 +57,7 @@ pub fn own_cost(
     requires { ⌜ Spelled (now s) ⌝ }
     requires { ⌜ (length (now offsets) ≡ 1025) × Placed (now s) (now offsets) ⌝ }
     requires { ⌜ (i < siblings (tree-of (now s))) × (siblings (tree-of (now s)) ≤ 1024) ⌝ }
-    requires { ⌜ Rising (now numbers) (siblings (tree-of (now s))) (length (now costs)) × Numbered (getD (now numbers) 0 0) (tree-of (now s)) (now numbers) ⌝ }
+    requires { ⌜ Falling (now numbers) (siblings (tree-of (now s))) (length (now costs)) × Numbered (getD (now numbers) (siblings (tree-of (now s))) 0) (tree-of (now s)) (now numbers) ⌝ }
     ensures { λ r. ⌜ Single (now (s .entry)) (now (table .entry)) (now (costs .entry)) (now (numbers .entry)) i r ⌝ }
 {
     let at = offsets[i];
@@ -65,7 +65,7 @@ pub fn own_cost(
     if s[at] == Format::STEP {
         return label;
     }
-    label + widen(costs[entry(numbers[i] + 1, numbers[i + 1])])
+    label + widen(costs[entry(numbers[i + 1], numbers[i] - 1)])
 }
 
 // The row of sibling i: for growing length d the cheapest fold of [i, i + d), whose repeats are then offered further on.
@@ -84,7 +84,7 @@ pub fn solve(
     row_choices: &mut [u64],
 )
     requires { ⌜ RowReady (now costs) (now numbers) i m own limit (now prices) (now matches) ⌝ }
-    requires { ⌜ Rising (now numbers) m (length (now costs)) ⌝ }
+    requires { ⌜ Falling (now numbers) m (length (now costs)) ⌝ }
     requires { ⌜ (length (now matches) ≡ 1025) × (length (now covers) ≡ 1025) × (length (now «row_costs») ≡ 1025) × (length (now «row_choices») ≡ 1025) ⌝ }
     requires { ⌜ Reset (m - i) (now least) ⌝ }
     ensures low { λ _. ⌜ (length (now (covers .exit)) ≡ 1025) × (length (now (least .exit)) ≡ 1025) × ((c : ℕ) → getD (now (least .exit)) c 0 ≤ no-key) ⌝ }

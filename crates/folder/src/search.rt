@@ -5,7 +5,7 @@ ghost use Prim.Native.Nat.{ℕ, _+_, _-_, _*_, _<_, _≤_};
 ghost use lib.ListN.{length, getD};
 ghost use Rattle.format.specs.Limits.{Prices};
 ghost use Rattle.format.specs.Forest.{Forest, Allowed};
-ghost use Rattle.folder.specs.Rows.{Rising, no-key, Offering, Inserting, Searching, SearchSafe};
+ghost use Rattle.folder.specs.Rows.{Falling, no-key, Offering, Inserting, Searching, SearchSafe};
 
 // Offers the repeats of width d, of which `reach` siblings match the one d further, at the covers that they have.
 pub fn offer(prices: &[u64], cost: u64, d: usize, reach: usize, least: &mut [u64])
@@ -57,7 +57,7 @@ pub fn best(
     covers: &[usize],
     n: usize,
 ) -> u64
-    requires { ⌜ Rising (now numbers) (i + d) (length (now costs)) ⌝ }
+    requires { ⌜ Falling (now numbers) (i + d) (length (now costs)) ⌝ }
     requires { ⌜ SearchSafe d own (now least) (now covers) n ⌝ }
     ensures { λ r. ⌜ Searching (now (costs .entry)) (now (numbers .entry)) i d own (now (least .entry)) (now (covers .entry)) n r ⌝ }
 {

@@ -4,7 +4,7 @@ ghost use mathlib.Core.List.{_++_};
 ghost use Prim.Native.Nat.{ℕ, _+_, _<_, _≤_};
 ghost use lib.ListN.{length, getD, drop, replicate};
 ghost use Rattle.folder.specs.Table.{cell, cells};
-ghost use Rattle.folder.specs.Rows.{Rising, Stored};
+ghost use Rattle.folder.specs.Rows.{Falling, Stored};
 
 pub fn widen(x: u32) -> u64
     ensures { λ r. ⌜ (r ≡ x) × (r < 4294967296) ⌝ }
@@ -30,23 +30,23 @@ pub fn entry(p: usize, q: usize) -> usize
 
 // The cost or choice of the stretch of siblings from i up to j.
 pub fn look(w: &[u32], numbers: &[usize], i: usize, j: usize) -> u64
-    requires { ⌜ Rising (now numbers) j (length (now w)) ⌝ }
+    requires { ⌜ Falling (now numbers) j (length (now w)) ⌝ }
     requires { ⌜ i < j ⌝ }
-    ensures { λ r. ⌜ (r ≡ getD (now (w .entry)) (cell (getD (now (numbers .entry)) i 0) (getD (now (numbers .entry)) j 0)) 0) × (r < 4294967296) ⌝ }
+    ensures { λ r. ⌜ (r ≡ getD (now (w .entry)) (cell (getD (now (numbers .entry)) j 0) (getD (now (numbers .entry)) i 0)) 0) × (r < 4294967296) ⌝ }
 {
-    widen(w[entry(numbers[i], numbers[j])])
+    widen(w[entry(numbers[j], numbers[i])])
 }
 
 // Enters a row: the stretches of 1 to n siblings from sibling i on.
 pub fn store_row(w: &mut [u32], numbers: &[usize], i: usize, n: usize, row: &[u64])
-    requires { ⌜ Rising (now numbers) (i + n) (length (now w)) ⌝ }
+    requires { ⌜ Falling (now numbers) (i + n) (length (now w)) ⌝ }
     requires { ⌜ n < length (now row) ⌝ }
     requires { ⌜ ((d : ℕ) → 0 < d → d ≤ n → getD (now row) d 0 < 4294967296) ⌝ }
     ensures { λ _. ⌜ Stored (now (numbers .entry)) i n (now (row .entry)) (now (w .entry)) (now (w .exit)) ⌝ }
 {
     let mut d = 1;
     while d <= n {
-        w[entry(numbers[i], numbers[i + d])] = row[d] as u32;
+        w[entry(numbers[i + d], numbers[i])] = row[d] as u32;
         d += 1;
     }
 }

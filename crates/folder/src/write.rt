@@ -8,7 +8,7 @@ ghost use Prim.Native.Nat.{ℕ, _+_, _-_, _<_, _≤_};
 ghost use lib.ListN.{length, drop};
 ghost use Rattle.folder.specs.Writing.{WriteReady, SpanReady, FoldLength, SpanLength, FoldRoom, SpanRoom, FoldWritten, SpanWritten, opened};
 
-// The length of the cheapest fold of the sequence s, whose first node has the number b.
+// The length of the cheapest fold of the sequence s, behind which b nodes of the run follow.
 pub fn fold_length(s: &[u8], b: usize, choices: &[u32]) -> usize
     requires { ⌜ WriteReady (now s) b (now choices) ⌝ }
     ensures { λ r. ⌜ FoldLength (now (s .entry)) b (now (choices .entry)) r ⌝ }
@@ -57,7 +57,7 @@ fn node_length(s: &[u8], choices: &[u32], offsets: &[usize], numbers: &[usize], 
         return 2;
     }
     let end = offsets[i + 1] - 1;
-    3 + fold_length(&s[at + 2..end], numbers[i] + 1, choices)
+    3 + fold_length(&s[at + 2..end], numbers[i + 1], choices)
 }
 
 // Writes the cheapest fold of the sequence s at the front of the output, and answers its length.
@@ -126,7 +126,7 @@ fn put_node(
     }
     let end = offsets[i + 1] - 1;
     let start = to + 2;
-    let n = put_fold(&s[at + 2..end], numbers[i] + 1, choices, &mut out[start..]);
+    let n = put_fold(&s[at + 2..end], numbers[i + 1], choices, &mut out[start..]);
     out[start + n] = Format::GROUP_END;
     start + n + 1
 }

@@ -1,6 +1,5 @@
 -- The proof of `enter_tree`, which calls itself on the bytes inside each group: they are fewer. Its loop passes the siblings, with
 -- all below those passed entered.
-use mathlib.Core.Logic.{⊎-elim}
 use Prim.Native.Nat.{ℕ, _-_, _<_}
 use native.Mathlib.Omega.{arith}
 use lib.ListN.{length}
@@ -14,6 +13,7 @@ use Rattle.folder.proofs.listing.count_nodes.Reads as count-nodes-reads
 use Rattle.reader.proofs.node_at.Reads as node-at-reads
 use Rattle.folder.specs.Table.{at-most, prices-of}
 use Rattle.folder.proofs.Tables.{kept-then}
+use Rattle.folder.proofs.Listings.{spelled-count}
 use Rattle.folder.proofs.Recursion.{Through, Passing, Opening, through-none, passing, through-step, opening, through-group, through-all, through-ready}
 use Rattle.folder.proofs.level.+enter_tree.{statement}
 use Rattle.folder.proofs.level.+enter_tree.Tie.{close}
@@ -31,7 +31,7 @@ enter-tree-below t =
 
 abbrev calls : ℕ → enter-tree-lts.Claims
 calls t =
-    (node-at-reads.Asked, node-at-reads.Learnt, enter-tree-below t, enter-tree.Post, count-nodes-reads.Asked, count-nodes-reads.Learnt, enter-level-reads.Asked, enter-level-reads.Learnt)
+    (count-nodes-reads.Asked, count-nodes-reads.Learnt, node-at-reads.Asked, node-at-reads.Learnt, enter-tree-below t, enter-tree.Post, enter-level-reads.Asked, enter-level-reads.Learnt)
 
 abbrev enter-tree-Inv-loop : enter-tree-lts.InvT-loop
 enter-tree-Inv-loop s b table prices limit costs₀ choices₀ at₀ n₀ costs choices at n =
@@ -40,22 +40,35 @@ enter-tree-Inv-loop s b table prices limit costs₀ choices₀ at₀ n₀ costs 
 abbrev enter-tree-μ-loop : enter-tree-lts.MeasureT-loop
 enter-tree-μ-loop s b table prices limit costs₀ choices₀ at₀ n₀ costs choices at n = length s - at
 
+enter-tree-count-nodes-requires : (t : ℕ) → enter-tree-lts.Need-count-nodes-requires (calls t) (enter-tree-at t) enter-tree.Post enter-tree-Inv-loop enter-tree-μ-loop
+enter-tree-count-nodes-requires t c κs = tt
+
+enter-tree-add-n : (t : ℕ) → enter-tree-lts.Need-add-n (calls t) (enter-tree-at t) enter-tree.Post enter-tree-Inv-loop enter-tree-μ-loop
+enter-tree-add-n t c =
+    let l = c .before .before .before .before .before .before .pre .1 in
+    omega (arith, c .count-nodes .ensures, spelled-count _ (l .spelled), l .total)
+
 enter-tree-loop-holds : (t : ℕ) → enter-tree-lts.Need-loop-holds (calls t) (enter-tree-at t) enter-tree.Post enter-tree-Inv-loop enter-tree-μ-loop
 enter-tree-loop-holds t c =
-    let a = c .before .before .before .before .before .args in
-    through-none (at-most (a .limit)) (prices-of (a .table .now) (a .prices .now)) (a .s .now) (a .b) (a .costs .now) (a .choices .now)
+    let S = c .before .before .before .before .before .before in
+    let a = S .args in
+    through-none (at-most (a .limit)) (prices-of (a .table .now) (a .prices .now)) (a .s .now) (S .pre .1 .spelled) (a .b) (a .costs .now) (a .choices .now) _
+    (c .count-nodes .ensures .0)
 
 -- Where the part of the next sibling is known, and inside the branch for a group.
 passes : (t : ℕ) (c : enter-tree-lts.After-node-at (calls t) (enter-tree-at t) enter-tree.Post enter-tree-Inv-loop enter-tree-μ-loop)
-    → Passing (c .before .before .before .before .before .before .before .before .args .s .now) (c .before .before .before .before .before .before .before .before .args .b) (c .before .before .loop .at) (c .before .before .loop .n) (c .node-at .result .now)
+    → Passing (c .before .before .before .before .before .before .before .before .before .args .s .now) (c .before .before .loop .at) (c .before .before .loop .n) (c .node-at .result .now)
 passes t c =
-    passing (c .before .before .before .before .before .before .before .before .pre .1) (c .before .before .loop .inv) (c .before .loop-test .taken) (c .node-at .result .now) (c .node-at .ensures)
+    passing (c .before .before .before .before .before .before .before .before .before .pre .1) (c .before .before .loop .inv) (c .before .loop-test .taken) (c .node-at .result .now) (c .node-at .ensures)
 
 opens : (t : ℕ) (c : enter-tree-lts.Then1 (calls t) (enter-tree-at t) enter-tree.Post enter-tree-Inv-loop enter-tree-μ-loop)
-    → Opening (c .before .before .before .before .before .before .before .before .before .before .args .s .now) (c .before .before .before .before .loop .at) (c .before .before .before .before .loop .n) (c .before .before .node-at .result .now) (c .before .before .before .before .before .before .before .before .before .before .args .limit) (c .before .before .before .before .before .before .before .before .before .before .args .table .now) (c .before .before .before .before .before .before .before .before .before .before .args .prices .now) (c .before .before .before .before .loop .costs) (c .before .before .before .before .loop .choices)
+    → (let S = c .before .before .before .before .before .before .before .before .before .before .before .before in
+    let L = c .before .before .before .before .before .loop in
+    Opening (S .args .s .now) (L .at) (L .n - c .before .before .count-nodes2 .result) (c .before .before .before .node-at .result .now) (S .args .limit) (S .args .table .now) (S .args .prices .now) (L .costs) (L .choices))
 opens t c =
-    let d = c .before .before in
-    opening (d .before .before .before .before .before .before .before .before .pre .1) (d .before .before .loop .inv) (d .before .loop-test .taken) (d .node-at .result .now) (d .node-at .ensures) (c .if1 .taken)
+    let d = c .before .before .before in
+    opening (d .before .before .before .before .before .before .before .before .before .pre .1) (d .before .before .loop .inv) (d .before .loop-test .taken) (d .node-at .result .now) (d .node-at .ensures) (c .if1 .taken) _
+    (c .before .before .count-nodes2 .ensures .0)
 
 enter-tree-node-at-requires : (t : ℕ) → enter-tree-lts.Need-node-at-requires (calls t) (enter-tree-at t) enter-tree.Post enter-tree-Inv-loop enter-tree-μ-loop
 enter-tree-node-at-requires t c κs = tt
@@ -63,14 +76,20 @@ enter-tree-node-at-requires t c κs = tt
 enter-tree-add-end : (t : ℕ) → enter-tree-lts.Need-add-end (calls t) (enter-tree-at t) enter-tree.Post enter-tree-Inv-loop enter-tree-μ-loop
 enter-tree-add-end t c = omega (arith, passes t c)
 
+enter-tree-count-nodes-requires-2 : (t : ℕ) → enter-tree-lts.Need-count-nodes-requires-2 (calls t) (enter-tree-at t) enter-tree.Post enter-tree-Inv-loop enter-tree-μ-loop
+enter-tree-count-nodes-requires-2 t c κs = tt
+
+enter-tree-sub-n : (t : ℕ) → enter-tree-lts.Need-sub-n (calls t) (enter-tree-at t) enter-tree.Post enter-tree-Inv-loop enter-tree-μ-loop
+enter-tree-sub-n t c = omega (arith, passes t (c .before), c .count-nodes2 .ensures)
+
 enter-tree-shared-slice-read-if1 : (t : ℕ) → enter-tree-lts.Need-shared-slice-read-if1 (calls t) (enter-tree-at t) enter-tree.Post enter-tree-Inv-loop enter-tree-μ-loop
 enter-tree-shared-slice-read-if1 t c = omega arith
 
 enter-tree-add-enter-tree : (t : ℕ) → enter-tree-lts.Need-add-enter-tree (calls t) (enter-tree-at t) enter-tree.Post enter-tree-Inv-loop enter-tree-μ-loop
-enter-tree-add-enter-tree t c = omega (arith, passes t (c .before .before))
+enter-tree-add-enter-tree t c = omega (arith, passes t (c .before .before .before))
 
 enter-tree-sub-enter-tree : (t : ℕ) → enter-tree-lts.Need-sub-enter-tree (calls t) (enter-tree-at t) enter-tree.Post enter-tree-Inv-loop enter-tree-μ-loop
-enter-tree-sub-enter-tree t c = omega (arith, passes t (c .before .before))
+enter-tree-sub-enter-tree t c = omega (arith, passes t (c .before .before .before))
 
 enter-tree-sub-enter-tree-2 : (t : ℕ) → enter-tree-lts.Need-sub-enter-tree-2 (calls t) (enter-tree-at t) enter-tree.Post enter-tree-Inv-loop enter-tree-μ-loop
 enter-tree-sub-enter-tree-2 t c = omega (arith, opens t c .long)
@@ -79,46 +98,37 @@ enter-tree-part-enter-tree-start : (t : ℕ) → enter-tree-lts.Need-part-enter-
 enter-tree-part-enter-tree-start t c = omega (arith, opens t c .long)
 
 enter-tree-part-enter-tree-end : (t : ℕ) → enter-tree-lts.Need-part-enter-tree-end (calls t) (enter-tree-at t) enter-tree.Post enter-tree-Inv-loop enter-tree-μ-loop
-enter-tree-part-enter-tree-end t c = omega (arith, passes t (c .before .before))
-
-enter-tree-add-enter-tree-2 : (t : ℕ) → enter-tree-lts.Need-add-enter-tree-2 (calls t) (enter-tree-at t) enter-tree.Post enter-tree-Inv-loop enter-tree-μ-loop
-enter-tree-add-enter-tree-2 t c = omega (arith, opens t (c .before) .ready .total)
+enter-tree-part-enter-tree-end t c = omega (arith, passes t (c .before .before .before))
 
 enter-tree-enter-tree-requires : (t : ℕ) → enter-tree-lts.Need-enter-tree-requires (calls t) (enter-tree-at t) enter-tree.Post enter-tree-Inv-loop enter-tree-μ-loop
 enter-tree-enter-tree-requires t c κs =
     let o = opens t (c .before .before .before) in
-    (omega (arith, o .shorter, c .before .before .before .before .before .before .before .before .before .before .before .before .before .pre .0), o .ready)
-
-enter-tree-count-nodes-requires : (t : ℕ) → enter-tree-lts.Need-count-nodes-requires (calls t) (enter-tree-at t) enter-tree.Post enter-tree-Inv-loop enter-tree-μ-loop
-enter-tree-count-nodes-requires t c κs = tt
-
-enter-tree-add-n : (t : ℕ) → enter-tree-lts.Need-add-n (calls t) (enter-tree-at t) enter-tree.Post enter-tree-Inv-loop enter-tree-μ-loop
-enter-tree-add-n t c =
-    omega (arith, passes t (c .before .before .before), c .before .before .before .before .before .before .before .before .before .before .before .pre .1 .total, c .count-nodes .ensures)
+    (omega (arith, o .shorter, c .before .before .before .before .before .before .before .before .before .before .before .before .before .before .before .pre .0), o .ready)
 
 enter-tree-loop-less : (t : ℕ) → enter-tree-lts.Need-loop-less (calls t) (enter-tree-at t) enter-tree.Post enter-tree-Inv-loop enter-tree-μ-loop
-enter-tree-loop-less t c = omega (arith, passes t (c .before .before .before))
+enter-tree-loop-less t c = omega (arith, passes t (c .before .before .before .before .before .before .before .before .before .before .before))
 
 enter-tree-loop-again : (t : ℕ) → enter-tree-lts.Need-loop-again (calls t) (enter-tree-at t) enter-tree.Post enter-tree-Inv-loop enter-tree-μ-loop
 enter-tree-loop-again t c =
+    let g = c .before .before .before .before .before .before .before .before in
+    let d = g .before .before .before in
+    let e = c .before .before .before .before .enter-tree .ensures in
+    through-group (d .before .before .before .before .before .before .before .before .before .pre .1) (d .before .before .loop .inv) (d .before .loop-test .taken) (d .node-at .result .now) (d .node-at .ensures) (g .if1 .taken) _ _ _
+    (g .before .before .count-nodes2 .ensures .0) (e .0) (e .1 .0) (e .1 .1)
+
+enter-tree-loop-less-2 : (t : ℕ) → enter-tree-lts.Need-loop-less-2 (calls t) (enter-tree-at t) enter-tree.Post enter-tree-Inv-loop enter-tree-μ-loop
+enter-tree-loop-less-2 t c = omega (arith, passes t (c .before .before .before))
+
+enter-tree-loop-again-2 : (t : ℕ) → enter-tree-lts.Need-loop-again-2 (calls t) (enter-tree-at t) enter-tree.Post enter-tree-Inv-loop enter-tree-μ-loop
+enter-tree-loop-again-2 t c =
     let d = c .before .before .before in
-    let l = d .before .before .before .before .before .before .before .before .pre .1 in
-    let so-far = d .before .before .loop .inv in
-    let more = d .before .loop-test .taken in
-    let part = d .node-at .result .now in
-    let is-part = d .node-at .ensures in
-    let counted = c .count-nodes .ensures .0 in
-    ⊎-elim
-    (λ w.
-    let e = w .4 .ensures in
-    rw (w .9, w .10) (through-group l so-far more part is-part (w .0 .taken) _ _ (e .0) (e .1 .0) (e .1 .1) _ counted))
-    (λ w. rw (w .1, w .2) (through-step l so-far more part is-part (w .0 .left) _ counted))
-    (c .before .if1 .came)
+    through-step (d .before .before .before .before .before .before .before .before .before .pre .1) (d .before .before .loop .inv) (d .before .loop-test .taken) (d .node-at .result .now) (d .node-at .ensures) (c .if1 .left) _
+    (c .before .before .count-nodes2 .ensures .0)
 
 enter-tree-enter-level-requires : (t : ℕ) → enter-tree-lts.Need-enter-level-requires (calls t) (enter-tree-at t) enter-tree.Post enter-tree-Inv-loop enter-tree-μ-loop
 enter-tree-enter-level-requires t c κs =
     let w = c .before .before .before .loop .inv in
-    let l = c .before .before .before .before .before .before .before .before .before .pre .1 in
+    let l = c .before .before .before .before .before .before .before .before .before .before .pre .1 in
     (through-ready l w, through-all l w (c .before .before .loop-test .left))
 
 enter-tree-returns : (t : ℕ) → enter-tree-lts.Need-returns (calls t) (enter-tree-at t) enter-tree.Post enter-tree-Inv-loop enter-tree-μ-loop
@@ -139,21 +149,24 @@ pub +enter-tree-spec : {M : Type 1} → statement M
     enter-tree.Post
     enter-tree-Inv-loop
     enter-tree-μ-loop
+    (enter-tree-count-nodes-requires t)
+    (enter-tree-add-n t)
     (enter-tree-loop-holds t)
     (enter-tree-node-at-requires t)
     (enter-tree-add-end t)
+    (enter-tree-count-nodes-requires-2 t)
+    (enter-tree-sub-n t)
     (enter-tree-shared-slice-read-if1 t)
     (enter-tree-add-enter-tree t)
     (enter-tree-sub-enter-tree t)
     (enter-tree-sub-enter-tree-2 t)
     (enter-tree-part-enter-tree-start t)
     (enter-tree-part-enter-tree-end t)
-    (enter-tree-add-enter-tree-2 t)
     (enter-tree-enter-tree-requires t)
-    (enter-tree-count-nodes-requires t)
-    (enter-tree-add-n t)
     (enter-tree-loop-less t)
     (enter-tree-loop-again t)
+    (enter-tree-loop-less-2 t)
+    (enter-tree-loop-again-2 t)
     (enter-tree-enter-level-requires t)
     (enter-tree-same-length t)
     (enter-tree-same-length-2 t)

@@ -3,7 +3,7 @@
 use native.Mathlib.Omega.{arith}
 use Rattle.folder.specs.Rows.{RowReady}
 use Rattle.folder.proofs.Solving.{row-low}
-use Rattle.folder.proofs.Levels.{siblings-few, level-rising, row-ready, row-entered, row-kept}
+use Rattle.folder.proofs.Levels.{siblings-few, level-falling, row-ready, row-entered, row-kept}
 use borrow.Author.Needs.{needs}
 use Rattle.folder.proofs.level.enter_row.Statement.{statement}
 use Rattle.folder.proofs.level.enter_row.Tie as tie
@@ -39,7 +39,7 @@ own-cost-requires c κs =
         (ground .long-offsets, ground .placed),
         (
           (omega (arith, ground .count, ground .some), siblings-few (p .0)),
-          (level-rising (p .0) ground _ _ (p .0 .cost-room) (omega (arith, ground .count)), ground .numbered),
+          (level-falling (p .0) ground _ _ (p .0 .cost-room) (omega (arith, ground .count)), rw (ground .count) (ground .numbered)),
         ),
       ),
     )
@@ -51,7 +51,7 @@ solve-requires c κs =
     let scratch = p .1 .1 .0 in (
       row O,
       (
-        level-rising (p .0) (p .1 .0) _ _ (p .0 .cost-room) (omega arith),
+        level-falling (p .0) (p .1 .0) _ _ (p .0 .cost-room) (omega arith),
         (
           (p .1 .0 .long-matches, scratch .long-covers, scratch .long-costs, scratch .long-choices),
           c .before .before .before .before .before .before .before .before .before .reset .ensures,
@@ -65,7 +65,7 @@ store-row-requires c κs =
     let p = start (own F) .pre in
     let r = F .solve .ensures .1 in
     let some = p .1 .0 .some in (
-      level-rising (p .0) (p .1 .0) _ _ (p .0 .cost-room) (omega arith),
+      level-falling (p .0) (p .1 .0) _ _ (p .0 .cost-room) (omega arith),
       (omega (arith, siblings-few (p .0), p .1 .0 .count, r .long-costs), λ d p h. row-low (row (own F)) r _ (omega arith) d p h .0),
     )
 
@@ -75,7 +75,7 @@ store-row-requires-2 c κs =
     let p = start (own F) .pre in
     let r = F .solve .ensures .1 in
     let some = p .1 .0 .some in (
-      level-rising (p .0) (p .1 .0) _ _ (p .0 .choice-room) (omega arith),
+      level-falling (p .0) (p .1 .0) _ _ (p .0 .choice-room) (omega arith),
       (omega (arith, siblings-few (p .0), p .1 .0 .count, r .long-choices), λ d p h. row-low (row (own F)) r _ (omega arith) d p h .1),
     )
 

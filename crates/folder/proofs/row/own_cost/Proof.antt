@@ -1,12 +1,12 @@
 -- `folder::row::own_cost` meets its contract. The first byte tells a step from a group, and what a group holds has its entry.
-use Prim.Native.Nat.{_+_, _<_, _≤_}
+use Prim.Native.Nat.{_+_, _-_, _<_, _≤_}
 use mathlib.Core.Path.{_≡_}
 use native.Mathlib.Omega.{arith}
 use borrow.Author.Needs.{needs}
 use lib.ListN.{getD, length}
 use Rattle.format.specs.Tree.{tree-of}
 use Rattle.folder.specs.Table.{cell}
-use Rattle.folder.proofs.Tables.{rising-most}
+use Rattle.folder.proofs.Tables.{falling-most}
 use Rattle.folder.proofs.Listings.{Sibling, sibling-first, sibling-long, place-most}
 use Rattle.folder.proofs.Growths.{own-step, own-inside, own-cell, own-group}
 use Rattle.folder.proofs.row.own_cost.Statement.{statement}
@@ -27,9 +27,13 @@ first : (S : tie.Start)
     (getD (S .args .s .now) (getD (S .args .offsets .now) (S .args .i) 0 + 1) 0)
 first S = sibling-first _ (S .pre .0) (S .args .i) (S .pre .1 .1 .0 .0) _ (S .pre .1 .0 .1 .offset (S .args .i) (omega arith))
 
--- What a group holds has its entry.
+-- The interval of what a group holds is not empty, and the table has its entry.
+some : (S : tie.Start) → (getD (S .args .s .now) (getD (S .args .offsets .now) (S .args .i) 0) 0 ≡ 0x10 → ⊥)
+    → getD (S .args .numbers .now) (S .args .i + 1) 0 < getD (S .args .numbers .now) (S .args .i) 0 - 1
+some S other = own-inside _ _ _ _ (first S) _ (S .pre .0) (omega arith) (S .pre .1 .1 .1 .1) other
+
 stored : (S : tie.Start) → (getD (S .args .s .now) (getD (S .args .offsets .now) (S .args .i) 0) 0 ≡ 0x10 → ⊥)
-    → cell (getD (S .args .numbers .now) (S .args .i) 0 + 1) (getD (S .args .numbers .now) (S .args .i + 1) 0) < length (S .args .costs .now)
+    → cell (getD (S .args .numbers .now) (S .args .i + 1) 0) (getD (S .args .numbers .now) (S .args .i) 0 - 1) < length (S .args .costs .now)
 stored S other = own-cell _ _ _ _ (first S) _ (S .pre .0) (omega arith) (S .pre .1 .1 .1 .1) other _ (S .pre .1 .1 .1 .0)
 
 mul-at : tie.Need-mul-at
@@ -54,19 +58,14 @@ returns : tie.Need-returns
 returns c =
     own-step _ _ _ _ (first (c .before .before .before .before .before .before .before .before .before .before)) _ _ _ (c .if1 .taken) _ (c .before .before .price .ensures .0)
 
+add-entry : tie.Need-add-entry
+add-entry c = search needs
+
 mul-entry : tie.Need-mul-entry
 mul-entry c = search needs
 
 shared-slice-read-entry : tie.Need-shared-slice-read-entry
 shared-slice-read-entry c = search needs
-
-add-entry : tie.Need-add-entry
-add-entry c =
-    let S = c .before .before .before .before .before .before .before .before .before .before .before in
-    omega (arith, rising-most _ _ _ (S .pre .1 .1 .1 .0) (S .args .i) (omega arith))
-
-add-entry-2 : tie.Need-add-entry-2
-add-entry-2 c = search needs
 
 mul-entry-2 : tie.Need-mul-entry-2
 mul-entry-2 c = search needs
@@ -74,12 +73,15 @@ mul-entry-2 c = search needs
 shared-slice-read-entry-2 : tie.Need-shared-slice-read-entry-2
 shared-slice-read-entry-2 c = search needs
 
+sub-entry : tie.Need-sub-entry
+sub-entry c =
+    let S = c .before .before .before .before .before .before .before .before .before .before .before .before in
+    omega (arith, some S (c .before .before .if1 .left))
+
 entry-requires : tie.Need-entry-requires
 entry-requires c κs =
-    let S = c .before .before .before .before .before .before .before .before .before .before .before .before in (
-      own-inside _ _ _ _ (first S) _ (S .pre .0) (omega arith) (S .pre .1 .1 .1 .1) (c .before .before .if1 .left),
-      rising-most _ _ _ (S .pre .1 .1 .1 .0) (S .args .i + 1) (omega arith),
-    )
+    let S = c .before .before .before .before .before .before .before .before .before .before .before .before in
+    (some S (c .before .before .if1 .left), omega (arith, falling-most _ _ _ (S .pre .1 .1 .1 .0) (S .args .i) (omega arith)))
 
 mul-widen : tie.Need-mul-widen
 mul-widen c =
@@ -114,12 +116,12 @@ own-cost-spec =
     price-requires
     shared-slice-read-if1
     returns
+    add-entry
     mul-entry
     shared-slice-read-entry
-    add-entry
-    add-entry-2
     mul-entry-2
     shared-slice-read-entry-2
+    sub-entry
     entry-requires
     mul-widen
     shared-slice-read-widen

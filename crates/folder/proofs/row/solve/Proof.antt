@@ -7,7 +7,7 @@ use lib.ListN.{getD}
 use native.Mathlib.Omega.{arith}
 use borrow.Author.Needs.{needs}
 use Rattle.folder.specs.Rows.{SearchSafe}
-use Rattle.folder.proofs.Solving.{rising-less, Put, put, passed, Widened, offered, too-wide}
+use Rattle.folder.proofs.Solving.{falling-less, Put, put, passed, Widened, offered, too-wide}
 use Rattle.folder.proofs.Solving.{Rowed, rowed-none, search-safe, match-low, found-low, rowed-more, row-solved}
 use Rattle.folder.proofs.row.solve.Statement.{statement}
 use Rattle.folder.proofs.row.solve.Tie as tie
@@ -61,7 +61,7 @@ add-loop : tie.Need-add-loop Inv-loop μ-loop
 add-loop c = omega arith
 
 best-requires : tie.Need-best-requires Inv-loop μ-loop
-best-requires c κs = (rising-less _ (c .before .before .loop-test .taken) (start (c .before .before) .pre .1 .0), safe (c .before .before))
+best-requires c κs = (falling-less _ (c .before .before .loop-test .taken) (start (c .before .before) .pre .1 .0), safe (c .before .before))
 
 mul-row-costs : tie.Need-mul-row-costs Inv-loop μ-loop
 mul-row-costs c = let s = safe (c .before .before .before) in omega arith

@@ -1,7 +1,7 @@
--- `folder::table::look` meets its contract. The numbers rise, so the two are an interval, and the table has its entry.
+-- `folder::table::look` meets its contract. The numbers fall, so the two are an interval, and the table has its entry.
 use native.Mathlib.Omega.{arith}
 use borrow.Author.Needs.{needs}
-use Rattle.folder.proofs.Tables.{rising-cell}
+use Rattle.folder.proofs.Tables.{falling-most, falling-cell}
 use Rattle.folder.proofs.table.look.Statement.{statement}
 use Rattle.folder.proofs.table.look.Tie as tie
 
@@ -18,13 +18,13 @@ shared-slice-read-entry-2 : tie.Need-shared-slice-read-entry-2
 shared-slice-read-entry-2 c = search needs
 
 entry-requires : tie.Need-entry-requires
-entry-requires c κs = let S = c .before .before .before .before in (S .pre .0 .rise _ _ (S .pre .1) (omega arith), S .pre .0 .last)
+entry-requires c κs = let S = c .before .before .before .before in (S .pre .0 .fall _ _ (S .pre .1) (omega arith), falling-most _ _ _ (S .pre .0) (S .args .i) (omega arith))
 
 mul-widen : tie.Need-mul-widen
-mul-widen c = let S = c .before .before .before .before .before in omega (arith, rising-cell _ _ _ (S .pre .0) (S .args .i) (S .args .j) (S .pre .1) (omega arith), S .good)
+mul-widen c = let S = c .before .before .before .before .before in omega (arith, falling-cell _ _ _ (S .pre .0) (S .args .i) (S .args .j) (S .pre .1) (omega arith), S .good)
 
 shared-slice-read-widen : tie.Need-shared-slice-read-widen
-shared-slice-read-widen c = let S = c .before .before .before .before .before .before in omega (arith, rising-cell _ _ _ (S .pre .0) (S .args .i) (S .args .j) (S .pre .1) (omega arith))
+shared-slice-read-widen c = let S = c .before .before .before .before .before .before in omega (arith, falling-cell _ _ _ (S .pre .0) (S .args .i) (S .args .j) (S .pre .1) (omega arith))
 
 widen-requires : tie.Need-widen-requires
 widen-requires c κs = search needs

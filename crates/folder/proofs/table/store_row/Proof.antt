@@ -3,7 +3,7 @@ use mathlib.Core.Path.{_≡_}
 use Prim.Native.Nat.{_+_, _-_, _≤_}
 use native.Mathlib.Omega.{arith}
 use Rattle.folder.specs.Rows.{Stored}
-use Rattle.folder.proofs.Tables.{rising-most, rising-cell, stored-none, stored-more}
+use Rattle.folder.proofs.Tables.{falling-most, falling-cell, stored-none, stored-more}
 use Rattle.folder.proofs.table.store_row.Statement.{statement}
 use Rattle.folder.proofs.table.store_row.Tie as tie
 
@@ -25,14 +25,14 @@ shared-slice-read-w c = omega arith
 cast-w : tie.Need-cast-w Inv-loop μ-loop
 cast-w c = omega (arith, c .before .before .before .before .before .before .pre .1 .1 (c .before .before .loop .d) (omega arith) (omega arith))
 
+add-entry : tie.Need-add-entry Inv-loop μ-loop
+add-entry c = omega arith
+
 mul-entry : tie.Need-mul-entry Inv-loop μ-loop
 mul-entry c = omega arith
 
 shared-slice-read-entry : tie.Need-shared-slice-read-entry Inv-loop μ-loop
 shared-slice-read-entry c = omega arith
-
-add-entry : tie.Need-add-entry Inv-loop μ-loop
-add-entry c = omega arith
 
 mul-entry-2 : tie.Need-mul-entry-2 Inv-loop μ-loop
 mul-entry-2 c = omega arith
@@ -44,19 +44,19 @@ entry-requires : tie.Need-entry-requires Inv-loop μ-loop
 entry-requires c κs =
     let S = c .before .before .before .before .before .before .before .before in
     let L = c .before .before .before .before .loop in
-    (S .pre .0 .rise (S .args .i) (S .args .i + L .d) (omega arith) (omega arith), rising-most _ _ _ (S .pre .0) (S .args .i + L .d) (omega arith))
+    (S .pre .0 .fall (S .args .i) (S .args .i + L .d) (omega arith) (omega arith), falling-most _ _ _ (S .pre .0) (S .args .i) (omega arith))
 
 mul-w-2 : tie.Need-mul-w-2 Inv-loop μ-loop
 mul-w-2 c =
     let S = c .before .before .before .before .before .before .before .before .before in
     let L = c .before .before .before .before .before .loop in
-    omega (arith, rising-cell _ _ _ (S .pre .0) (S .args .i) (S .args .i + L .d) (omega arith) (omega arith), S .good)
+    omega (arith, falling-cell _ _ _ (S .pre .0) (S .args .i) (S .args .i + L .d) (omega arith) (omega arith), S .good)
 
 slice-write-w : tie.Need-slice-write-w Inv-loop μ-loop
 slice-write-w c =
     let S = c .before .before .before .before .before .before .before .before .before in
     let L = c .before .before .before .before .before .loop in
-    omega (arith, rising-cell _ _ _ (S .pre .0) (S .args .i) (S .args .i + L .d) (omega arith) (omega arith))
+    omega (arith, falling-cell _ _ _ (S .pre .0) (S .args .i) (S .args .i + L .d) (omega arith) (omega arith))
 
 add-d : tie.Need-add-d Inv-loop μ-loop
 add-d c = omega arith
@@ -90,9 +90,9 @@ store-row-spec =
     mul-w
     shared-slice-read-w
     cast-w
+    add-entry
     mul-entry
     shared-slice-read-entry
-    add-entry
     mul-entry-2
     shared-slice-read-entry-2
     entry-requires

@@ -4,7 +4,7 @@ use mathlib.Core.Path.{refl, sym}
 use Prim.Native.Nat.{ℕ, _+_, _-_, _*_, _%_, _<_}
 use native.Mathlib.Omega.{arith}
 use lib.ListN.{length}
-use Rattle.folder.proofs.Spans.{Counted, counted-none, counted-small, counted-plain, counted-power, counted-all, narrow, ready-few, span-rising, span-small, span-power, listed, listed-length, node-start, node-group, step-length, group-length}
+use Rattle.folder.proofs.Spans.{Counted, counted-none, counted-small, counted-plain, counted-power, counted-all, narrow, ready-few, span-falling, span-small, span-power, listed, listed-length, node-start, node-group, step-length, group-length}
 use borrow.Fn.Kinds.{In}
 use borrow.Fn.PlainCycle.{Measures, is, falls, and}
 use Rattle.folder.proofs.write.fold_length.Reads as fold-length
@@ -160,6 +160,11 @@ node-length-part-fold-length-end t c =
     let branch = c .before .if1 in
     omega (arith, node-group (S .pre .1) (branch .left) .within)
 
+node-length-add-fold-length-2 : (t : ℕ) → node-length-lts.Need-add-fold-length-2 (node-length-calls t) (node-length-at t) node-length.Post
+node-length-add-fold-length-2 t c =
+    let z = c .before .before .before .before .before .before .before .before .before .pre .1 in
+    omega (arith, ready-few z)
+
 node-length-mul-fold-length : (t : ℕ) → node-length-lts.Need-mul-fold-length (node-length-calls t) (node-length-at t) node-length.Post
 node-length-mul-fold-length t c =
     let z = c .before .before .before .before .before .before .before .before .before .pre .1 in
@@ -169,12 +174,6 @@ node-length-shared-slice-read-fold-length : (t : ℕ) → node-length-lts.Need-s
 node-length-shared-slice-read-fold-length t c =
     let z = c .before .before .before .before .before .before .before .before .before .before .pre .1 in
     omega (arith, ready-few z)
-
-node-length-add-fold-length-2 : (t : ℕ) → node-length-lts.Need-add-fold-length-2 (node-length-calls t) (node-length-at t) node-length.Post
-node-length-add-fold-length-2 t c =
-    let S = c .before .before .before .before .before .before .before .before .before .before in
-    let branch = c .before .before .before .if1 in
-    omega (arith, node-group (S .pre .1) (branch .left) .inside .total)
 
 node-length-fold-length-requires : (t : ℕ) → node-length-lts.Need-fold-length-requires (node-length-calls t) (node-length-at t) node-length.Post
 node-length-fold-length-requires t c κs =
@@ -211,7 +210,7 @@ span-length-look-requires : (t : ℕ) → span-length-lts.Need-look-requires (sp
 span-length-look-requires t c κs =
     let S = c .before .before .before .before .before .before in
     let test = c .loop-test in
-    (span-rising (S .pre .1), test .taken)
+    (span-falling (S .pre .1), test .taken)
 
 span-length-node-length-requires : (t : ℕ) → span-length-lts.Need-node-length-requires (span-length-calls t) (span-length-at t) span-length.Post span-length-Inv-loop span-length-μ-loop
 span-length-node-length-requires t c κs =
@@ -366,9 +365,9 @@ pub +fold-length+node-length+span-length-spec : {M : Type 1} → statement M
     (node-length-sub-fold-length t)
     (node-length-part-fold-length-start t)
     (node-length-part-fold-length-end t)
+    (node-length-add-fold-length-2 t)
     (node-length-mul-fold-length t)
     (node-length-shared-slice-read-fold-length t)
-    (node-length-add-fold-length-2 t)
     (node-length-fold-length-requires t)
     (node-length-add-result t)
     (node-length-returns-2 t))

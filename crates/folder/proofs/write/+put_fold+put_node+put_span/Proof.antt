@@ -4,7 +4,7 @@ use mathlib.Core.Path.{refl, sym}
 use Prim.Native.Nat.{ℕ, _+_, _-_, _*_, _<_}
 use native.Mathlib.Omega.{arith}
 use lib.ListN.{length, length-set}
-use Rattle.folder.proofs.Spans.{ready-few, span-rising, span-power, node-start, node-group}
+use Rattle.folder.proofs.Spans.{ready-few, span-falling, span-power, node-start, node-group}
 use Rattle.folder.proofs.Writings.{Putting, putting-none, putting-plain, putting-power, putting-all, plain-room, open-room, body-room, close-room, fold-room, fold-written, node-room, step-written, group-room, close-place, close-within, group-kept, group-written}
 use borrow.Fn.Kinds.{In}
 use borrow.Fn.PlainCycle.{Measures, is, falls, and}
@@ -198,6 +198,11 @@ put-node-part-put-fold-end t c =
     let branch = c .before .if1 in
     omega (arith, node-group (S .pre .1 .ready) (branch .left) .within)
 
+put-node-add-put-fold-2 : (t : ℕ) → put-node-lts.Need-add-put-fold-2 (put-node-calls t) (put-node-at t) put-node.Post
+put-node-add-put-fold-2 t c =
+    let z = c .before .before .before .before .before .before .before .before .before .before .before .before .pre .1 .ready in
+    omega (arith, ready-few z)
+
 put-node-mul-put-fold : (t : ℕ) → put-node-lts.Need-mul-put-fold (put-node-calls t) (put-node-at t) put-node.Post
 put-node-mul-put-fold t c =
     let z = c .before .before .before .before .before .before .before .before .before .before .before .before .pre .1 .ready in
@@ -207,12 +212,6 @@ put-node-shared-slice-read-put-fold : (t : ℕ) → put-node-lts.Need-shared-sli
 put-node-shared-slice-read-put-fold t c =
     let z = c .before .before .before .before .before .before .before .before .before .before .before .before .before .pre .1 .ready in
     omega (arith, ready-few z)
-
-put-node-add-put-fold-2 : (t : ℕ) → put-node-lts.Need-add-put-fold-2 (put-node-calls t) (put-node-at t) put-node.Post
-put-node-add-put-fold-2 t c =
-    let S = c .before .before .before .before .before .before .before .before .before .before .before .before .before in
-    let branch = c .before .before .before .if1 in
-    omega (arith, node-group (S .pre .1 .ready) (branch .left) .inside .total)
 
 put-node-sub-put-fold-2 : (t : ℕ) → put-node-lts.Need-sub-put-fold-2 (put-node-calls t) (put-node-at t) put-node.Post
 put-node-sub-put-fold-2 t c =
@@ -291,7 +290,7 @@ put-span-look-requires : (t : ℕ) → put-span-lts.Need-look-requires (put-span
 put-span-look-requires t c κs =
     let S = c .before .before .before .before .before .before .before in
     let test = c .loop-test in
-    (span-rising (S .pre .1 .ready), test .taken)
+    (span-falling (S .pre .1 .ready), test .taken)
 
 put-span-put-node-requires : (t : ℕ) → put-span-lts.Need-put-node-requires (put-span-calls t) (put-span-at t) put-span.Post put-span-Inv-loop put-span-μ-loop
 put-span-put-node-requires t c κs =
@@ -465,9 +464,9 @@ pub +put-fold+put-node+put-span-spec : {M : Type 1} → statement M
     (put-node-sub-put-fold t)
     (put-node-part-put-fold-start t)
     (put-node-part-put-fold-end t)
+    (put-node-add-put-fold-2 t)
     (put-node-mul-put-fold t)
     (put-node-shared-slice-read-put-fold t)
-    (put-node-add-put-fold-2 t)
     (put-node-sub-put-fold-2 t)
     (put-node-part-put-fold-start-2 t)
     (put-node-part-put-fold-end-2 t)
