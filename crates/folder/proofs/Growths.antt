@@ -1,4 +1,4 @@
--- What a row starts from: the matches grown by one sibling, the keys reset, and the cost of one sibling by itself.
+-- What a row starts from: the matches grown by one sibling, and the cost of one sibling by itself.
 use mathlib.Core.Path.{_≡_, refl, sym, _∙_}
 use mathlib.Core.List.{List}
 use Prim.Native.Nat.{ℕ, _+_, _-_, _<_, _≤_}
@@ -15,7 +15,7 @@ use Rattle.optimum.proofs.Cut.{front-whole, back-back, siblings-back, siblings-
 use Rattle.optimum.proofs.Powers.{node-back, shift-grow}
 use Rattle.optimum.proofs.Cheapest.{best-cost-step, best-cost-group}
 use Rattle.folder.specs.Table.{Spelled, Numbered, Classed, cell, number}
-use Rattle.folder.specs.Rows.{Matched, Matches, Growing, Falling, Single, no-key}
+use Rattle.folder.specs.Rows.{Matched, Matches, Growing, Falling, Single}
 use Rattle.folder.proofs.Cells.{cell-in}
 use Rattle.folder.proofs.Tables.{number-first, number-last, falling-from, number-after-group, below-at}
 use Rattle.folder.proofs.Listings.{entry-more, entry-all, equal-kinds, kinds-equal, Sibling, is-step, is-group}
@@ -125,20 +125,6 @@ module _ (kinds : List ℕ) (i w : ℕ) (before after : List ℕ) (g : Grown kin
               let e : v ≡ w = omega (arith, siblings-back i t (r .plain) (omega arith)) in
               rw (e, getD-set-same after w 0 0 (omega (arith, g .long)))
               (matched-none A t r i (omega arith) w (omega arith) (λ a q. omega arith))
-
--- The keys up to cover c are reset.
-pub record Cleared (c : ℕ) (least : List ℕ) : Type 0 where
-  pub long : length least ≡ 1025
-  pub none : (k : ℕ) → k < c → getD least k 0 ≡ no-key
-  pub low : (k : ℕ) → getD least k 0 ≤ no-key
-
-pub cleared-more : (c : ℕ) (least : List ℕ) → c < 1025 → Cleared c least → Cleared (c + 1) (set least c no-key)
-cleared-more c least h d =
-    record {
-      long = simp length-set (d .long);
-      none = entry-more (λ k x. x ≡ no-key) least c no-key (omega (arith, d .long)) (d .none) refl;
-      low = entry-all (λ x. x ≤ no-key) least c no-key (omega (arith, d .long)) (d .low) (omega arith);
-    }
 
 -- The cost of sibling i by itself, by its first byte c and its label l.
 module _ (s : List ℕ) (i c l : ℕ) (x : Sibling (tree-of s) i c l) where

@@ -1,7 +1,7 @@
 -- Filling a level: what a row is solved from, what one more row enters, and the end of the last.
 use mathlib.Core.Path.{_≡_, refl, _∙_}
 use mathlib.Core.List.{List}
-use Prim.Native.Nat.{ℕ, zero, suc, _+_, _-_, _≤_}
+use Prim.Native.Nat.{ℕ, zero, suc, _+_, _-_, _/_, _%_, _<_, _≤_}
 use native.Mathlib.Omega.{arith}
 use lib.ListN.{length, getD, replicate}
 use Rattle.format.specs.Forest.{siblings, nodes}
@@ -9,8 +9,9 @@ use Rattle.format.specs.Tree.{tree-of}
 use Rattle.optimum.specs.Cheapest.{Run, back}
 use Rattle.optimum.proofs.Cut.{siblings-le-nodes, siblings-back}
 use Rattle.folder.specs.Table.{Entered, Below, Filled, Kept, KeptOthers, Placed, Numbered, Classed, at-most, prices-of, cells}
-use Rattle.folder.specs.Rows.{Falling, Stored, Single, Matches, Growing, RowReady, RowSolved, LevelReady, RowGround, ScratchReady}
+use Rattle.folder.specs.Rows.{Falling, Stored, Single, Matches, Growing, RowReady, RowSolved, KeysReady, LevelReady, RowGround}
 use Rattle.folder.proofs.Tables.{number-last, falling-numbered, stored-entered, stored-kept, entered-none}
+use Rattle.folder.proofs.Solving.{solved-entry}
 use Rattle.folder.proofs.Tables.{kept-others-none, kept-others-then, kept-of-others, below-others}
 
 -- No more siblings than nodes.
@@ -31,14 +32,13 @@ module _ {s : List ℕ} {limit : ℕ} {table prices costs choices offsets number
   pub row-ready : {own : ℕ} → Single s table costs numbers i own
       → Entered (at-most limit) (prices-of table prices) (getD numbers m 0) (tree-of s) (i + 1) costs choices
       → Below (at-most limit) (prices-of table prices) (getD numbers m 0) (tree-of s) costs choices
-      → RowReady costs numbers i m own limit prices matches
+      → RowReady costs choices numbers i m own limit prices matches
   row-ready single entered below =
       record {
         tree = tree-of s;
         allowed = at-most limit;
         prices-are = prices-of table prices;
         base = getD numbers m 0;
-        choices = choices;
         run = ready .spelled .run (at-most limit);
         count = ground .count;
         total = omega (arith, ready .total);
@@ -57,16 +57,17 @@ module _ {s : List ℕ} {limit : ℕ} {table prices costs choices offsets number
   module _ {own : ℕ} (single : Single s table costs numbers i own)
       (entered : Entered (at-most limit) (prices-of table prices) (getD numbers m 0) (tree-of s) (i + 1) costs choices)
       (below : Below (at-most limit) (prices-of table prices) (getD numbers m 0) (tree-of s) costs choices) where
-    pub row-entered : {rowcosts rowchoices costs′ choices′ : List ℕ} → RowSolved costs numbers i m own limit prices matches rowcosts rowchoices
-        → Stored numbers i (m - i) rowcosts costs costs′ → Stored numbers i (m - i) rowchoices choices choices′
+    pub row-entered : {keys costs′ choices′ : List ℕ} → RowSolved (row-ready single entered below) keys
+        → Stored numbers i (m - i) (λ d. getD keys d 0 / 2097152) costs costs′ → Stored numbers i (m - i) (λ d. getD keys d 0 % 2097152) choices choices′
         → Entered (at-most limit) (prices-of table prices) (getD numbers m 0) (tree-of s) i costs′ choices′
     unfolding row-ready
-    row-entered r c k =
+    row-entered {keys} r c k =
         let few = ground .some in
         stored-entered (at-most limit) (getD numbers m 0) (tree-of s) numbers i (m - i) (ready .spelled .run (at-most limit)) (omega (arith, ground .count))
-        (ground .numbered .numbered) (prices-of table prices) _ _ _ _ _ _ (r .solved (row-ready single entered below) (m - i) (omega arith)) c k entered
+        (ground .numbered .numbered) (prices-of table prices) _ _ _ _ _ _
+        (λ d p h. solved-entry (row-ready single entered below) keys r d p (omega arith)) c k entered
 
-  pub row-kept : {row before after : List ℕ} → Stored numbers i (m - i) row before after → KeptOthers (getD numbers m 0) (tree-of s) before after
+  pub row-kept : {row : ℕ → ℕ} {before after : List ℕ} → Stored numbers i (m - i) row before after → KeptOthers (getD numbers m 0) (tree-of s) before after
   row-kept {row} {before} {after} =
       let few = ground .some in
       stored-kept (at-most limit) (getD numbers m 0) (tree-of s) numbers i (m - i) (ready .spelled .run (at-most limit)) (omega (arith, ground .count))
@@ -78,15 +79,8 @@ zeros zero i = refl
 zeros (suc n) zero = refl
 zeros (suc n) (suc i) = zeros n i
 
-pub scratch-none : ScratchReady (replicate 1025 0) (replicate 1025 0) (replicate 1025 0) (replicate 1025 0)
-scratch-none =
-    record {
-      long-least = refl;
-      low = λ c. omega (arith, zeros 1025 c);
-      long-covers = refl;
-      long-costs = refl;
-      long-choices = refl;
-    }
+pub keys-none : KeysReady (replicate 1025 0)
+keys-none = record { long = refl; low = λ c. omega (arith, zeros 1025 c) }
 
 -- The loop from the last sibling to the first: the rows from sibling i on are entered, and the matches from there on known.
 pub record Descended (s : List ℕ) (b limit : ℕ) (table prices costs₀ choices₀ : List ℕ) (i : ℕ) (costs choices matches : List ℕ) : Type 0 where
@@ -146,16 +140,16 @@ module _ {s : List ℕ} {b limit : ℕ} {table prices costs₀ choices₀ : List
           matched = matched-again;
         }
 
-    pub row-asks : {offsets least covers rowcosts rowchoices : List ℕ} → (length offsets ≡ 1025) × Placed s offsets → length numbers ≡ 1025
-        → ScratchReady least covers rowcosts rowchoices → Below (at-most limit) (prices-of table prices) b (tree-of s) costs₀ choices₀
+    pub row-asks : {offsets keys : List ℕ} {w : ℕ} → (length offsets ≡ 1025) × Placed s offsets → length numbers ≡ 1025
+        → KeysReady keys → (0 < w) × (j + w ≤ m) → Below (at-most limit) (prices-of table prices) b (tree-of s) costs₀ choices₀
         → LevelReady s (getD numbers m 0) limit table prices costs choices
         × (RowGround s offsets numbers j m matches′
-        × (ScratchReady least covers rowcosts rowchoices
+        × ((KeysReady keys × (0 < w) × (j + w ≤ m))
         × (Entered (at-most limit) (prices-of table prices) (getD numbers m 0) (tree-of s) (j + 1) costs choices
         × Below (at-most limit) (prices-of table prices) (getD numbers m 0) (tree-of s) costs choices)))
-    row-asks placed long scratch below =
+    row-asks placed long keys width below =
         let kept = below-others _ _ _ run _ _ _ _ _ (d .kept-costs) (d .kept-choices) below in
-        (level-again, (row-ground (placed .0) (placed .1) long, (scratch, (rw (last, next) (d .entered), rw last kept))))
+        (level-again, (row-ground (placed .0) (placed .1) long, ((keys, width .0, width .1), (rw (last, next) (d .entered), rw last kept))))
 
     pub descended-more : {costs′ choices′ : List ℕ} → Entered (at-most limit) (prices-of table prices) (getD numbers m 0) (tree-of s) j costs′ choices′
         → KeptOthers (getD numbers m 0) (tree-of s) costs costs′ → KeptOthers (getD numbers m 0) (tree-of s) choices choices′

@@ -2,9 +2,10 @@
 pub mod Cells
 pub mod Tables
 pub mod Offers
-pub mod Searches
+pub mod Stretches
 pub mod Listings
 pub mod Growths
+pub mod Putting
 pub mod Solving
 pub mod Levels
 pub mod Recursion

@@ -1,364 +1,299 @@
--- Solving a row: what one more stretch does to the costs, the least keys and the covers.
-use mathlib.Core.Path.{_≡_, sym, ap, _∙_}
-use mathlib.Core.Logic.{_⊎_, inl, inr}
+-- Solving a row: the keys that it starts from, what one more solved stretch does to those of longer ones, and the end.
+use mathlib.Core.Path.{_≡_, refl, sym, ap, _∙_}
+use mathlib.Core.Logic.{_⊎_, inl, inr, ⊎-elim}
 use mathlib.Core.List.{List}
-use Prim.Native.Nat.{ℕ, zero, suc, _+_, _-_, _*_, _/_, _%_, _<_, _≤_}
-use native.Mathlib.Numerals.{add-one}
-use native.Mathlib.Decide.{decLt}
+use Prim.Native.Nat.{ℕ, suc, _+_, _-_, _*_, _/_, _%_, _<_, _≤_}
+use native.Mathlib.Nat.{mul-le-mul-right}
+use native.Mathlib.Decide.{decLt, decLe, ℕ-discrete}
 use native.Mathlib.Omega.{arith}
-use lib.ListN.{length, getD, set, length-set}
-use lib.Seq.{getD-set-same, getD-set-other}
+use lib.ListN.{length, getD}
 use Rattle.format.specs.Limits.{Prices, of-repeat}
-use Rattle.format.specs.Forest.{Forest, end, step, group, repeat, Plain, Allowed, siblings, nodes, cost}
-use Rattle.optimum.specs.Cheapest.{Run, front, back, Candidate, plain, power, Power, Spans, usual, rank, price, best-cost}
-use Rattle.optimum.proofs.Cut.{run-front, run-back, siblings-le-nodes, siblings-back, nodes-cut}
-use Rattle.optimum.proofs.Powers.{reach, power-front, power-of-front, spans-usual, spans-front}
-use Rattle.optimum.proofs.Rank.{rank-usual, rank-inj}
-use Rattle.optimum.proofs.Least.{price-piece, least-unique}
-use Rattle.optimum.proofs.Cheapest.{best-cost-run, best-cost-end, best-cost-least}
-use Rattle.folder.specs.Table.{Entry}
-use Rattle.folder.specs.Rows.{Falling, RowReady, RowSolved, ScratchReady, Reset, SearchSafe, Searching, Inserting, Offering}
-use Rattle.folder.specs.Rows.{Offer, Offered, Solved, Alone, Covers, BestKey, key, no-key}
+use Rattle.format.specs.Forest.{Forest, Allowed, siblings, nodes}
+use Rattle.optimum.specs.Cheapest.{Run, front, back, node, Candidate, power, Power, Least, usual, rank, best-cost}
+use Rattle.optimum.proofs.Cut.{back-back, run-back, siblings-back, siblings-le-nodes}
+use Rattle.optimum.proofs.Powers.{front-less, reach}
+use Rattle.optimum.proofs.Rank.{rank-usual}
+use Rattle.optimum.proofs.Least.{least-unique}
+use Rattle.folder.specs.Table.{Entry, stretch}
+use Rattle.folder.specs.Rows.{RowReady, Rowed, RowSolved, KeysReady, Advanced, Started, Settled, Pushed, push, pass, Widened, offer, too-wide, unlike}
+use Rattle.folder.specs.Rows.{Matched, BestKey, Keyed, Came, pair-key, offer-key, cost-at}
+use Rattle.folder.proofs.Offers.{near-power, power-near}
+use Rattle.folder.proofs.Stretches.{Modest, fitting, entry-best, best-entry, best-covers, best-low, cost-low, whole-price, whole-candidate}
+use Rattle.folder.proofs.Stretches.{first-candidate, first-price, first-key, best-is, keyed-best, best-keyed, best-one, keyed-plain}
 
--- The first of numbers that fall.
-pub falling-less : {numbers : List ℕ} {m room : ℕ} (k : ℕ) → k ≤ m → Falling numbers m room → Falling numbers k room
-falling-less k h r =
-    record {
-      short = omega (arith, r .short);
-      fall = λ i j l n. r .fall i j l (omega arith);
-      first = r .first;
-      fits = r .fits;
-    }
+-- A pair that may stand first, by its key.
+record Pair (A : Allowed) (P : Prices) (x : Forest) (k : ℕ) : Type 0 where
+  count : ℕ
+  width : ℕ
+  candidate : Candidate A x count width
+  is-key : k ≡ pair-key A P x count width
 
--- A run costs at most 65,535 for each node, where labels have prices of 16 bits.
-cost-most : (P : Prices) → ((l : ℕ) → P .of-step l < 65536) → ((l : ℕ) → P .of-group l < 65536) → (t : Forest) → Plain t
-    → cost P t ≤ 65535 * nodes t
-unfolding cost nodes
-cost-most P s g end p = omega arith
-cost-most P s g (step l f) p = omega (arith, s l, cost-most P s g f p)
-cost-most P s g (group l b f) p = omega (arith, g l, cost-most P s g b (p .0), cost-most P s g f (p .1))
-cost-most P s g (repeat h w b f) p = absurd p
+module _ {costs choices numbers : List ℕ} {i m own limit : ℕ} {prices same : List ℕ} (z : RowReady costs choices numbers i m own limit prices same) where
+  modest : Modest (z .allowed) (z .prices-are) (z .tree)
+  modest = record { run = z .run; few = z .total; step-low = z .step-low; group-low = z .group-low }
 
--- A run of few nodes at low prices.
-record Modest (A : Allowed) (P : Prices) (T : Forest) : Type 0 where
-  run : Run A T
-  few : nodes T ≤ 1024
-  step-low : (l : ℕ) → P .of-step l < 65536
-  group-low : (l : ℕ) → P .of-group l < 65536
+  from-here : i + siblings (back i (z .tree)) ≡ m
+  from-here = omega (arith, siblings-back i (z .tree) (z .run .plain) (omega (arith, z .some, z .count)), z .count)
 
-module _ {A : Allowed} {P : Prices} {T : Forest} (g : Modest A P T) where
-  narrow : siblings T ≤ 1024
-  narrow = omega (arith, siblings-le-nodes T (g .run .plain))
+  pub few : m ≤ 1024
+  few = omega (arith, siblings-le-nodes (z .tree) (z .run .plain), z .total, z .count)
 
-  -- So its costs are far below 32 bits.
-  cost-low : (d : ℕ) → best-cost A P (front d T) ≤ 67107840
-  cost-low d =
-      let r = run-front d (g .run) in
-      omega (arith, best-cost-run A P (front d T) r, cost-most P (g .step-low) (g .group-low) (front d T) (r .plain), nodes-cut d T)
+  -- The table's entries of the rows further on.
+  entered : (j n : ℕ) → i < j → 0 < n → j + n ≤ m
+      → Entry (z .allowed) (z .prices-are) (stretch (z .tree) j n) (cost-at costs numbers j (j + n)) (cost-at choices numbers j (j + n))
+  entered j n l p h =
+      rw (z .numbers-are .numbered j (omega (arith, z .count)), z .numbers-are .numbered (j + n) (omega (arith, z .count)))
+      (z .rows-below .entry j n (omega arith) p (omega (arith, z .count)))
 
-  -- The usual bases serve it.
-  fitting : (d : ℕ) → Spans A usual (front d T)
-  fitting d = spans-front d (g .run .plain) (spans-usual A T narrow)
+  -- The cost of what follows the first c of n siblings.
+  rest-cost : (c r n : ℕ) → 0 < c → 0 < r → c + r ≡ n → i + n ≤ m
+      → cost-at costs numbers (i + c) (i + n) ≡ best-cost (z .allowed) (z .prices-are) (front r (back (i + c) (z .tree)))
+  rest-cost c r n p q e h =
+      let f : i + c + r ≡ i + n = omega arith in
+      rw (← f) (entered (i + c) r (omega arith) q (omega arith) .costs)
 
-  -- The digits of a key are the cost and the packed pair, so the next stretch is solved by taking them apart.
-  best-entry : (d k : ℕ) → BestKey A P (front d T) k → Entry A P (front d T) (k / 2097152) (k % 2097152)
-  best-entry d k b =
-      let l = fitting d .count (b .count) (b .width) (b .least .candidate) in
-      let m = fitting d .width (b .count) (b .width) (b .least .candidate) in
-      let e = b .is-rank ∙ rank-usual (best-cost A P (front d T)) (b .count) (b .width) in
-      record { costs = omega arith; count = b .count; width = b .width; chosen = omega arith; least = b .least }
+  matched : (w : ℕ) → 0 < w → i + w ≤ m → Matched (back i (z .tree)) w (getD same w 0)
+  matched w p h = z .matches .matched w p (omega (arith, from-here))
 
-  solved-more : (e d k : ℕ) (costs choices : List ℕ) → suc e ≡ d → d < length costs → d < length choices
-      → BestKey A P (front d T) k → Solved A P T e costs choices
-      → Solved A P T d (set costs d (k / 2097152)) (set choices d (k % 2097152))
-  solved-more e d k costs choices z lc lk b s = record { entry = λ c p q. by-place c p q (decLt c d) }
-    where
-      by-place : (c : ℕ) → 0 < c → c ≤ d → Dec (c < d)
-          → Entry A P (front c T) (getD (set costs d (k / 2097152)) c 0) (getD (set choices d (k % 2097152)) c 0)
-      by-place c p q (yes l) =
-          rw (getD-set-other costs d c (k / 2097152) 0 (λ x. omega arith), getD-set-other choices d c (k % 2097152) 0 (λ x. omega arith))
-          (s .entry c p (omega arith))
-      by-place c p q (no n) =
-          let x : c ≡ d = omega arith in
-          rw (x, getD-set-same costs d (k / 2097152) 0 lc, getD-set-same choices d (k % 2097152) 0 lk) (best-entry d k b)
+  -- No match reaches past the end.
+  pub match-low : (w : ℕ) → 0 < w → i + w ≤ m → i + w + getD same w 0 ≤ m
+  match-low w p h = let d = matched w p h in omega (arith, from-here)
 
-  -- No key of a stretch is as high as the mark for none.
-  best-low : (d h w : ℕ) → Candidate A (front d T) h w → rank usual (best-cost A P (front d T)) h w < no-key
-  best-low d h w x =
-      omega (arith, cost-low d, rank-usual (best-cost A P (front d T)) h w, fitting d .count h w x, fitting d .width h w x)
+  -- What the row starts from: where its siblings are those of sibling i + w, the key is that row's.
+  module _ (w : ℕ) (pos : 0 < w) (near : i + w ≤ m) (keys : List ℕ) (s : Started costs choices numbers i (m - i) own w (getD same w 0) keys) where
+    started-one : BestKey (z .allowed) (z .prices-are) (stretch (z .tree) i 1) (getD keys 1 0)
+    started-one = best-one modest i (getD keys 1 0) (omega (arith, z .some, z .count)) (s .one ∙ rw (z .own-cost))
 
-  -- What a repeat that covers a whole stretch costs there.
-  whole-price : (c h w : ℕ) → Power A T h w → h * w ≡ c
-      → price P (best-cost A P) (front c T) h w ≡ of-repeat P h + best-cost A P (front w T)
-  unfolding front
-  whole-price c h w p e = omega (arith, price-piece P (best-cost A P) T h w 0 c p (omega arith), best-cost-end A P)
+    started-final : (n : ℕ) → 0 < n → n ≤ getD same w 0 → BestKey (z .allowed) (z .prices-are) (stretch (z .tree) i n) (getD keys n 0)
+    started-final n p h = by-place (decLt 1 n)
+      where
+        same-stretch : stretch (z .tree) i n ≡ stretch (z .tree) (i + w) n
+        same-stretch =
+            let d = matched w pos near in
+            front-less n (getD same w 0 - n) (getD same w 0) (back i (z .tree)) (back w (back i (z .tree))) (omega arith) (d .shift)
+            ∙ ap (front n) (back-back i w (i + w) (z .tree) refl)
 
-  whole-power : (c h w : ℕ) → h * w ≡ c → 0 < c → Candidate A (front c T) h w → Power A T h w
-  whole-power c h w e pos plain = absurd (omega arith)
-  whole-power c h w e pos (power p) = power-of-front c (g .run .plain) p
+        by-place : Dec (1 < n) → BestKey (z .allowed) (z .prices-are) (stretch (z .tree) i n) (getD keys n 0)
+        by-place (yes l) =
+            let d = matched w pos near in
+            rw (s .copied n l h, same-stretch)
+            (entry-best _ _ _ _ _ (entered (i + w) n (omega arith) p (omega (arith, d .bound, from-here))))
+        by-place (no l) = let e : n ≡ 1 = omega arith in rw e started-one
 
-  -- Where a stretch is cheapest as one repeat, the least key offered at its cover is the stretch's own.
-  alone-key : (e c : ℕ) (least : List ℕ) → c ≤ siblings T → c ≤ suc e → Offered A P T e least → (a : Alone A P T c)
-      → getD least c 0 ≡ rank usual (best-cost A P (front c T)) (a .count) (a .width)
-  alone-key e c least fits near o a =
-      let p = whole-power c (a .count) (a .width) (a .covers) (a .some) (a .least .candidate) in
-      let r = reach p in
-      by-offer p (o .below c (a .count) (a .width) p (a .covers) (omega arith)) (o .one-of c fits)
-    where
-      dear : Power A T (a .count) (a .width) → best-cost A P (front c T) ≡ of-repeat P (a .count) + best-cost A P (front (a .width) T)
-      dear p =
-          best-cost-least A P usual (front c T) (a .count) (a .width) (run-front c (g .run)) (fitting c) (a .least)
-          ∙ whole-price c (a .count) (a .width) p (a .covers)
+    started-keyed : (n : ℕ) → 0 < n → i + n ≤ m → Keyed (z .allowed) (z .prices-are) (z .tree) i 0 n (getD keys n 0)
+    started-keyed n p h = by-place (decLt 1 n) (decLt (getD same w 0) n)
+      where
+        by-place : Dec (1 < n) → Dec (getD same w 0 < n) → Keyed (z .allowed) (z .prices-are) (z .tree) i 0 n (getD keys n 0)
+        by-place d (no l) = best-keyed modest i 0 n (getD keys n 0) (started-final n p (omega arith))
+        by-place (no d) (yes l) = let e : n ≡ 1 = omega arith in rw e (best-keyed modest i 0 1 (getD keys 1 0) started-one)
+        by-place (yes d) (yes l) =
+            keyed-plain modest i (n - 1) n (getD keys n 0) (omega arith)
+            (s .plain n d l (omega arith) ∙ rw (z .own-cost, rest-cost 1 (n - 1) n (omega arith) (omega arith) (omega arith) h))
 
-      by-offer : Power A T (a .count) (a .width) → getD least c 0 ≤ key A P T (a .count) (a .width)
-          → (getD least c 0 ≡ no-key) ⊎ Offer A P T e c (getD least c 0)
-          → getD least c 0 ≡ rank usual (best-cost A P (front c T)) (a .count) (a .width)
-      by-offer p l (inl x) =
-          let m = rw (← dear p) at l in
-          absurd (omega (arith, best-low c (a .count) (a .width) (a .least .candidate)))
-      by-offer p l (inr x) =
-          let cheaper = a .least .least (x .count) (x .width) (power (power-front c (omega (arith, x .covers)) (x .power))) in
-          let n = rw (whole-price c (a .count) (a .width) p (a .covers), whole-price c (x .count) (x .width) (x .power) (x .covers)) at cheaper in
-          rw (dear p) (omega (arith, x .is-key))
+    pub started-rowed : Rowed z (getD same w 0) 0 keys
+    started-rowed = record { final = started-final; keyed = started-keyed }
 
-  -- So a stretch of d siblings is cheapest as one repeat exactly where its key is the least one offered at d.
-  alone : (e d k : ℕ) (least : List ℕ) → 0 < d → d ≤ siblings T → Offered A P T e least → BestKey A P (front d T) k
-      → k ≡ getD least d 0 → Alone A P T d
-  alone e d k least pos fits o b same = by-offer (o .one-of d fits)
-    where
-      by-offer : (getD least d 0 ≡ no-key) ⊎ Offer A P T e d (getD least d 0) → Alone A P T d
-      by-offer (inl x) = absurd (omega (arith, best-low d (b .count) (b .width) (b .least .candidate), b .is-rank))
-      by-offer (inr x) =
-          let s = spans-usual A T narrow in
-          let c = b .least .candidate in
-          let y =
-          rank-inj usual (best-cost A P (front d T)) (b .count) (b .width) (of-repeat P (x .count) + best-cost A P (front (x .width) T)) (x .count) (x .width)
-          (fitting d .count _ _ c) (fitting d .width _ _ c) (s .count _ _ (power (x .power))) (s .width _ _ (power (x .power)))
-          (sym (b .is-rank) ∙ same ∙ x .is-key) in
-          record { count = b .count; width = b .width; covers = rw (y .1, y .2) (x .covers); some = pos; least = b .least }
+  -- One solved stretch more, of d siblings.
+  module _ (span e d : ℕ) (before after : List ℕ) (next : suc e ≡ d) (more : i + d ≤ m) (r : Rowed z span e before)
+      (s : Settled costs numbers i (m - i) limit prices d (getD same d 0) span before after) where
+    abbrev k : ℕ
+    k = getD before d 0
 
-  not-alone : (e d k : ℕ) (least : List ℕ) → suc e ≡ d → d ≤ siblings T → Offered A P T e least → BestKey A P (front d T) k
-      → (k ≡ getD least d 0 → ⊥) → Alone A P T d → ⊥
-  not-alone e d k least z fits o b other a =
-      let y = least-unique A P usual (best-cost A P) (front d T) (b .count) (b .width) (a .count) (a .width) (fitting d) (b .least) (a .least) in
-      other (b .is-rank ∙ rw (y .0, y .1) (sym (alone-key e d least fits (omega arith) o a)))
+    best : BestKey (z .allowed) (z .prices-are) (stretch (z .tree) i d) (getD before d 0)
+    best = keyed-best modest i e d k (omega arith) (omega arith) (omega (arith, z .count)) (r .keyed d (omega arith) more)
 
-  -- The covers pass to d where that stretch is not among them, and stay as they are where the repeats of width d are offered.
-  covers-kept : (e d : ℕ) (least covers : List ℕ) (n : ℕ) → suc e ≡ d → (Alone A P T d → ⊥) → Covers A P T e least covers n
-      → Covers A P T d least covers n
-  covers-kept e d least covers n z no-more v =
-      record {
-        few = omega (arith, v .few);
-        listed = v .listed;
-        within = λ k l. omega (arith, v .within k l);
-        all = λ c l a. by-place c l a (decLt c d);
-        rising = v .rising;
-      }
-    where
-      by-place : (c : ℕ) → c ≤ d → Alone A P T c → Dec (c < d) → (k : ℕ) × (k < n) × (getD covers k 0 ≡ c)
-      by-place c l a (yes m) = v .all c (omega arith) a
-      by-place c l a (no m) = let x : c ≡ d = omega arith in absurd (no-more (rw x at a))
+    covers : getD before d 0 / 1024 % 2048 * (getD before d 0 % 1024) ≡ best .count * best .width
+    covers = best-covers modest i d k best
 
-  covers-offered : (e d : ℕ) (least least′ covers : List ℕ) (n : ℕ) → suc e ≡ d → d ≤ siblings T → Offered A P T e least
-      → Offered A P T d least′ → Covers A P T d least covers n → Covers A P T d least′ covers n
-  covers-offered e d least least′ covers n z fits o o′ v =
-      record {
-        few = v .few;
-        listed = v .listed;
-        within = v .within;
-        all = v .all;
-        rising = λ j k l m. rw (same j (omega arith), same k m) (v .rising j k l m);
-      }
-    where
-      same : (k : ℕ) → k < n → getD least′ (getD covers k 0) 0 ≡ getD least (getD covers k 0) 0
-      same k l =
-          let w = v .within k l in
-          let a = v .listed k l in
-          alone-key d (getD covers k 0) least′ (omega arith) (omega arith) o′ a
-          ∙ sym (alone-key e (getD covers k 0) least (omega arith) (omega arith) o a)
+    its-cost : getD before d 0 / 2097152 ≡ best-cost (z .allowed) (z .prices-are) (stretch (z .tree) i d)
+    its-cost = best-entry modest i d k best .costs
 
--- No repeat is wider than the limit.
-offered-kept : (A : Allowed) (P : Prices) (T : Forest) (e d : ℕ) (least : List ℕ) → suc e ≡ d → A .widest < d → Offered A P T e least
-    → Offered A P T d least
-offered-kept A P T e d least z wide o = record { below = below; one-of = λ c l. passed c (o .one-of c l) }
-  where
-    below : (c h w : ℕ) → Power A T h w → h * w ≡ c → w ≤ d → getD least c 0 ≤ key A P T h w
-    below c h w p q l = o .below c h w p q (omega (arith, p .repeats .within))
+    -- The key of a repeat of it.
+    key-is : (h : ℕ) → 2 ≤ h → h ≤ 1024
+        → offer-key prices (getD before d 0 / 2097152) d h
+        ≡ rank usual (of-repeat (z .prices-are) h + best-cost (z .allowed) (z .prices-are) (stretch (z .tree) i d)) h d
+    key-is h l l′ =
+        omega (
+          arith,
+          its-cost,
+          z .priced .price-of h l l′,
+          rank-usual (of-repeat (z .prices-are) h + best-cost (z .allowed) (z .prices-are) (stretch (z .tree) i d)) h d,
+        )
 
-    passed : (c : ℕ) → (getD least c 0 ≡ no-key) ⊎ Offer A P T e c (getD least c 0) → (getD least c 0 ≡ no-key) ⊎ Offer A P T d c (getD least c 0)
-    passed c (inl x) = inl x
-    passed c (inr x) =
-        inr (record {
-          count = x .count;
-          width = x .width;
-          power = x .power;
-          covers = x .covers;
-          narrow = omega (arith, x .narrow);
-          is-key = x .is-key;
-        })
+    -- The key of what is left put behind it.
+    module _ (n : ℕ) (some : d < n) (h : i + n ≤ m) where
+      follows : (g v : ℕ) → g * v ≡ d → Least (z .allowed) (z .prices-are) usual (best-cost (z .allowed) (z .prices-are)) (stretch (z .tree) i d) g v
+          → getD before d 0 + cost-at costs numbers (i + d) (i + n) * 2097152
+          ≡ rank usual (best-cost (z .allowed) (z .prices-are) (stretch (z .tree) i d) + best-cost (z .allowed) (z .prices-are) (front (n - d) (back (i + d) (z .tree)))) g v
+      follows g v f l =
+          rw (best-is modest i d g v k best l, rest-cost d (n - d) n (omega arith) (omega arith) (omega arith) h)
+          (first-key modest i (i + d) d (n - d) n g v refl (omega arith) (omega arith) f l)
 
--- What the loop of a row does after its search, which found the key k: the stretch is listed if it is cheapest as one repeat, and
--- the repeats of its width are offered if that is allowed.
-pub data Put (least : List ℕ) (k d n : ℕ) (covers : List ℕ) (n′ : ℕ) (covers′ : List ℕ) : Type 0 where
-  put : k ≡ getD least d 0 → n′ ≡ n + 1 → Inserting least d n covers covers′ → Put least k d n covers n′ covers′
-  passed : (k ≡ getD least d 0 → ⊥) → n′ ≡ n → covers′ ≡ covers → Put least k d n covers n′ covers′
+    -- No key rises.
+    push-lower : Pushed costs numbers i (m - i) d span (getD before d 0) before (s .between) → (n : ℕ) → getD (s .between) n 0 ≤ getD before n 0
+    push-lower (push from a b c f p) n = p .lower n
+    push-lower (pass f x) n = rw x (omega arith)
 
-put-length : {least : List ℕ} {k d n n′ : ℕ} {covers covers′ : List ℕ} → Put least k d n covers n′ covers′ → length covers′ ≡ length covers
-put-length (put same grown x) = x .same-length
-put-length (passed other grown kept) = ap length kept
+    widen-lower : Widened limit prices (getD before d 0 / 2097152) d (getD same d 0) span (s .between) after → (n : ℕ) → getD after n 0 ≤ getD (s .between) n 0
+    widen-lower (offer from a b c f p) n = p .lower n
+    widen-lower (too-wide f x) n = rw x (omega arith)
+    widen-lower (unlike f x) n = rw x (omega arith)
 
-pub data Widened (limit : ℕ) (prices : List ℕ) (cost d span : ℕ) (least least′ : List ℕ) : Type 0 where
-  offered : d ≤ limit → Offering prices cost d span least least′ → Widened limit prices cost d span least least′
-  too-wide : limit < d → least′ ≡ least → Widened limit prices cost d span least least′
+    lower : (n : ℕ) → getD after n 0 ≤ getD before n 0
+    lower n = omega (arith, push-lower (s .pushed) n, widen-lower (s .widened) n)
 
-widened-length : {limit : ℕ} {prices : List ℕ} {cost d span : ℕ} {least least′ : List ℕ} → Widened limit prices cost d span least least′
-    → length least′ ≡ length least
-widened-length (offered within x) = x .same-length
-widened-length (too-wide wide kept) = ap length kept
+    -- Those of up to `span` siblings stay.
+    push-same : (n : ℕ) → n ≤ span → Pushed costs numbers i (m - i) d span (getD before d 0) before (s .between) → getD (s .between) n 0 ≡ getD before n 0
+    push-same n l (push from a b c f p) = ⊎-elim (λ x. x) (λ x. absurd (omega arith)) (p .came n)
+    push-same n l (pass f x) = rw x
 
-widened-lower : {limit : ℕ} {prices : List ℕ} {cost d span : ℕ} {least least′ : List ℕ} → Widened limit prices cost d span least least′
-    → (c : ℕ) → getD least′ c 0 ≤ getD least c 0
-widened-lower (offered within x) c = x .lower c
-widened-lower (too-wide wide kept) c = rw kept (omega arith)
+    widen-same : (n : ℕ) → n ≤ span → Widened limit prices (getD before d 0 / 2097152) d (getD same d 0) span (s .between) after
+        → getD after n 0 ≡ getD (s .between) n 0
+    widen-same n l (offer from a b c f p) =
+        ⊎-elim (λ x. x) (λ x. absurd (omega (arith, mul-le-mul-right d (x .late), x .covers))) (p .came n)
+    widen-same n l (too-wide f x) = rw x
+    widen-same n l (unlike f x) = rw x
 
--- A row solved up to stretches of e siblings, whatever tree and prices it was asked for.
-pub record Rowed (costs numbers : List ℕ) (i m own limit : ℕ) (prices same : List ℕ) (e n : ℕ) (least covers rowcosts rowchoices : List ℕ) : Type 0 where
-  pub scratch : ScratchReady least covers rowcosts rowchoices
-  pub solved : (z : RowReady costs numbers i m own limit prices same) → Solved (z .allowed) (z .prices-are) (back i (z .tree)) e rowcosts rowchoices
-  pub offered : (z : RowReady costs numbers i m own limit prices same) → Offered (z .allowed) (z .prices-are) (back i (z .tree)) e least
-  pub listed : (z : RowReady costs numbers i m own limit prices same) → Covers (z .allowed) (z .prices-are) (back i (z .tree)) e least covers n
+    final : (n : ℕ) → 0 < n → n ≤ span → BestKey (z .allowed) (z .prices-are) (stretch (z .tree) i n) (getD after n 0)
+    final n p l = rw (widen-same n l (s .widened), push-same n l (s .pushed)) (r .final n p l)
 
-module _ {costs numbers : List ℕ} {i m own limit : ℕ} {prices same : List ℕ} where
-  modest : (z : RowReady costs numbers i m own limit prices same) → Modest (z .allowed) (z .prices-are) (back i (z .tree))
-  modest z =
-      record {
-        run = run-back i (z .run);
-        few = omega (arith, nodes-cut i (z .tree), z .total);
-        step-low = z .step-low;
-        group-low = z .group-low;
-      }
+    -- Longer ones: each key is still that of a candidate,
+    module _ (n : ℕ) (pos : 0 < n) (fits : i + n ≤ m) where
+      pair-before : Pair (z .allowed) (z .prices-are) (stretch (z .tree) i n) (getD before n 0)
+      pair-before =
+          let x = r .keyed n pos fits in
+          record { count = x .count; width = x .width; candidate = x .candidate; is-key = x .is-key }
 
-  from-here : (z : RowReady costs numbers i m own limit prices same) → i + siblings (back i (z .tree)) ≡ m
-  from-here z = omega (arith, siblings-back i (z .tree) (z .run .plain) (omega (arith, z .some, z .count)), z .count)
+      pair-between : Pushed costs numbers i (m - i) d span (getD before d 0) before (s .between) → Pair (z .allowed) (z .prices-are) (stretch (z .tree) i n) (getD (s .between) n 0)
+      pair-between (push from a b c f p) = ⊎-elim
+          (λ x. rw x pair-before)
+          (λ x.
+          let some : d < n = omega arith in
+          let g : best .count * best .width ≡ d = sym covers ∙ f in
+          rw (x .2)
+          (record {
+            count = best .count;
+            width = best .width;
+            candidate = first-candidate modest i (i + d) d (n - d) n (best .count) (best .width) refl (omega arith) (omega arith) g (best .least);
+            is-key = follows n some fits (best .count) (best .width) g (best .least)
+                ∙ rw (first-price modest i (i + d) d (n - d) n (best .count) (best .width) refl (omega arith) (omega arith) g (best .least));
+          }))
+          (p .came n)
+      pair-between (pass f x) = rw x pair-before
 
-  -- Before the first stretch nothing is offered or listed.
-  pub rowed-none : {least covers rowcosts rowchoices : List ℕ} → Reset (m - i) least → ScratchReady least covers rowcosts rowchoices
-      → Rowed costs numbers i m own limit prices same 0 0 least covers rowcosts rowchoices
-  rowed-none r s =
-      record {
-        scratch = s;
-        solved = λ z. record { entry = λ e p q. absurd (omega arith) };
-        offered = λ z. record {
-          below = λ c h w p q l. let y = reach p in absurd (omega arith);
-          one-of = λ c l. inl (r .none c (omega (arith, from-here z)));
-        };
-        listed = λ z. record {
-          few = omega arith;
-          listed = λ k l. absurd (omega arith);
-          within = λ k l. absurd (omega arith);
-          all = λ c l a. absurd (omega (arith, a .some));
-          rising = λ j k l p. absurd (omega arith);
-        };
-      }
-
-  module _ {e d n : ℕ} {least covers rowcosts rowchoices : List ℕ} (next : suc e ≡ d) (more : i + d ≤ m)
-      (r : Rowed costs numbers i m own limit prices same e n least covers rowcosts rowchoices) where
-    fits : (z : RowReady costs numbers i m own limit prices same) → d ≤ siblings (back i (z .tree))
-    fits z = omega (arith, from-here z)
-
-    -- At the next stretch the search is safe,
-    pub search-safe : RowReady costs numbers i m own limit prices same → SearchSafe d own least covers n
-    search-safe z =
-        let v = r .listed z in
-        record {
-          some = omega arith;
-          own-low = omega (arith, cost-low (modest z) 1, z .own-cost);
-          least-long = r .scratch .long-least;
-          covers-long = r .scratch .long-covers;
-          few = omega (arith, v .few);
-          narrow = omega (arith, fits z, narrow (modest z));
-          least-low = r .scratch .low;
-          covered = λ k l. (v .listed k l .some, omega (arith, v .within k l));
-        }
-
-    -- what matches is in reach,
-    pub match-low : RowReady costs numbers i m own limit prices same → getD same d 0 + d ≤ 1024
-    match-low z =
-        omega (arith, z .matches .matched d (omega arith) (fits z) .bound, narrow (modest z))
-
-    -- and what is found is the key of the stretch.
-    module _ {k : ℕ} (found : Searching costs numbers i d own least covers n k) where
-      best-key : (z : RowReady costs numbers i m own limit prices same) → BestKey (z .allowed) (z .prices-are) (front d (back i (z .tree))) k
-      best-key z =
-          let u = siblings-le-nodes (z .tree) (z .run .plain) in
-          found .finds (z .allowed) (z .prices-are) (z .base) (z .tree) (z .choices) e next (z .run) (omega (arith, z .total))
-          (λ j l. z .numbers-are .numbered j (omega (arith, z .count))) (omega (arith, z .count)) (z .own-cost) (z .rows-below) (r .offered z) (r .listed z)
-
-      pub found-low : RowReady costs numbers i m own limit prices same → k / 2097152 < 4294967296
-      found-low z =
-          let g = modest z in
-          omega (arith, best-entry g d k (best-key z) .costs, cost-low g d)
-
-      listed-now : {n′ : ℕ} {covers′ : List ℕ} → Put least k d n covers n′ covers′ → (z : RowReady costs numbers i m own limit prices same)
-          → Covers (z .allowed) (z .prices-are) (back i (z .tree)) d least covers′ n′
-      listed-now (put same grown h) z =
-          let x = alone (modest z) e d k least (omega arith) (fits z) (r .offered z) (best-key z) same in
-          rw (grown, add-one) (h .inserts (z .allowed) (z .prices-are) (back i (z .tree)) e next x (r .listed z))
-      listed-now (passed other grown kept) z =
-          let no-more = not-alone (modest z) e d k least next (fits z) (r .offered z) (best-key z) other in
-          rw (grown, kept) (covers-kept (modest z) e d least covers n next no-more (r .listed z))
-
-      offered-now : {least′ : List ℕ} → Widened limit prices (k / 2097152) d (getD same d 0) least least′
-          → (z : RowReady costs numbers i m own limit prices same) → Offered (z .allowed) (z .prices-are) (back i (z .tree)) d least′
-      offered-now (offered within h) z =
-          let g = modest z in
-          h .offers (z .allowed) (z .prices-are) (back i (z .tree)) e next (g .run) (narrow g) (z .priced)
-          (best-entry g d k (best-key z) .costs) (z .matches .matched d (omega arith) (fits z)) (omega (arith, z .limited)) (r .offered z)
-      offered-now (too-wide wide kept) z = rw kept (offered-kept _ _ _ e d least next (omega (arith, z .limited)) (r .offered z))
-
-      scratch-now : {n′ : ℕ} {least′ covers′ : List ℕ} → Put least k d n covers n′ covers′
-          → Widened limit prices (k / 2097152) d (getD same d 0) least least′
-          → ScratchReady least′ covers′ (set rowcosts d (k / 2097152)) (set rowchoices d (k % 2097152))
-      scratch-now p w =
+      pair-after : Widened limit prices (getD before d 0 / 2097152) d (getD same d 0) span (s .between) after → Pair (z .allowed) (z .prices-are) (stretch (z .tree) i n) (getD after n 0)
+      pair-after (offer from a b c f p) = ⊎-elim
+          (λ x. rw x (pair-between (s .pushed)))
+          (λ (x : Came prices (getD before d 0 / 2097152) d (getD same d 0) from n (getD after n 0)).
+          let q = near-power (x .count) d (getD same d 0) (z-run) (omega arith) (omega (arith, z .limited)) (matched d (omega arith) more) (omega (arith, x .late)) (x .near) in
+          let y = reach q in
           record {
-            long-least = widened-length w ∙ r .scratch .long-least;
-            low = λ c. omega (arith, widened-lower w c, r .scratch .low c);
-            long-covers = put-length p ∙ r .scratch .long-covers;
-            long-costs = length-set rowcosts d (k / 2097152) ∙ r .scratch .long-costs;
-            long-choices = length-set rowchoices d (k % 2097152) ∙ r .scratch .long-choices;
+            count = x .count;
+            width = d;
+            candidate = whole-candidate modest i n (x .count) d q (omega (arith, x .covers));
+            is-key = x .is-key ∙ key-is (x .count) (omega (arith, x .late)) (omega (arith, few, x .covers))
+                ∙ rw (whole-price modest i n (x .count) d q (x .covers));
+          })
+          (p .came n)
+        where
+          z-run : Run (z .allowed) (back i (z .tree))
+          z-run = run-back i (z .run)
+      pair-after (too-wide f x) = rw x (pair-between (s .pushed))
+      pair-after (unlike f x) = rw x (pair-between (s .pushed))
+
+      -- and bounded by those that came with d.
+      module _ (far : span < n) where
+        whole-now : (h w : ℕ) → Power (z .allowed) (back i (z .tree)) h w → h * w ≡ n → w ≡ d
+            → Widened limit prices (getD before d 0 / 2097152) d (getD same d 0) span (s .between) after
+            → getD after n 0 ≤ rank usual (of-repeat (z .prices-are) h + best-cost (z .allowed) (z .prices-are) (stretch (z .tree) i d)) h d
+        whole-now h w q f x (offer from a b c l p) =
+            let y = reach q in
+            let q′ = rw x at q in
+            let twice = q .repeats .twice in
+            let late : from ≤ h = elim (decLt h from) [ yes u ↦ absurd (omega (arith, c h twice u, rw x at f)) | no u ↦ omega arith ] in
+            let v = p .offered h late (power-near h d (getD same d 0) (run-back i (z .run)) (matched d (omega arith) more) q′) in
+            omega (arith, rw (rw x at f) at v, key-is h twice (omega (arith, few)))
+        whole-now h w q f x (too-wide l y) = absurd (omega (arith, q .repeats .within, z .limited))
+        whole-now h w q f x (unlike l y) =
+            let v = power-near h d (getD same d 0) (run-back i (z .run)) (matched d (omega arith) more) (rw x at q) in
+            let u : 1 ≤ h - 1 = omega (arith, q .repeats .twice) in
+            absurd (omega (arith, mul-le-mul-right d u))
+
+        first-now : (g v : ℕ) → d < n → g * v ≡ d → Least (z .allowed) (z .prices-are) usual (best-cost (z .allowed) (z .prices-are)) (stretch (z .tree) i d) g v
+            → Pushed costs numbers i (m - i) d span (getD before d 0) before (s .between)
+            → getD after n 0 ≤ rank usual (best-cost (z .allowed) (z .prices-are) (stretch (z .tree) i d) + best-cost (z .allowed) (z .prices-are) (front (n - d) (back (i + d) (z .tree)))) g v
+        first-now g v some f l (push from a b c u p) =
+            omega (arith, widen-lower (s .widened) n, p .pushed n (c n some far) (omega arith), follows n some fits g v f l)
+        first-now g v some f l (pass u x) =
+            let y = least-unique (z .allowed) (z .prices-are) usual (best-cost (z .allowed) (z .prices-are)) (stretch (z .tree) i d) (best .count) (best .width) g v (fitting modest i d) (best .least) l in
+            absurd (u (covers ∙ rw (y .0, y .1) f))
+
+      keyed : Dec (span < n) → Keyed (z .allowed) (z .prices-are) (z .tree) i d n (getD after n 0)
+      keyed (no l) = best-keyed modest i d n (getD after n 0) (final n pos (omega arith))
+      keyed (yes l) =
+          let x = r .keyed n pos fits in
+          let y = pair-after (s .widened) in
+          record {
+            count = y .count;
+            width = y .width;
+            candidate = y .candidate;
+            is-key = y .is-key;
+            plain = λ j c u v. omega (arith, lower n, x .plain j c u v);
+            whole = λ h w q f u. elim (ℕ-discrete w d) [
+              | yes v ↦ rw v (whole-now l h w q f v (s .widened))
+              | no v ↦ omega (arith, lower n, x .whole h w q f (omega arith))
+            ];
+            first = λ j c c′ h w u v p q f a b. elim (ℕ-discrete c d) [
+              | yes o ↦
+                  let j′ : j ≡ i + d = omega arith in
+                  let m′ : c′ ≡ n - d = omega arith in
+                  rw (o, j′, m′) (first-now l h w (omega arith) (f ∙ o) (rw o at b) (s .pushed))
+              | no o ↦ omega (arith, lower n, x .first j c c′ h w u v p q f (omega arith) b)
+            ];
           }
 
-      -- One stretch more.
-      pub rowed-more : RowReady costs numbers i m own limit prices same → {n′ : ℕ} {least′ covers′ : List ℕ} → Put least k d n covers n′ covers′
-          → Widened limit prices (k / 2097152) d (getD same d 0) least least′
-          → Rowed costs numbers i m own limit prices same d n′ least′ covers′ (set rowcosts d (k / 2097152)) (set rowchoices d (k % 2097152))
-      rowed-more z₀ p w =
-          let s = search-safe z₀ in
-          record {
-            scratch = scratch-now p w;
-            solved = λ z. solved-more (modest z) e d k rowcosts rowchoices next (omega (arith, r .scratch .long-costs))
-                (omega (arith, r .scratch .long-choices)) (best-key z) (r .solved z);
-            offered = offered-now w;
-            listed = λ z. covers-offered (modest z) e d least _ _ _ next (fits z) (r .offered z) (offered-now w z) (listed-now p z);
-          }
+    pub settled-rowed : Rowed z span d after
+    settled-rowed = record { final = final; keyed = λ n p h. keyed n p h (decLt span n) }
 
   -- All stretches done.
-  pub row-solved : {e n : ℕ} {least covers rowcosts rowchoices : List ℕ} → i + e ≡ m
-      → Rowed costs numbers i m own limit prices same e n least covers rowcosts rowchoices
-      → RowSolved costs numbers i m own limit prices same rowcosts rowchoices
-  row-solved {e} h r =
+  pub row-solved : (span : ℕ) (keys : List ℕ) → Rowed z span (m - i) keys → RowSolved z keys
+  row-solved span keys r =
       record {
-        long-costs = r .scratch .long-costs;
-        long-choices = r .scratch .long-choices;
-        solved = λ z n k. let x : e ≡ n = omega arith in rw x at (r .solved z);
+        solved = λ n p h. keyed-best modest i (m - i) n (getD keys n 0) p (omega arith) (omega (arith, z .count)) (r .keyed n p h);
       }
 
-  -- What it holds fits 32 bits.
-  pub row-low : {rowcosts rowchoices : List ℕ} → RowReady costs numbers i m own limit prices same
-      → RowSolved costs numbers i m own limit prices same rowcosts rowchoices → (n : ℕ) → i + n ≡ m → (d : ℕ) → 0 < d → d ≤ n
-      → (getD rowcosts d 0 < 4294967296) × (getD rowchoices d 0 < 4294967296)
-  row-low z r n h d p l =
-      let x = r .solved z n h .entry d p l in
-      let y = x .least .candidate in
-      let f = fitting (modest z) d in
-      (omega (arith, x .costs, cost-low (modest z) d), omega (arith, x .chosen, f .count _ _ y, f .width _ _ y))
+  -- What a solved row enters in the table, and that it fits.
+  module _ (keys : List ℕ) (r : RowSolved z keys) (n : ℕ) (pos : 0 < n) (fits : i + n ≤ m) where
+    pub solved-entry : Entry (z .allowed) (z .prices-are) (stretch (z .tree) i n) (getD keys n 0 / 2097152) (getD keys n 0 % 2097152)
+    solved-entry = best-entry modest i n (getD keys n 0) (r .solved n pos fits)
+
+    pub solved-low : getD keys n 0 < 9007199254740992
+    solved-low = best-low modest i n (getD keys n 0) (r .solved n pos fits)
+
+  pub own-low : own < 4294967296
+  own-low = omega (arith, z .own-cost, cost-low modest i 1)
+
+-- The loop of a row.
+module _ {costs numbers : List ℕ} {i m limit : ℕ} {prices same : List ℕ} {span : ℕ} {before : List ℕ} where
+  pub advanced-none : KeysReady before → Advanced costs numbers i m limit prices same span 0 before before
+  advanced-none k = record { ready = k; rowed = λ choices own z r. r }
+
+  pub advanced-more : (e d : ℕ) (now after : List ℕ) → suc e ≡ d → i + d ≤ m → Advanced costs numbers i m limit prices same span e before now → KeysReady after
+      → Settled costs numbers i (m - i) limit prices d (getD same d 0) span now after → Advanced costs numbers i m limit prices same span d before after
+  advanced-more e d now after next more a k s =
+      record { ready = k; rowed = λ choices own z r. settled-rowed z span e d now after next more (a .rowed choices own z r) s }
+
+-- The keys stay as they may be worked on.
+ready-lower : {before after : List ℕ} → KeysReady before → length after ≡ length before → ((c : ℕ) → getD after c 0 ≤ getD before c 0) → KeysReady after
+ready-lower k e l = record { long = e ∙ k .long; low = λ c. omega (arith, l c, k .low c) }
+
+pub pushed-ready : {costs numbers : List ℕ} {i n d span k : ℕ} {before after : List ℕ} → KeysReady before → Pushed costs numbers i n d span k before after
+    → KeysReady after
+pushed-ready r (push from a b c f p) = ready-lower r (p .same-length) (p .lower)
+pushed-ready r (pass f x) = rw x r
+
+pub widened-ready : {limit : ℕ} {prices : List ℕ} {cost d match span : ℕ} {before after : List ℕ} → KeysReady before
+    → Widened limit prices cost d match span before after → KeysReady after
+widened-ready r (offer from a b c f p) = ready-lower r (p .same-length) (p .lower)
+widened-ready r (too-wide f x) = rw x r
+widened-ready r (unlike f x) = rw x r

@@ -14,7 +14,7 @@ use Rattle.optimum.specs.Cheapest.{Run, front, back}
 use Rattle.optimum.proofs.Cut.{join-cut, front-add, front-whole, back-whole, back-back, siblings-piece, siblings-le-nodes, nodes-cut}
 use Rattle.optimum.proofs.Cut.{run-front, run-back, run-rest, run-body, run-after}
 use Rattle.folder.specs.Table.{Entry, Entered, Below, Filled, Kept, KeptOthers, cell, cells, number, stretch}
-use Rattle.folder.specs.Rows.{Falling, Stored, Solved}
+use Rattle.folder.specs.Rows.{Falling, Stored}
 use Rattle.folder.proofs.Cells.{cell-in, cell-same}
 
 -- Numbers that fall.
@@ -38,38 +38,43 @@ module _ (numbers : List ℕ) (m room : ℕ) (r : Falling numbers m room) where
         r .fits,
       )
 
+-- The first of numbers that fall.
+pub falling-less : {numbers : List ℕ} {m room : ℕ} (k : ℕ) → k ≤ m → Falling numbers m room → Falling numbers k room
+falling-less k h r =
+    record { short = omega (arith, r .short); fall = λ i j l n. r .fall i j l (omega arith); first = r .first; fits = r .fits }
+
 -- A row is stored entry by entry.
-pub stored-none : (numbers : List ℕ) (i : ℕ) (row before : List ℕ) → Stored numbers i 0 row before before
+pub stored-none : (numbers : List ℕ) (i : ℕ) (row : ℕ → ℕ) (before : List ℕ) → Stored numbers i 0 row before before
 stored-none numbers i row before =
     record { same-length = refl; entered = λ d h l. absurd (omega arith); others = λ x h. refl }
 
-pub stored-more : (numbers : List ℕ) (i m d : ℕ) (row before after : List ℕ) (k : ℕ) → m + 1 ≡ d → i + d ≤ k
+pub stored-more : (numbers : List ℕ) (i m d : ℕ) (row : ℕ → ℕ) (before after : List ℕ) (k : ℕ) → m + 1 ≡ d → i + d ≤ k
     → Falling numbers k (length before) → Stored numbers i m row before after
-    → Stored numbers i d row before (set after (cell (getD numbers (i + d) 0) (getD numbers i 0)) (getD row d 0))
+    → Stored numbers i d row before (set after (cell (getD numbers (i + d) 0) (getD numbers i 0)) (row d))
 stored-more numbers i m d row before after k e l r s =
     record { same-length = simp length-set (s .same-length); entered = entered; others = others }
   where
     at : ℕ → ℕ
     at c = cell (getD numbers (i + c) 0) (getD numbers i 0)
 
-    entered : (c : ℕ) → 0 < c → c ≤ d → getD (set after (at d) (getD row d 0)) (at c) 0 ≡ getD row c 0
+    entered : (c : ℕ) → 0 < c → c ≤ d → getD (set after (at d) (row d)) (at c) 0 ≡ row c
     entered c p q = by-place (decLt c d)
       where
-        by-place : Dec (c < d) → getD (set after (at d) (getD row d 0)) (at c) 0 ≡ getD row c 0
+        by-place : Dec (c < d) → getD (set after (at d) (row d)) (at c) 0 ≡ row c
         by-place (yes h) =
             let short = r .fall i (i + c) (omega arith) (omega arith) in
             let long = r .fall i (i + d) (omega arith) l in
-            getD-set-other after (at d) (at c) (getD row d 0) 0
+            getD-set-other after (at d) (at c) (row d) 0
             (λ z. omega (arith, r .fall (i + c) (i + d) (omega arith) l, cell-same _ _ _ _ short long z .0))
             ∙ s .entered c p (omega arith)
         by-place (no n) =
             let z : c ≡ d = omega arith in
             let room = falling-cell numbers k (length before) r i (i + d) (omega arith) l in
-            rw z (getD-set-same after (at d) (getD row d 0) 0 (omega (arith, s .same-length)))
+            rw z (getD-set-same after (at d) (row d) 0 (omega (arith, s .same-length)))
 
-    others : (x : ℕ) → ((c : ℕ) → 0 < c → c ≤ d → x ≡ at c → ⊥) → getD (set after (at d) (getD row d 0)) x 0 ≡ getD before x 0
+    others : (x : ℕ) → ((c : ℕ) → 0 < c → c ≤ d → x ≡ at c → ⊥) → getD (set after (at d) (row d)) x 0 ≡ getD before x 0
     others x f =
-        getD-set-other after (at d) x (getD row d 0) 0 (f d (omega arith) (omega arith))
+        getD-set-other after (at d) x (row d) 0 (f d (omega arith) (omega arith))
         ∙ s .others x (λ c p q z. f c p (omega arith) z)
 
 -- The numbers of a sequence's siblings: they fall, and stay within the interval of all its nodes.
@@ -112,18 +117,18 @@ falling-numbered A b t numbers room m numbered r few fits long narrow h =
 -- A row stored at sibling i of the sequence t: all stretches from there on.
 module _ (A : Allowed) (b : ℕ) (t : Forest) (numbers : List ℕ) (i n : ℕ) (r : Run A t) (whole : i + n ≡ siblings t)
     (numbered : (j : ℕ) → j ≤ siblings t → getD numbers j 0 ≡ number b t j) where
-  stored-at : (row before after : List ℕ) → Stored numbers i n row before after → (d : ℕ) → 0 < d → d ≤ n
-      → getD after (cell (number b t (i + d)) (number b t i)) 0 ≡ getD row d 0
+  stored-at : (row : ℕ → ℕ) (before after : List ℕ) → Stored numbers i n row before after → (d : ℕ) → 0 < d → d ≤ n
+      → getD after (cell (number b t (i + d)) (number b t i)) 0 ≡ row d
   stored-at row before after s d p q =
       rw (numbered i (omega arith), numbered (i + d) (omega arith)) at (s .entered d p q)
 
-  stored-other : (row before after : List ℕ) → Stored numbers i n row before after → (x : ℕ)
+  stored-other : (row : ℕ → ℕ) (before after : List ℕ) → Stored numbers i n row before after → (x : ℕ)
       → ((d : ℕ) → 0 < d → d ≤ n → x ≡ cell (number b t (i + d)) (number b t i) → ⊥) → getD after x 0 ≡ getD before x 0
   stored-other row before after s x f =
       s .others x (λ d p q z. f d p q (rw (numbered i (omega arith), numbered (i + d) (omega arith)) at z))
 
   -- It changes entries of the sequence alone.
-  pub stored-kept : (row before after : List ℕ) → Stored numbers i n row before after → KeptOthers b t before after
+  pub stored-kept : (row : ℕ → ℕ) (before after : List ℕ) → Stored numbers i n row before after → KeptOthers b t before after
   stored-kept row before after s =
       record {
         same-length = s .same-length;
@@ -131,7 +136,7 @@ module _ (A : Allowed) (b : ℕ) (t : Forest) (numbers : List ℕ) (i n : ℕ) (
       }
 
   -- The rows further on stay, since no two stretches share an entry.
-  stored-further : (row before after : List ℕ) → Stored numbers i n row before after → (j d : ℕ) → i < j → 0 < d → j + d ≤ siblings t
+  stored-further : (row : ℕ → ℕ) (before after : List ℕ) → Stored numbers i n row before after → (j d : ℕ) → i < j → 0 < d → j + d ≤ siblings t
       → getD after (cell (number b t (j + d)) (number b t j)) 0 ≡ getD before (cell (number b t (j + d)) (number b t j)) 0
   stored-further row before after s j d h p q =
       stored-other row before after s (cell (number b t (j + d)) (number b t j))
@@ -142,8 +147,8 @@ module _ (A : Allowed) (b : ℕ) (t : Forest) (numbers : List ℕ) (i n : ℕ) (
       ))
 
   -- Solved rows, with the rows further on entered before, enter one sibling more.
-  pub stored-entered : (P : Prices) (row-costs row-choices costs choices costs′ choices′ : List ℕ)
-      → Solved A P (back i t) n row-costs row-choices → Stored numbers i n row-costs costs costs′
+  pub stored-entered : (P : Prices) (row-costs row-choices : ℕ → ℕ) (costs choices costs′ choices′ : List ℕ)
+      → ((d : ℕ) → 0 < d → d ≤ n → Entry A P (stretch t i d) (row-costs d) (row-choices d)) → Stored numbers i n row-costs costs costs′
       → Stored numbers i n row-choices choices choices′ → Entered A P b t (i + 1) costs choices → Entered A P b t i costs′ choices′
   stored-entered P row-costs row-choices costs choices costs′ choices′ solved sc sk e =
       record { entry = λ j d h p q. by-place j d h p q (decLt i j) }
@@ -157,7 +162,7 @@ module _ (A : Allowed) (b : ℕ) (t : Forest) (numbers : List ℕ) (i n : ℕ) (
       by-place j d h p q (no m) =
           let z : j ≡ i = omega arith in
           rw (z, stored-at row-costs costs costs′ sc d p (omega arith), stored-at row-choices choices choices′ sk d p (omega arith))
-          (solved .entry d p (omega arith))
+          (solved d p (omega arith))
 
 -- Nothing is left to enter past the last sibling.
 pub entered-none : (A : Allowed) (P : Prices) (b : ℕ) (t : Forest) (costs choices : List ℕ) → Entered A P b t (siblings t) costs choices

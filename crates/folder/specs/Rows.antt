@@ -2,12 +2,12 @@
 use mathlib.Core.Path.{_≡_}
 use mathlib.Core.Logic.{_⊎_}
 use mathlib.Core.List.{List}
-use Prim.Native.Nat.{ℕ, suc, _+_, _-_, _*_, _<_, _≤_}
+use Prim.Native.Nat.{ℕ, _+_, _-_, _*_, _/_, _%_, _<_, _≤_}
 use lib.ListN.{length, getD}
 use Rattle.format.specs.Limits.{Prices, of-repeat}
 use Rattle.format.specs.Forest.{Forest, Allowed, siblings, nodes}
 use Rattle.format.specs.Tree.{tree-of}
-use Rattle.optimum.specs.Cheapest.{Run, front, back, node, rank, usual, Power, Least, best-cost}
+use Rattle.optimum.specs.Cheapest.{Run, front, back, node, rank, usual, price, Candidate, Power, Least, best-cost}
 use Rattle.folder.specs.Table.{Entry, Entered, Below, Filled, Spelled, Placed, Numbered, Classed, Prepared, cell, cells, number, stretch}
 
 -- The price of each count, as a list.
@@ -26,47 +26,13 @@ pub record Matched (T : Forest) (w k : ℕ) : Type 0 where
 pub record Matches (T : Forest) (same : List ℕ) : Type 0 where
   pub matched : (w : ℕ) → 0 < w → w ≤ siblings T → Matched T w (getD same w 0)
 
--- The key of a repeat by itself: its rank over just the stretch that it covers.
-abbrev pub key : Allowed → Prices → Forest → (h w : ℕ) → ℕ
-key A P T h w = rank usual (of-repeat P h + best-cost A P (front w T)) h w
+-- The key of a pair that may stand first in the stretch x: its rank at the least costs of the parts.
+abbrev pub pair-key : Allowed → Prices → Forest → (h w : ℕ) → ℕ
+pair-key A P x h w = rank usual (price P (best-cost A P) x h w) h w
 
--- Above every key.
-abbrev pub no-key : ℕ
-no-key = 4611686018427387904
-
--- A key that some repeat has.
-pub record Offer (A : Allowed) (P : Prices) (T : Forest) (d c k : ℕ) : Type 0 where
-  pub count : ℕ
-  pub width : ℕ
-  pub power : Power A T count width
-  pub covers : count * width ≡ c
-  pub narrow : width ≤ d
-  pub is-key : k ≡ key A P T count width
-
--- For each cover c the least key of the repeats of width up to d that cover c siblings.
-pub record Offered (A : Allowed) (P : Prices) (T : Forest) (d : ℕ) (least : List ℕ) : Type 0 where
-  pub below : (c h w : ℕ) → Power A T h w → h * w ≡ c → w ≤ d → getD least c 0 ≤ key A P T h w
-  pub one-of : (c : ℕ) → c ≤ siblings T → (getD least c 0 ≡ no-key) ⊎ Offer A P T d c (getD least c 0)
-
--- The stretches of up to d siblings are solved.
-pub record Solved (A : Allowed) (P : Prices) (T : Forest) (d : ℕ) (costs choices : List ℕ) : Type 0 where
-  pub entry : (e : ℕ) → 0 < e → e ≤ d → Entry A P (front e T) (getD costs e 0) (getD choices e 0)
-
--- The first c siblings are cheapest as one repeat.
-pub record Alone (A : Allowed) (P : Prices) (T : Forest) (c : ℕ) : Type 0 where
-  pub count : ℕ
-  pub width : ℕ
-  pub covers : count * width ≡ c
-  pub some : 0 < c
-  pub least : Least A P usual (best-cost A P) (front c T) count width
-
--- The list of all such c up to d, by rising least key.
-pub record Covers (A : Allowed) (P : Prices) (T : Forest) (d : ℕ) (least covers : List ℕ) (n : ℕ) : Type 0 where
-  pub few : n ≤ d
-  pub listed : (k : ℕ) → k < n → Alone A P T (getD covers k 0)
-  pub within : (k : ℕ) → k < n → getD covers k 0 ≤ d
-  pub all : (c : ℕ) → c ≤ d → Alone A P T c → (k : ℕ) × (k < n) × (getD covers k 0 ≡ c)
-  pub rising : (j k : ℕ) → j ≤ k → k < n → getD least (getD covers j 0) 0 ≤ getD least (getD covers k 0) 0
+-- No key is higher.
+abbrev pub top-key : ℕ
+top-key = 4611686018427387904
 
 -- A key of a stretch: that of its least pair.
 pub record BestKey (A : Allowed) (P : Prices) (t : Forest) (k : ℕ) : Type 0 where
@@ -83,50 +49,101 @@ pub record Falling (numbers : List ℕ) (m room : ℕ) : Type 0 where
   pub fits : cells (getD numbers 0 0) ≤ room
 
 -- A row is entered: the stretches of 1 to n siblings from sibling i on, and nothing else.
-pub record Stored (numbers : List ℕ) (i n : ℕ) (row before after : List ℕ) : Type 0 where
+pub record Stored (numbers : List ℕ) (i n : ℕ) (row : ℕ → ℕ) (before after : List ℕ) : Type 0 where
   pub same-length : length after ≡ length before
-  pub entered : (d : ℕ) → 0 < d → d ≤ n → getD after (cell (getD numbers (i + d) 0) (getD numbers i 0)) 0 ≡ getD row d 0
+  pub entered : (d : ℕ) → 0 < d → d ≤ n → getD after (cell (getD numbers (i + d) 0) (getD numbers i 0)) 0 ≡ row d
   pub others : (x : ℕ) → ((d : ℕ) → 0 < d → d ≤ n → x ≡ cell (getD numbers (i + d) 0) (getD numbers i 0) → ⊥) → getD after x 0 ≡ getD before x 0
 
--- What offering the repeats of width d does to the least keys.
-pub record Offering (prices : List ℕ) (cost d reach : ℕ) (before after : List ℕ) : Type 0 where
+-- The cost of the stretch from sibling i up to j, as the table has it.
+abbrev pub cost-at : (costs numbers : List ℕ) (i j : ℕ) → ℕ
+cost-at costs numbers i j = getD costs (cell (getD numbers j 0) (getD numbers i 0)) 0
+
+-- A key that one of the candidates of the n siblings from sibling i on has, and that is at most those of the plain node, of the
+-- repeats of width up to s that cover all, and of those that cover no more than s, are cheapest by themselves and leave something.
+pub record Keyed (A : Allowed) (P : Prices) (t : Forest) (i s n k : ℕ) : Type 0 where
+  pub count : ℕ
+  pub width : ℕ
+  pub candidate : Candidate A (stretch t i n) count width
+  pub is-key : k ≡ pair-key A P (stretch t i n) count width
+  pub plain : (j m : ℕ) → i + 1 ≡ j → 1 + m ≡ n → k ≤ rank usual (best-cost A P (node i t) + best-cost A P (front m (back j t))) 0 0
+  pub whole : (h w : ℕ) → Power A (back i t) h w → h * w ≡ n → w ≤ s → k ≤ rank usual (of-repeat P h + best-cost A P (front w (back i t))) h w
+  pub first : (j c m h w : ℕ) → i + c ≡ j → c + m ≡ n → 0 < c → 0 < m → h * w ≡ c → c ≤ s → Least A P usual (best-cost A P) (stretch t i c) h w
+      → k ≤ rank usual (best-cost A P (stretch t i c) + best-cost A P (front m (back j t))) h w
+
+-- The key of the repeat of count h and width d, whose body costs `cost`, by itself.
+abbrev pub offer-key : List ℕ → (cost d h : ℕ) → ℕ
+offer-key prices cost d h = (cost + getD prices h 0) * 2097152 + (h * 1024 + d)
+
+-- A key at cover c that one of the counts from `from` on gave.
+pub record Came (prices : List ℕ) (cost d span from c k : ℕ) : Type 0 where
+  pub count : ℕ
+  pub late : from ≤ count
+  pub near : (count - 1) * d ≤ span
+  pub covers : count * d ≡ c
+  pub is-key : k ≡ offer-key prices cost d count
+
+-- What offering the repeats of width d, from the count `from` on, does to the keys.
+pub record Offering (prices : List ℕ) (cost d span from : ℕ) (before after : List ℕ) : Type 0 where
   pub same-length : length after ≡ length before
   pub lower : (c : ℕ) → getD after c 0 ≤ getD before c 0
-  pub offers : (A : Allowed) (P : Prices) (T : Forest) (e : ℕ) → suc e ≡ d → Run A T → siblings T ≤ 1024 → Priced P prices
-      → cost ≡ best-cost A P (front d T) → Matched T d reach → d ≤ A .widest → Offered A P T e before → Offered A P T d after
+  pub offered : (g : ℕ) → from ≤ g → (g - 1) * d ≤ span → getD after (g * d) 0 ≤ offer-key prices cost d g
+  pub came : (c : ℕ) → (getD after c 0 ≡ getD before c 0) ⊎ Came prices cost d span from c (getD after c 0)
 
--- What putting a cover into the list does.
-pub record Inserting (least : List ℕ) (c n : ℕ) (before after : List ℕ) : Type 0 where
+-- What a repeat that covers c siblings at the key k does to the keys of `from` to n siblings, the rest's cost added.
+pub record Pushing (costs numbers : List ℕ) (i n c k from : ℕ) (before after : List ℕ) : Type 0 where
   pub same-length : length after ≡ length before
-  pub small : (k : ℕ) → k < suc n → getD after k 0 < 1025
-  pub inserts : (A : Allowed) (P : Prices) (T : Forest) (e : ℕ) → suc e ≡ c → Alone A P T c → Covers A P T e least before n → Covers A P T c least after (suc n)
+  pub lower : (d : ℕ) → getD after d 0 ≤ getD before d 0
+  pub pushed : (d : ℕ) → from ≤ d → d ≤ n → getD after d 0 ≤ k + cost-at costs numbers (i + c) (i + d) * 2097152
+  pub came : (d : ℕ) → (getD after d 0 ≡ getD before d 0)
+      ⊎ ((from ≤ d) × (d ≤ n) × (getD after d 0 ≡ k + cost-at costs numbers (i + c) (i + d) * 2097152))
 
--- Within what the search's sums and indices need.
-pub record SearchSafe (d own : ℕ) (least covers : List ℕ) (n : ℕ) : Type 0 where
-  pub some : 0 < d
-  pub own-low : own < 4294967296
-  pub least-long : length least ≡ 1025
-  pub covers-long : length covers ≡ 1025
-  pub few : n < d
-  pub narrow : d ≤ 1024
-  pub least-low : (c : ℕ) → getD least c 0 ≤ no-key
-  pub covered : (k : ℕ) → k < n → (0 < getD covers k 0) × (getD covers k 0 < d)
+-- The keys of a row before any repeat is offered: those of the row of sibling i + w as far as the two are the same, and those of
+-- the plain node with the rest.
+pub record Started (costs choices numbers : List ℕ) (i n own w span : ℕ) (keys : List ℕ) : Type 0 where
+  pub long : length keys ≡ 1025
+  pub low : (c : ℕ) → getD keys c 0 ≤ top-key
+  pub one : getD keys 1 0 ≡ own * 2097152
+  pub copied : (c : ℕ) → 1 < c → c ≤ span → getD keys c 0 ≡ cost-at costs numbers (i + w) (i + w + c) * 2097152 + cost-at choices numbers (i + w) (i + w + c)
+  pub plain : (c : ℕ) → 1 < c → span < c → c ≤ n → getD keys c 0 ≡ (own + cost-at costs numbers (i + 1) (i + c)) * 2097152
 
--- What the search finds: the key of the least pair, where the rows below are entered and the keys offered.
-pub record Searching (costs numbers : List ℕ) (i d own : ℕ) (least covers : List ℕ) (n r : ℕ) : Type 0 where
-  pub low : r ≤ (own + 4294967296) * 2097152
-  pub finds : (A : Allowed) (P : Prices) (b : ℕ) (t : Forest) (choices : List ℕ) (e : ℕ) → suc e ≡ d → Run A t → siblings t ≤ 1024
-      → ((j : ℕ) → j ≤ i + d → getD numbers j 0 ≡ number b t j) → i + d ≤ siblings t → own ≡ best-cost A P (node i t)
-      → Entered A P b t (i + 1) costs choices → Offered A P (back i t) e least → Covers A P (back i t) e least covers n
-      → BestKey A P (stretch t i d) r
+-- The first entries are copied, the others as they were.
+pub record Copied (costs choices numbers : List ℕ) (j n : ℕ) (before after : List ℕ) : Type 0 where
+  pub long : length after ≡ length before
+  pub low : (c : ℕ) → getD after c 0 ≤ top-key
+  pub copied : (c : ℕ) → 0 < c → c ≤ n → getD after c 0 ≡ cost-at costs numbers j (j + c) * 2097152 + cost-at choices numbers j (j + c)
+
+-- The entries from `from` to n are those of the plain node with the rest, the ones before as they were.
+pub record Plainly (costs numbers : List ℕ) (i n own from : ℕ) (before after : List ℕ) : Type 0 where
+  pub long : length after ≡ length before
+  pub low : (c : ℕ) → getD after c 0 ≤ top-key
+  pub kept : (c : ℕ) → c < from → getD after c 0 ≡ getD before c 0
+  pub plain : (c : ℕ) → from ≤ c → c ≤ n → getD after c 0 ≡ (own + cost-at costs numbers (i + 1) (i + c)) * 2097152
+
+-- What a solved stretch of d siblings does to the keys of longer ones. It is followed by what is left where its key is that of a
+-- repeat that covers it,
+pub data Pushed (costs numbers : List ℕ) (i n d span k : ℕ) (before after : List ℕ) : Type 0 where
+  push : (from : ℕ) → d < from → span < from → ((c : ℕ) → d < c → span < c → from ≤ c) → k / 1024 % 2048 * (k % 1024) ≡ d
+      → Pushing costs numbers i n d k from before after → Pushed costs numbers i n d span k before after
+  pass : (k / 1024 % 2048 * (k % 1024) ≡ d → ⊥) → after ≡ before → Pushed costs numbers i n d span k before after
+
+-- and repeated where that is allowed and siblings match.
+pub data Widened (limit : ℕ) (prices : List ℕ) (cost d match span : ℕ) (before after : List ℕ) : Type 0 where
+  offer : (from : ℕ) → 2 ≤ from → span < from * d → ((g : ℕ) → 2 ≤ g → g < from → g * d ≤ span) → d ≤ limit
+      → Offering prices cost d match from before after → Widened limit prices cost d match span before after
+  too-wide : limit < d → after ≡ before → Widened limit prices cost d match span before after
+  unlike : match < d → after ≡ before → Widened limit prices cost d match span before after
+
+pub record Settled (costs numbers : List ℕ) (i n limit : ℕ) (prices : List ℕ) (d match span : ℕ) (before after : List ℕ) : Type 0 where
+  pub between : List ℕ
+  pub pushed : Pushed costs numbers i n d span (getD before d 0) before between
+  pub widened : Widened limit prices (getD before d 0 / 2097152) d match span between after
 
 -- All that the search of the row of sibling i rests on.
-pub record RowReady (costs numbers : List ℕ) (i m own limit : ℕ) (prices same : List ℕ) : Type 0 where
+pub record RowReady (costs choices numbers : List ℕ) (i m own limit : ℕ) (prices same : List ℕ) : Type 0 where
   pub tree : Forest
   pub allowed : Allowed
   pub prices-are : Prices
   pub base : ℕ
-  pub choices : List ℕ
   pub run : Run allowed tree
   pub count : siblings tree ≡ m
   pub total : nodes tree ≤ 1024
@@ -140,12 +157,26 @@ pub record RowReady (costs numbers : List ℕ) (i m own limit : ℕ) (prices sam
   pub own-cost : own ≡ best-cost allowed prices-are (node i tree)
   pub matches : Matches (back i tree) same
 
--- The row is solved, whatever tree and prices it was asked for.
-pub record RowSolved (costs numbers : List ℕ) (i m own limit : ℕ) (prices same rowcosts rowchoices : List ℕ) : Type 0 where
-  pub long-costs : length rowcosts ≡ 1025
-  pub long-choices : length rowchoices ≡ 1025
-  pub solved : (z : RowReady costs numbers i m own limit prices same) (n : ℕ) → i + n ≡ m
-      → Solved (z .allowed) (z .prices-are) (back i (z .tree)) n rowcosts rowchoices
+-- The keys of a row after the stretches of up to s siblings: those of up to `span` siblings are final.
+pub record Rowed {costs choices numbers : List ℕ} {i m own limit : ℕ} {prices same : List ℕ} (z : RowReady costs choices numbers i m own limit prices same)
+    (span s : ℕ) (keys : List ℕ) : Type 0 where
+  pub final : (n : ℕ) → 0 < n → n ≤ span → BestKey (z .allowed) (z .prices-are) (stretch (z .tree) i n) (getD keys n 0)
+  pub keyed : (n : ℕ) → 0 < n → i + n ≤ m → Keyed (z .allowed) (z .prices-are) (z .tree) i s n (getD keys n 0)
+
+-- The keys as they may be worked on.
+pub record KeysReady (keys : List ℕ) : Type 0 where
+  pub long : length keys ≡ 1025
+  pub low : (c : ℕ) → getD keys c 0 ≤ top-key
+
+-- The stretches of up to s siblings have done their part, whatever tree and prices the row was asked for.
+pub record Advanced (costs numbers : List ℕ) (i m limit : ℕ) (prices same : List ℕ) (span s : ℕ) (before after : List ℕ) : Type 0 where
+  pub ready : KeysReady after
+  pub rowed : (choices : List ℕ) (own : ℕ) (z : RowReady costs choices numbers i m own limit prices same) → Rowed z span 0 before → Rowed z span s after
+
+-- The row is solved.
+pub record RowSolved {costs choices numbers : List ℕ} {i m own limit : ℕ} {prices same : List ℕ} (z : RowReady costs choices numbers i m own limit prices same)
+    (keys : List ℕ) : Type 0 where
+  pub solved : (n : ℕ) → 0 < n → i + n ≤ m → BestKey (z .allowed) (z .prices-are) (stretch (z .tree) i n) (getD keys n 0)
 
 -- All that filling the stretches of one sequence rests on.
 pub record LevelReady (s : List ℕ) (b limit : ℕ) (table prices costs choices : List ℕ) : Type 0 where
@@ -154,12 +185,6 @@ pub record LevelReady (s : List ℕ) (b limit : ℕ) (table prices costs choices
   pub cost-room : cells (b + nodes (tree-of s)) ≤ length costs
   pub choice-room : cells (b + nodes (tree-of s)) ≤ length choices
   pub prepared : Prepared table prices
-
--- The least keys before anything is offered.
-pub record Reset (n : ℕ) (least : List ℕ) : Type 0 where
-  pub long : length least ≡ 1025
-  pub none : (c : ℕ) → c ≤ n → getD least c 0 ≡ no-key
-  pub low : (c : ℕ) → getD least c 0 ≤ no-key
 
 -- What growing the matches from sibling i + 1 to sibling i does.
 pub record Growing (kinds : List ℕ) (i m : ℕ) (before after : List ℕ) : Type 0 where
@@ -182,11 +207,3 @@ pub record RowGround (s offsets numbers : List ℕ) (i m : ℕ) (matches : List 
   pub some : i < m
   pub long-matches : length matches ≡ 1025
   pub matched : Matches (back i (tree-of s)) matches
-
--- The arrays that a row is worked in.
-pub record ScratchReady (least covers rowcosts rowchoices : List ℕ) : Type 0 where
-  pub long-least : length least ≡ 1025
-  pub low : (c : ℕ) → getD least c 0 ≤ no-key
-  pub long-covers : length covers ≡ 1025
-  pub long-costs : length rowcosts ≡ 1025
-  pub long-choices : length rowchoices ≡ 1025

@@ -4,19 +4,19 @@ use crate::listing::count_nodes;
 use crate::listing::list_siblings;
 use crate::row::grow;
 use crate::row::own_cost;
-use crate::row::reset;
 use crate::row::solve;
+use crate::row::start_row;
 use crate::table::store_row;
 use format::Format;
 use reader::node_at;
-ghost use Prim.Native.Nat.{_+_};
+ghost use Prim.Native.Nat.{_+_, _<_, _≤_};
 ghost use lib.ListN.{getD};
 ghost use Rattle.format.specs.Forest.{nodes};
 ghost use Rattle.format.specs.Tree.{tree-of};
 ghost use Rattle.folder.specs.Table.{Below, Entered, Filled, Kept, KeptOthers, at-most, prices-of};
-ghost use Rattle.folder.specs.Rows.{LevelReady, RowGround, ScratchReady};
+ghost use Rattle.folder.specs.Rows.{KeysReady, LevelReady, RowGround};
 
-// Solves and enters the row of sibling i.
+// Solves and enters the row of sibling i, whose siblings are those of sibling i + w as far as they match.
 pub fn enter_row(
     s: &[u8],
     table: &[u16],
@@ -27,41 +27,25 @@ pub fn enter_row(
     i: usize,
     m: usize,
     matches: &[usize],
-    least: &mut [u64],
-    covers: &mut [usize],
-    row_costs: &mut [u64],
-    row_choices: &mut [u64],
+    w: usize,
+    keys: &mut [u64],
     costs: &mut [u32],
     choices: &mut [u32],
 )
     requires { ⌜ LevelReady (now s) (getD (now numbers) m 0) limit (now table) (now prices) (now costs) (now choices) ⌝ }
     requires { ⌜ RowGround (now s) (now offsets) (now numbers) i m (now matches) ⌝ }
-    requires { ⌜ ScratchReady (now least) (now covers) (now «row_costs») (now «row_choices») ⌝ }
+    requires { ⌜ KeysReady (now keys) × (0 < w) × (i + w ≤ m) ⌝ }
     requires { ⌜ Entered (at-most limit) (prices-of (now table) (now prices)) (getD (now numbers) m 0) (tree-of (now s)) (i + 1) (now costs) (now choices) ⌝ }
     requires { ⌜ Below (at-most limit) (prices-of (now table) (now prices)) (getD (now numbers) m 0) (tree-of (now s)) (now costs) (now choices) ⌝ }
-    ensures scratch { λ _. ⌜ ScratchReady (now (least .exit)) (now (covers .exit)) (now («row_costs» .exit)) (now («row_choices» .exit)) ⌝ }
+    ensures keys { λ _. ⌜ KeysReady (now (keys .exit)) ⌝ }
     ensures entered { λ _. ⌜ Entered (at-most limit) (prices-of (now (table .entry)) (now (prices .entry))) (getD (now (numbers .entry)) m 0) (tree-of (now (s .entry))) i (now (costs .exit)) (now (choices .exit)) ⌝ }
     ensures kept { λ _. ⌜ KeptOthers (getD (now (numbers .entry)) m 0) (tree-of (now (s .entry))) (now (costs .entry)) (now (costs .exit)) × KeptOthers (getD (now (numbers .entry)) m 0) (tree-of (now (s .entry))) (now (choices .entry)) (now (choices .exit)) ⌝ }
 {
-    let n = m - i;
-    reset(least, n);
+    let span = matches[w];
     let own = own_cost(s, table, costs, offsets, numbers, i);
-    solve(
-        costs,
-        numbers,
-        i,
-        m,
-        own,
-        limit,
-        prices,
-        matches,
-        least,
-        covers,
-        row_costs,
-        row_choices,
-    );
-    store_row(costs, numbers, i, n, row_costs);
-    store_row(choices, numbers, i, n, row_choices);
+    start_row(costs, choices, numbers, i, m, own, w, span, keys);
+    solve(costs, numbers, i, m, limit, prices, matches, span, keys);
+    store_row(costs, choices, numbers, i, m - i, keys);
 }
 
 // Enters all stretches of the sequence s, behind which b nodes of the run follow, from the last sibling to the first. The
@@ -84,16 +68,13 @@ pub fn enter_level(
     let mut numbers = [0usize; 1025];
     let mut kinds = [0usize; 1025];
     let mut matches = [0usize; 1025];
-    let mut least = [0u64; 1025];
-    let mut covers = [0usize; 1025];
-    let mut row_costs = [0u64; 1025];
-    let mut row_choices = [0u64; 1025];
+    let mut keys = [0u64; 1025];
     let m = list_siblings(s, b, &mut offsets, &mut numbers);
     classify(s, &offsets, m, &mut kinds);
     let mut i = m;
     while i > 0 {
         i -= 1;
-        grow(&kinds, i, m, &mut matches);
+        let w = grow(&kinds, i, m, &mut matches);
         enter_row(
             s,
             table,
@@ -104,10 +85,8 @@ pub fn enter_level(
             i,
             m,
             &matches,
-            &mut least,
-            &mut covers,
-            &mut row_costs,
-            &mut row_choices,
+            w,
+            &mut keys,
             costs,
             choices,
         );

@@ -1,9 +1,9 @@
 // The folder: the cheapest fold of a run under a width limit, ties by byte order. One table serves the whole tree; only lent
 // memory holds it.
+mod keys;
 mod level;
 mod listing;
 mod row;
-mod search;
 mod table;
 mod write;
 

@@ -1,48 +1,44 @@
-// One row of the table: all stretches that begin at one sibling.
-use crate::search::best;
-use crate::search::insert;
-use crate::search::offer;
+// One row of the table: the cheapest folds of all stretches that begin at one sibling.
+use crate::keys::copy_row;
+use crate::keys::covered;
+use crate::keys::offer;
+use crate::keys::plain_row;
+use crate::keys::push;
 use crate::table::entry;
 use crate::table::widen;
 use format::Format;
 use reader::price;
 ghost use mathlib.Core.Path.{_≡_};
-ghost use Prim.Native.Nat.{ℕ, _+_, _-_, _<_, _≤_};
+ghost use Prim.Native.Nat.{ℕ, _+_, _-_, _*_, _<_, _≤_};
 ghost use lib.ListN.{length, getD};
 ghost use Rattle.format.specs.Forest.{siblings};
 ghost use Rattle.format.specs.Tree.{tree-of};
 ghost use Rattle.folder.specs.Table.{Spelled, Placed, Numbered};
-ghost use Rattle.folder.specs.Rows.{Growing, RowReady, RowSolved, Falling, Reset, Single, no-key};
+ghost use Rattle.folder.specs.Rows.{Growing, Falling, Single, KeysReady, Started, Settled, Advanced};
 
-// Grows the matches from sibling i + 1 to sibling i: how many siblings from i on equal the one w further, for each width w.
-pub fn grow(kinds: &[usize], i: usize, m: usize, matches: &mut [usize])
+// Grows the matches from sibling i + 1 to sibling i: how many siblings from i on equal the one w further, for each width w. Answers
+// a width at which the most do.
+pub fn grow(kinds: &[usize], i: usize, m: usize, matches: &mut [usize]) -> usize
     requires { ⌜ (length (now kinds) ≡ 1025) × (length (now matches) ≡ 1025) × (m ≤ 1024) × (i < m) ⌝ }
     requires { ⌜ ((w : ℕ) → getD (now matches) w 0 + i < 1024) ⌝ }
-    ensures { λ _. ⌜ Growing (now (kinds .entry)) i m (now (matches .entry)) (now (matches .exit)) ⌝ }
+    ensures grown { λ _. ⌜ Growing (now (kinds .entry)) i m (now (matches .entry)) (now (matches .exit)) ⌝ }
+    ensures width { λ r. ⌜ (0 < r) × (i + r ≤ m) ⌝ }
 {
+    let mut most = 1;
     let mut w = 1;
     while i + w < m {
         if kinds[i] == kinds[i + w] {
             matches[w] += 1;
+            if matches[most] < matches[w] {
+                most = w;
+            }
         } else {
             matches[w] = 0;
         }
         w += 1;
     }
     matches[w] = 0;
-}
-
-// No key is offered at any cover up to n.
-pub fn reset(least: &mut [u64], n: usize)
-    requires { ⌜ (length (now least) ≡ 1025) × (n ≤ 1024) ⌝ }
-    requires { ⌜ ((c : ℕ) → getD (now least) c 0 ≤ no-key) ⌝ }
-    ensures { λ _. ⌜ Reset n (now (least .exit)) ⌝ }
-{
-    let mut c = 0;
-    while c <= n {
-        least[c] = 4611686018427387904;
-        c += 1;
-    }
+    most
 }
 
 // The cost of one sibling by itself: its label, and for a group the cheapest fold of what it holds.
@@ -68,42 +64,118 @@ pub fn own_cost(
     label + widen(costs[entry(numbers[i + 1], numbers[i] - 1)])
 }
 
-// The row of sibling i: for growing length d the cheapest fold of [i, i + d), whose repeats are then offered further on.
+// The keys of the row of sibling i before any repeat is offered. Its first `span` siblings are those of sibling i + w, so the keys
+// of that row serve that far.
+pub fn start_row(
+    costs: &[u32],
+    choices: &[u32],
+    numbers: &[usize],
+    i: usize,
+    m: usize,
+    own: u64,
+    w: usize,
+    span: usize,
+    keys: &mut [u64],
+)
+    requires { ⌜ Falling (now numbers) m (length (now costs)) × Falling (now numbers) m (length (now choices)) ⌝ }
+    requires { ⌜ KeysReady (now keys) ⌝ }
+    requires { ⌜ (m ≤ 1024) × (own < 4294967296) × (i + w + span ≤ m) × (i < m) ⌝ }
+    ensures { λ _. ⌜ Started (now (costs .entry)) (now (choices .entry)) (now (numbers .entry)) i (m - i) own w span (now (keys .exit)) ⌝ }
+{
+    copy_row(costs, choices, numbers, i + w, span, keys);
+    keys[1] = own * 2097152;
+    let mut from = span + 1;
+    if span == 0 {
+        from = 2;
+    }
+    plain_row(costs, numbers, i, m - i, own, from, keys);
+}
+
+// The first number above both.
+fn past(d: usize, span: usize) -> usize
+    requires { ⌜ (d ≤ 1024) × (span ≤ 1024) ⌝ }
+    ensures { λ r. ⌜ (d < r) × (span < r) × (r ≤ 1025) × ((c : ℕ) → d < c → span < c → r ≤ c) ⌝ }
+{
+    if d < span {
+        return span + 1;
+    }
+    d + 1
+}
+
+// The first count from 2 on whose repeats of width d cover more than `span` siblings.
+fn count_past(d: usize, span: usize) -> usize
+    requires { ⌜ (0 < d) × (d ≤ 1024) × (span ≤ 1024) ⌝ }
+    ensures { λ r. ⌜ (2 ≤ r) × (r ≤ 1025) × (span < r * d) × ((g : ℕ) → 2 ≤ g → g < r → g * d ≤ span) ⌝ }
+{
+    if span < d {
+        return 2;
+    }
+    span / d + 1
+}
+
+// The stretch of d siblings is solved: what is left is put behind it where it is cheapest as one repeat, and it is repeated as far
+// as siblings match. The keys of up to `span` siblings are final and need neither.
+fn settle(
+    costs: &[u32],
+    numbers: &[usize],
+    i: usize,
+    m: usize,
+    limit: usize,
+    prices: &[u64],
+    d: usize,
+    matched: usize,
+    span: usize,
+    keys: &mut [u64],
+)
+    requires { ⌜ Falling (now numbers) m (length (now costs)) ⌝ }
+    requires { ⌜ KeysReady (now keys) × (length (now prices) ≡ 1025) × ((h : ℕ) → getD (now prices) h 0 ≤ 4294836225) ⌝ }
+    requires { ⌜ (m ≤ 1024) × (0 < d) × (i + d + matched ≤ m) × (span ≤ 1024) ⌝ }
+    ensures low { λ _. ⌜ KeysReady (now (keys .exit)) ⌝ }
+    ensures settled { λ _. ⌜ Settled (now (costs .entry)) (now (numbers .entry)) i (m - i) limit (now (prices .entry)) d matched span (now (keys .entry)) (now (keys .exit)) ⌝ }
+{
+    let key = keys[d];
+    if covered(key) == d as u64 {
+        push(costs, numbers, i, m - i, d, key, past(d, span), keys);
+    }
+    if d <= limit {
+        if d <= matched {
+            offer(prices, key / 2097152, d, matched, count_past(d, span), keys);
+        }
+    }
+}
+
+// Solves the row of sibling i, stretch by stretch.
 pub fn solve(
     costs: &[u32],
     numbers: &[usize],
     i: usize,
     m: usize,
-    own: u64,
     limit: usize,
     prices: &[u64],
     matches: &[usize],
-    least: &mut [u64],
-    covers: &mut [usize],
-    row_costs: &mut [u64],
-    row_choices: &mut [u64],
+    span: usize,
+    keys: &mut [u64],
 )
-    requires { ⌜ RowReady (now costs) (now numbers) i m own limit (now prices) (now matches) ⌝ }
     requires { ⌜ Falling (now numbers) m (length (now costs)) ⌝ }
-    requires { ⌜ (length (now matches) ≡ 1025) × (length (now covers) ≡ 1025) × (length (now «row_costs») ≡ 1025) × (length (now «row_choices») ≡ 1025) ⌝ }
-    requires { ⌜ Reset (m - i) (now least) ⌝ }
-    ensures low { λ _. ⌜ (length (now (covers .exit)) ≡ 1025) × (length (now (least .exit)) ≡ 1025) × ((c : ℕ) → getD (now (least .exit)) c 0 ≤ no-key) ⌝ }
-    ensures solved { λ _. ⌜ RowSolved (now (costs .entry)) (now (numbers .entry)) i m own limit (now (prices .entry)) (now (matches .entry)) (now («row_costs» .exit)) (now («row_choices» .exit)) ⌝ }
+    requires { ⌜ KeysReady (now keys) × (length (now prices) ≡ 1025) × ((h : ℕ) → getD (now prices) h 0 ≤ 4294836225) ⌝ }
+    requires { ⌜ (m ≤ 1024) × (i < m) × (length (now matches) ≡ 1025) × (span ≤ 1024) ⌝ }
+    requires { ⌜ ((w : ℕ) → 0 < w → i + w ≤ m → i + w + getD (now matches) w 0 ≤ m) ⌝ }
+    ensures { λ _. ⌜ Advanced (now (costs .entry)) (now (numbers .entry)) i m limit (now (prices .entry)) (now (matches .entry)) span (m - i) (now (keys .entry)) (now (keys .exit)) ⌝ }
 {
-    let mut n = 0;
     let mut d = 1;
     while i + d <= m {
-        let key = best(costs, numbers, i, d, own, least, covers, n);
-        let cost = key / 2097152;
-        row_costs[d] = cost;
-        row_choices[d] = key % 2097152;
-        if key == least[d] {
-            insert(least, d, n, covers);
-            n += 1;
-        }
-        if d <= limit {
-            offer(prices, cost, d, matches[d], least);
-        }
+        settle(
+            costs,
+            numbers,
+            i,
+            m,
+            limit,
+            prices,
+            d,
+            matches[d],
+            span,
+            keys,
+        );
         d += 1;
     }
 }

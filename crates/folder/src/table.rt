@@ -1,7 +1,7 @@
 // The triangular table: entries of intervals of node numbers, in lent slices.
 ghost use mathlib.Core.Path.{_≡_};
 ghost use mathlib.Core.List.{_++_};
-ghost use Prim.Native.Nat.{ℕ, _+_, _<_, _≤_};
+ghost use Prim.Native.Nat.{ℕ, _+_, _/_, _%_, _<_, _≤_};
 ghost use lib.ListN.{length, getD, drop, replicate};
 ghost use Rattle.folder.specs.Table.{cell, cells};
 ghost use Rattle.folder.specs.Rows.{Falling, Stored};
@@ -37,16 +37,26 @@ pub fn look(w: &[u32], numbers: &[usize], i: usize, j: usize) -> u64
     widen(w[entry(numbers[j], numbers[i])])
 }
 
-// Enters a row: the stretches of 1 to n siblings from sibling i on.
-pub fn store_row(w: &mut [u32], numbers: &[usize], i: usize, n: usize, row: &[u64])
-    requires { ⌜ Falling (now numbers) (i + n) (length (now w)) ⌝ }
-    requires { ⌜ n < length (now row) ⌝ }
-    requires { ⌜ ((d : ℕ) → 0 < d → d ≤ n → getD (now row) d 0 < 4294967296) ⌝ }
-    ensures { λ _. ⌜ Stored (now (numbers .entry)) i n (now (row .entry)) (now (w .entry)) (now (w .exit)) ⌝ }
+// Enters a row, costs and choices by the keys: the stretches of 1 to n siblings from sibling i on.
+pub fn store_row(
+    costs: &mut [u32],
+    choices: &mut [u32],
+    numbers: &[usize],
+    i: usize,
+    n: usize,
+    keys: &[u64],
+)
+    requires { ⌜ Falling (now numbers) (i + n) (length (now costs)) × Falling (now numbers) (i + n) (length (now choices)) ⌝ }
+    requires { ⌜ n < length (now keys) ⌝ }
+    requires { ⌜ ((d : ℕ) → 0 < d → d ≤ n → getD (now keys) d 0 < 9007199254740992) ⌝ }
+    ensures costs { λ _. ⌜ Stored (now (numbers .entry)) i n (λ d. getD (now (keys .entry)) d 0 / 2097152) (now (costs .entry)) (now (costs .exit)) ⌝ }
+    ensures choices { λ _. ⌜ Stored (now (numbers .entry)) i n (λ d. getD (now (keys .entry)) d 0 % 2097152) (now (choices .entry)) (now (choices .exit)) ⌝ }
 {
     let mut d = 1;
     while d <= n {
-        w[entry(numbers[i + d], numbers[i])] = row[d] as u32;
+        let at = entry(numbers[i + d], numbers[i]);
+        costs[at] = (keys[d] / 2097152) as u32;
+        choices[at] = (keys[d] % 2097152) as u32;
         d += 1;
     }
 }

@@ -1,19 +1,19 @@
 -- `folder::level::enter_level` meets its contract. The loop's invariant: the rows from sibling i on are entered, the matches from there
--- on known, and the arrays that a row is worked in are ready. The measure is i.
+-- on known, and the keys ready to be worked on. The measure is i.
 use mathlib.Core.Path.{_≡_, refl, sym}
 use Prim.Native.Nat.{_+_, _-_, _≤_}
 use native.Mathlib.Omega.{arith}
-use Rattle.folder.specs.Rows.{ScratchReady}
-use Rattle.folder.proofs.Levels.{scratch-none, Descended, siblings-few, descended-none, row-asks, descended-more, level-filled, level-kept}
+use Rattle.folder.specs.Rows.{KeysReady}
+use Rattle.folder.proofs.Levels.{keys-none, Descended, siblings-few, descended-none, row-asks, descended-more, level-filled, level-kept}
 use Rattle.folder.proofs.level.enter_level.Statement.{statement}
 use Rattle.folder.proofs.level.enter_level.Tie as tie
 
 abbrev Inv-loop : tie.InvT-loop
-Inv-loop s b table prices limit costs₀ choices₀ offsets numbers kinds matches₀ least₀ covers₀ row-costs₀ row-choices₀ m i₀ costs choices matches least covers row-costs row-choices i =
-    (i ≤ m) × Descended s b limit table prices costs₀ choices₀ i costs choices matches × ScratchReady least covers row-costs row-choices
+Inv-loop s b table prices limit costs₀ choices₀ offsets numbers kinds matches₀ keys₀ m i₀ costs choices matches keys i =
+    (i ≤ m) × Descended s b limit table prices costs₀ choices₀ i costs choices matches × KeysReady keys
 
 abbrev μ-loop : tie.MeasureT-loop
-μ-loop s b table prices limit costs₀ choices₀ offsets numbers kinds matches₀ least₀ covers₀ row-costs₀ row-choices₀ m i₀ costs choices matches least covers row-costs row-choices i =
+μ-loop s b table prices limit costs₀ choices₀ offsets numbers kinds matches₀ keys₀ m i₀ costs choices matches keys i =
     i
 
 -- From inside the loop: the function's start, and where its siblings were listed and classified.
@@ -51,7 +51,7 @@ classify-requires c κs =
 loop-holds : tie.Need-loop-holds Inv-loop μ-loop
 loop-holds c =
     let counted = c .before .before .before .before .before .before .list-siblings .ensures .0 in
-    (omega arith, descended-none (c .before .before .before .before .before .before .before .before .before .before .before .before .before .before .pre .0) _ counted, scratch-none)
+    (omega arith, descended-none (c .before .before .before .before .before .before .before .before .before .before .before .before .before .before .pre .0) _ counted, keys-none)
 
 sub-i : tie.Need-sub-i Inv-loop μ-loop
 sub-i c = c .loop-test .taken
@@ -81,49 +81,40 @@ slice-aggregate-enter-row-2 : tie.Need-slice-aggregate-enter-row-2 Inv-loop μ-l
 slice-aggregate-enter-row-2 c = sym (listed (c .before .before .before .before .before .before) .list-siblings .ensures .1 .1 .0)
 
 slice-aggregate-enter-row-3 : tie.Need-slice-aggregate-enter-row-3 Inv-loop μ-loop
-slice-aggregate-enter-row-3 c = sym (c .before .before .before .before .grow .ensures .long)
+slice-aggregate-enter-row-3 c = sym (c .before .before .before .before .grow .ensures .0 .long)
 
 slice-aggregate-enter-row-4 : tie.Need-slice-aggregate-enter-row-4 Inv-loop μ-loop
-slice-aggregate-enter-row-4 c = sym (c .before .before .before .before .before .before .before .before .before .loop .inv .2 .long-least)
-
-slice-aggregate-enter-row-5 : tie.Need-slice-aggregate-enter-row-5 Inv-loop μ-loop
-slice-aggregate-enter-row-5 c = sym (c .before .before .before .before .before .before .before .before .before .before .loop .inv .2 .long-covers)
-
-slice-aggregate-enter-row-6 : tie.Need-slice-aggregate-enter-row-6 Inv-loop μ-loop
-slice-aggregate-enter-row-6 c = sym (c .before .before .before .before .before .before .before .before .before .before .before .loop .inv .2 .long-costs)
-
-slice-aggregate-enter-row-7 : tie.Need-slice-aggregate-enter-row-7 Inv-loop μ-loop
-slice-aggregate-enter-row-7 c = sym (c .before .before .before .before .before .before .before .before .before .before .before .before .loop .inv .2 .long-choices)
+slice-aggregate-enter-row-4 c = sym (c .before .before .before .before .before .before .before .before .before .loop .inv .2 .long)
 
 enter-row-requires : tie.Need-enter-row-requires Inv-loop μ-loop
 enter-row-requires c κs =
-    let G = c .before .before .before .before .before .before .before .before .before .before in
+    let G = c .before .before .before .before .before .before .before in
     let I = G .before .before .before in
     let p = start I .pre in
     let l = listed I .list-siblings .ensures in
     let L = I .before .loop in
     let next : L .i - 1 + 1 ≡ L .i = omega (arith, I .loop-test .taken) in
-    row-asks (p .0) (sym (l .0)) next (L .inv .0) (l .1 .1 .1) (L .inv .1) (classed I .classify .ensures .1) (G .grow .ensures) (l .1 .0) (l .1 .1 .0)
-    (L .inv .2) (p .1)
+    row-asks (p .0) (sym (l .0)) next (L .inv .0) (l .1 .1 .1) (L .inv .1) (classed I .classify .ensures .1) (G .grow .ensures .0) (l .1 .0) (l .1 .1 .0)
+    (L .inv .2) (G .grow .ensures .1) (p .1)
 
 loop-less : tie.Need-loop-less Inv-loop μ-loop
-loop-less c = let more = c .before .before .before .before .before .before .before .before .before .before .before .before .before .before .before .before .before .before .before .before .before .before .loop-test .taken in omega arith
+loop-less c = let more = c .before .before .before .before .before .before .before .before .before .before .before .before .before .before .before .before .loop-test .taken in omega arith
 
 loop-again : tie.Need-loop-again Inv-loop μ-loop
 loop-again c =
-    let G = c .before .before .before .before .before .before .before .before .before .before .before .before .before .before .before .before .before .before .before in
+    let G = c .before .before .before .before .before .before .before .before .before .before .before .before .before in
     let I = G .before .before .before in
     let p = start I .pre in
     let l = listed I .list-siblings .ensures in
     let L = I .before .loop in
-    let E = c .before .before .before .before .before .before .before .before .enter-row in
+    let E = c .before .before .before .before .before .enter-row in
     let r = E .ensures in
     let near = L .inv .0 in
     let next : L .i - 1 + 1 ≡ L .i = omega (arith, I .loop-test .taken) in (
       omega arith,
-      descended-more (p .0) (sym (l .0)) next near (l .1 .1 .1) (L .inv .1) (classed I .classify .ensures .1) (G .grow .ensures)
-          {costs′ = E .last .1 .1 .1 .1 .1 .1 .1 .1 .1 .1 .1 .1 .1 .0}
-          {choices′ = E .last .1 .1 .1 .1 .1 .1 .1 .1 .1 .1 .1 .1 .1 .1 .0}
+      descended-more (p .0) (sym (l .0)) next near (l .1 .1 .1) (L .inv .1) (classed I .classify .ensures .1) (G .grow .ensures .0)
+          {costs′ = E .last .1 .1 .1 .1 .1 .1 .1 .1 .1 .1 .1 .0}
+          {choices′ = E .last .1 .1 .1 .1 .1 .1 .1 .1 .1 .1 .1 .1 .0}
           (r .1 .0) (r .1 .1 .0) (r .1 .1 .1),
       r .0,
     )
@@ -162,9 +153,6 @@ enter-level-spec =
     slice-aggregate-enter-row-2
     slice-aggregate-enter-row-3
     slice-aggregate-enter-row-4
-    slice-aggregate-enter-row-5
-    slice-aggregate-enter-row-6
-    slice-aggregate-enter-row-7
     enter-row-requires
     loop-less
     loop-again

@@ -1,29 +1,34 @@
 -- `folder::table::store_row` meets its contract. The loop's invariant: the stretches of fewer than d siblings are stored.
 use mathlib.Core.Path.{_≡_}
-use Prim.Native.Nat.{_+_, _-_, _≤_}
+use Prim.Native.Nat.{ℕ, _+_, _-_, _/_, _%_, _≤_, _<_}
 use native.Mathlib.Omega.{arith}
-use Rattle.folder.specs.Rows.{Stored}
+use lib.ListN.{length, getD}
+use Rattle.folder.specs.Rows.{Falling, Stored}
 use Rattle.folder.proofs.Tables.{falling-most, falling-cell, stored-none, stored-more}
 use Rattle.folder.proofs.table.store_row.Statement.{statement}
 use Rattle.folder.proofs.table.store_row.Tie as tie
 
 abbrev Inv-loop : tie.InvT-loop
-Inv-loop w₀ numbers i n row d₀ w d = (1 ≤ d) × (d ≤ n + 1) × Stored numbers i (d - 1) row w₀ w
+Inv-loop costs₀ choices₀ numbers i n keys d₀ costs choices d =
+    (1 ≤ d)
+    × (d ≤ n + 1)
+    × Stored numbers i (d - 1) (λ e. getD keys e 0 / 2097152) costs₀ costs
+    × Stored numbers i (d - 1) (λ e. getD keys e 0 % 2097152) choices₀ choices
 
 abbrev μ-loop : tie.MeasureT-loop
-μ-loop w₀ numbers i n row d₀ w d = n + 1 - d
+μ-loop costs₀ choices₀ numbers i n keys d₀ costs choices d = n + 1 - d
+
+-- Both tables have the entry.
+in-table : (c : tie.After-entry Inv-loop μ-loop) → (c .entry .result < length (c .before .before .before .before .before .before .before .before .before .args .costs .now)) × (c .entry .result < length (c .before .before .before .before .before .before .before .before .before .args .choices .now))
+in-table c =
+    let S = c .before .before .before .before .before .before .before .before .before in
+    let L = c .before .before .before .before .loop in
+    let fits : (room : ℕ) → Falling (S .args .numbers .now) (S .args .i + S .args .n) room → c .entry .result < room =
+    λ room r. omega (arith, falling-cell _ _ _ r (S .args .i) (S .args .i + L .d) (omega arith) (omega arith), c .entry .ensures) in
+    (fits _ (S .pre .0 .0), fits _ (S .pre .0 .1))
 
 loop-holds : tie.Need-loop-holds Inv-loop μ-loop
-loop-holds c = (omega arith, omega arith, stored-none _ _ _ _)
-
-mul-w : tie.Need-mul-w Inv-loop μ-loop
-mul-w c = omega arith
-
-shared-slice-read-w : tie.Need-shared-slice-read-w Inv-loop μ-loop
-shared-slice-read-w c = omega arith
-
-cast-w : tie.Need-cast-w Inv-loop μ-loop
-cast-w c = omega (arith, c .before .before .before .before .before .before .pre .1 .1 (c .before .before .loop .d) (omega arith) (omega arith))
+loop-holds c = (omega arith, omega arith, stored-none _ _ _ _, stored-none _ _ _ _)
 
 add-entry : tie.Need-add-entry Inv-loop μ-loop
 add-entry c = omega arith
@@ -43,20 +48,39 @@ shared-slice-read-entry-2 c = omega arith
 entry-requires : tie.Need-entry-requires Inv-loop μ-loop
 entry-requires c κs =
     let S = c .before .before .before .before .before .before .before .before in
-    let L = c .before .before .before .before .loop in
-    (S .pre .0 .fall (S .args .i) (S .args .i + L .d) (omega arith) (omega arith), falling-most _ _ _ (S .pre .0) (S .args .i) (omega arith))
+    let L = c .before .before .before .loop in
+    let r = S .pre .0 .0 in
+    (r .fall (S .args .i) (S .args .i + L .d) (omega arith) (omega arith), falling-most _ _ _ r (S .args .i) (omega arith))
 
-mul-w-2 : tie.Need-mul-w-2 Inv-loop μ-loop
-mul-w-2 c =
-    let S = c .before .before .before .before .before .before .before .before .before in
-    let L = c .before .before .before .before .before .loop in
-    omega (arith, falling-cell _ _ _ (S .pre .0) (S .args .i) (S .args .i + L .d) (omega arith) (omega arith), S .good)
+mul-costs : tie.Need-mul-costs Inv-loop μ-loop
+mul-costs c = omega arith
 
-slice-write-w : tie.Need-slice-write-w Inv-loop μ-loop
-slice-write-w c =
-    let S = c .before .before .before .before .before .before .before .before .before in
-    let L = c .before .before .before .before .before .loop in
-    omega (arith, falling-cell _ _ _ (S .pre .0) (S .args .i) (S .args .i + L .d) (omega arith) (omega arith))
+shared-slice-read-costs : tie.Need-shared-slice-read-costs Inv-loop μ-loop
+shared-slice-read-costs c = omega arith
+
+cast-costs : tie.Need-cast-costs Inv-loop μ-loop
+cast-costs c = omega (arith, c .before .before .before .before .before .before .before .before .before .before .pre .1 .1 (c .before .before .before .before .before .loop .d) (omega arith) (omega arith))
+
+mul-costs-2 : tie.Need-mul-costs-2 Inv-loop μ-loop
+mul-costs-2 c = omega (arith, in-table (c .before), c .before .before .before .before .before .before .before .before .before .before .good)
+
+slice-write-costs : tie.Need-slice-write-costs Inv-loop μ-loop
+slice-write-costs c = omega (arith, in-table (c .before), c .before .before .before .before .before .loop .inv .2 .same-length)
+
+mul-choices : tie.Need-mul-choices Inv-loop μ-loop
+mul-choices c = omega arith
+
+shared-slice-read-choices : tie.Need-shared-slice-read-choices Inv-loop μ-loop
+shared-slice-read-choices c = omega arith
+
+cast-choices : tie.Need-cast-choices Inv-loop μ-loop
+cast-choices c = omega arith
+
+mul-choices-2 : tie.Need-mul-choices-2 Inv-loop μ-loop
+mul-choices-2 c = omega (arith, in-table (c .before .before), c .before .before .before .before .before .before .before .before .before .before .before .good)
+
+slice-write-choices : tie.Need-slice-write-choices Inv-loop μ-loop
+slice-write-choices c = omega (arith, in-table (c .before .before), c .before .before .before .before .before .before .loop .inv .3 .same-length)
 
 add-d : tie.Need-add-d Inv-loop μ-loop
 add-d c = omega arith
@@ -66,19 +90,27 @@ loop-less c = omega arith
 
 loop-again : tie.Need-loop-again Inv-loop μ-loop
 loop-again c =
-    let S = c .before .before .before .before .before .before .before .before .before in
-    let L = c .before .before .before .before .before .loop in
-    let e : L .d + 1 - 1 ≡ L .d = omega arith in (
+    let S = c .before .before .before .before .before .before .before .before .before .before .before in
+    let L = c .before .before .before .before .before .before .loop in
+    let e : L .d + 1 - 1 ≡ L .d = omega arith in
+    let m = S .args .i + S .args .n in (
       omega arith,
       omega arith,
-      rw (e, c .entry .ensures) (stored-more _ _ (L .d - 1) _ _ _ _ (S .args .i + S .args .n) (omega arith) (omega arith) (S .pre .0) (L .inv .2)),
+      rw (e, c .before .before .entry .ensures) (stored-more _ _ (L .d - 1) _ _ _ _ m (omega arith) (omega arith) (S .pre .0 .0) (L .inv .2)),
+      rw (e, c .before .before .entry .ensures) (stored-more _ _ (L .d - 1) _ _ _ _ m (omega arith) (omega arith) (S .pre .0 .1) (L .inv .3)),
     )
 
 same-length : tie.Need-same-length Inv-loop μ-loop
 same-length c = c .before .loop .inv .2 .same-length
 
+same-length-2 : tie.Need-same-length-2 Inv-loop μ-loop
+same-length-2 c = c .before .loop .inv .3 .same-length
+
 returns : tie.Need-returns Inv-loop μ-loop
-returns c = let e : c .before .loop .d - 1 ≡ c .before .before .before .before .before .args .n = omega arith in rw e at (c .before .loop .inv .2)
+returns c =
+    let L = c .before .loop in
+    let e : L .d - 1 ≡ c .before .before .before .before .before .before .args .n = omega arith in
+    (rw e at (L .inv .2), rw e at (L .inv .3))
 
 pub store-row-spec : {M : Type 1} → statement M
 store-row-spec =
@@ -87,19 +119,25 @@ store-row-spec =
     Inv-loop
     μ-loop
     loop-holds
-    mul-w
-    shared-slice-read-w
-    cast-w
     add-entry
     mul-entry
     shared-slice-read-entry
     mul-entry-2
     shared-slice-read-entry-2
     entry-requires
-    mul-w-2
-    slice-write-w
+    mul-costs
+    shared-slice-read-costs
+    cast-costs
+    mul-costs-2
+    slice-write-costs
+    mul-choices
+    shared-slice-read-choices
+    cast-choices
+    mul-choices-2
+    slice-write-choices
     add-d
     loop-less
     loop-again
     same-length
+    same-length-2
     returns)

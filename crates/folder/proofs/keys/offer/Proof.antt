@@ -1,40 +1,39 @@
--- `folder::search::offer` meets its contract. The loop's invariant: the counts below h are offered. The measure is what is left of
+-- `folder::keys::offer` meets its contract. The loop's invariant: the counts below h are offered. The measure is what is left of
 -- the counts, which stay below 1,026.
 use mathlib.Core.Logic.{⊎-elim}
 use Prim.Native.Nat.{_-_, _*_, _<_, _≤_}
+use native.Mathlib.Nat.{mul-le-mul}
 use native.Mathlib.Omega.{arith}
 use lib.ListN.{length}
 use Rattle.folder.proofs.Offers.{Upto, in-reach, upto-none, upto-kept, upto-set, offering}
-use Rattle.folder.proofs.search.offer.Statement.{statement}
-use Rattle.folder.proofs.search.offer.Tie as tie
+use Rattle.folder.proofs.keys.offer.Statement.{statement}
+use Rattle.folder.proofs.keys.offer.Tie as tie
 
 abbrev Inv-loop : tie.InvT-loop
-Inv-loop prices cost d reach least₀ h₀ least h = Upto prices cost d reach least₀ least h
+Inv-loop prices cost d span from keys₀ h₀ keys h = Upto prices cost d span from keys₀ keys h
 
 abbrev μ-loop : tie.MeasureT-loop
-μ-loop prices cost d reach least₀ h₀ least h = 1026 - h
+μ-loop prices cost d span from keys₀ h₀ keys h = 1026 - h
 
--- What is in reach fits the lists.
+-- What is in span fits the lists.
 within : (c : tie.In-loop Inv-loop μ-loop) → (c .before .loop .h * c .before .before .args .d ≤ 1024) × (c .before .loop .h ≤ 1024)
 within c =
     let p = c .before .before .pre .1 .1 in
     let h = c .before .loop .h in
-    in-reach (h - 1) h (c .before .before .args .d) (c .before .before .args .reach) (omega arith) (p .1) (p .2) (c .loop-test .taken)
+    in-reach (h - 1) h (c .before .before .args .d) (c .before .before .args .span) (omega arith) (p .1) (p .2) (c .loop-test .taken)
 
 loop-holds : tie.Need-loop-holds Inv-loop μ-loop
-loop-holds c = upto-none _ _ _ _ _
+loop-holds c = upto-none _ _ _ _ _ _ (omega arith)
 
 sub-loop : tie.Need-sub-loop Inv-loop μ-loop
-sub-loop c = omega (arith, c .loop .inv .twice)
+sub-loop c = omega (arith, c .loop .inv .late)
 
 mul-loop : tie.Need-mul-loop Inv-loop μ-loop
 mul-loop c =
-    let p = c .before .pre .1 .1 in
     let h = c .loop .h in
-    let w =
-    in-reach (h - 2) (h - 1) (c .before .args .d) (c .before .args .reach)
-    (omega arith) (p .1) (p .2) (c .loop .inv .near) in
-    omega arith
+    let l : h - 1 ≤ 1024 = omega (arith, c .loop .inv .few) in
+    let m : c .before .args .d ≤ 1024 = omega arith in
+    omega (arith, mul-le-mul l m)
 
 mul-c : tie.Need-mul-c Inv-loop μ-loop
 mul-c c = let w = within c in omega arith
@@ -66,11 +65,11 @@ mul-if1 c = let w = within (c .before) in omega arith
 slice-read-if1 : tie.Need-slice-read-if1 Inv-loop μ-loop
 slice-read-if1 c = let w = within (c .before .before) in omega (arith, c .before .before .before .loop .inv .same-length)
 
-mul-least : tie.Need-mul-least Inv-loop μ-loop
-mul-least c = let w = within (c .before .before .before) in omega arith
+mul-keys : tie.Need-mul-keys Inv-loop μ-loop
+mul-keys c = let w = within (c .before .before .before) in omega arith
 
-slice-write-least : tie.Need-slice-write-least Inv-loop μ-loop
-slice-write-least c = let w = within (c .before .before .before) in omega (arith, c .before .before .before .before .loop .inv .same-length)
+slice-write-keys : tie.Need-slice-write-keys Inv-loop μ-loop
+slice-write-keys c = let w = within (c .before .before .before) in omega (arith, c .before .before .before .before .loop .inv .same-length)
 
 add-h : tie.Need-add-h Inv-loop μ-loop
 add-h c = let w = within (c .before .before .before) in omega arith
@@ -82,20 +81,19 @@ loop-again : tie.Need-loop-again Inv-loop μ-loop
 loop-again c =
     let w = within (c .before .before .before) in
     let L = c .before .before .before .before .loop in
+    let u = L .inv in
     let near = c .before .before .before .loop-test .taken in
-    let fits : L .h * c .before .before .before .before .before .args .d < length (L .least) = omega (arith, L .inv .same-length) in
+    let fits : L .h * c .before .before .before .before .before .args .d < length (L .keys) = omega (arith, u .same-length) in
     ⊎-elim
-    (λ x. rw (x .1) (upto-set _ _ _ _ _ (L .least) (L .h) (L .inv) near fits (x .0 .taken)))
-    (λ x. rw (x .1) (upto-kept _ _ _ _ _ (L .least) (L .h) (L .inv) near (x .0 .left)))
+    (λ x. rw (x .1) (upto-set _ _ _ _ _ _ (L .keys) (L .h) u (w .1) near fits (x .0 .taken)))
+    (λ x. rw (x .1) (upto-kept _ _ _ _ _ _ (L .keys) (L .h) u (w .1) (x .0 .left)))
     (c .if1 .came)
 
 same-length : tie.Need-same-length Inv-loop μ-loop
 same-length c = c .before .loop .inv .same-length
 
 returns : tie.Need-returns Inv-loop μ-loop
-returns c =
-    let L = c .before .loop in
-    offering _ _ _ _ _ (L .least) (L .h) (L .inv) (c .before .before .pre .1 .1 .1) (c .loop-test .left)
+returns c = let L = c .before .loop in offering _ _ _ _ _ _ (L .keys) (L .h) (L .inv) (c .loop-test .left)
 
 pub offer-spec : {M : Type 1} → statement M
 offer-spec =
@@ -116,8 +114,8 @@ offer-spec =
     add-k-3
     mul-if1
     slice-read-if1
-    mul-least
-    slice-write-least
+    mul-keys
+    slice-write-keys
     add-h
     loop-less
     loop-again

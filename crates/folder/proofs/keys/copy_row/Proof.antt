@@ -1,0 +1,78 @@
+-- `folder::keys::copy_row` meets its contract. The loop's invariant: the places from 1 up to below d have the keys of the other row.
+use native.Mathlib.Omega.{arith}
+use Prim.Native.Nat.{_-_, _≤_}
+use Rattle.folder.proofs.Tables.{falling-less}
+use Rattle.folder.proofs.Putting.{Put, OfRow, put-none, put-more, copied-all}
+use Rattle.folder.proofs.keys.copy_row.Statement.{statement}
+use Rattle.folder.proofs.keys.copy_row.Tie as tie
+
+abbrev Inv-loop : tie.InvT-loop
+Inv-loop costs choices numbers j n keys₀ d₀ keys d = (d ≤ 1025) × Put (OfRow costs choices numbers j) 1 d keys₀ keys
+
+abbrev μ-loop : tie.MeasureT-loop
+μ-loop costs choices numbers j n keys₀ d₀ keys d = 1025 - d
+
+loop-holds : tie.Need-loop-holds Inv-loop μ-loop
+loop-holds c = (omega arith, put-none _ _ _)
+
+add-look : tie.Need-add-look Inv-loop μ-loop
+add-look c = omega arith
+
+look-requires : tie.Need-look-requires Inv-loop μ-loop
+look-requires c κs = let S = c .before .before .before .before .before .before in (falling-less _ (omega arith) (S .pre .0 .0), omega (arith, c .before .loop .inv .1 .late))
+
+mul-keys : tie.Need-mul-keys Inv-loop μ-loop
+mul-keys c = omega arith
+
+add-look-2 : tie.Need-add-look-2 Inv-loop μ-loop
+add-look-2 c = omega arith
+
+look-requires-2 : tie.Need-look-requires-2 Inv-loop μ-loop
+look-requires-2 c κs = let S = c .before .before .before .before .before .before .before in (falling-less _ (omega arith) (S .pre .0 .1), omega (arith, c .before .before .loop .inv .1 .late))
+
+add-keys : tie.Need-add-keys Inv-loop μ-loop
+add-keys c = omega arith
+
+mul-keys-2 : tie.Need-mul-keys-2 Inv-loop μ-loop
+mul-keys-2 c = omega arith
+
+slice-write-keys : tie.Need-slice-write-keys Inv-loop μ-loop
+slice-write-keys c = omega (arith, c .before .before .before .loop .inv .1 .same-length)
+
+add-d : tie.Need-add-d Inv-loop μ-loop
+add-d c = omega arith
+
+loop-less : tie.Need-loop-less Inv-loop μ-loop
+loop-less c = omega arith
+
+loop-again : tie.Need-loop-again Inv-loop μ-loop
+loop-again c =
+    let L = c .before .before .before .loop in
+    (omega arith, put-more _ _ _ _ _ (L .inv .1) _ (omega arith) (omega arith, omega (arith, c .before .look .ensures .0, c .look2 .ensures .0)))
+
+same-length : tie.Need-same-length Inv-loop μ-loop
+same-length c = c .before .loop .inv .1 .same-length
+
+returns : tie.Need-returns Inv-loop μ-loop
+returns c = let S = c .before .before .before .before .before .before in copied-all _ _ _ _ _ _ _ _ (S .pre .1 .2) (omega arith) (c .before .loop .inv .1)
+
+pub copy-row-spec : {M : Type 1} → statement M
+copy-row-spec =
+    tie.close
+    (tie.spec
+    Inv-loop
+    μ-loop
+    loop-holds
+    add-look
+    look-requires
+    mul-keys
+    add-look-2
+    look-requires-2
+    add-keys
+    mul-keys-2
+    slice-write-keys
+    add-d
+    loop-less
+    loop-again
+    same-length
+    returns)

@@ -1,0 +1,91 @@
+-- `folder::keys::push` meets its contract. The loop's invariant: the places from `from` up to below d have the lesser of what they had and
+-- what is pushed.
+use mathlib.Core.Logic.{inl, inr, ⊎-elim}
+use native.Mathlib.Omega.{arith}
+use Prim.Native.Nat.{_-_, _≤_}
+use Rattle.folder.proofs.Tables.{falling-less}
+use Rattle.folder.proofs.Putting.{Put, OfPush, put-none, put-more, pushing-all}
+use Rattle.folder.proofs.keys.push.Statement.{statement}
+use Rattle.folder.proofs.keys.push.Tie as tie
+
+abbrev Inv-loop : tie.InvT-loop
+Inv-loop costs numbers i n c k from keys₀ d₀ keys d = (d ≤ 1025) × Put (OfPush costs numbers i n c k keys₀) from d keys₀ keys
+
+abbrev μ-loop : tie.MeasureT-loop
+μ-loop costs numbers i n c k from keys₀ d₀ keys d = 1025 - d
+
+loop-holds : tie.Need-loop-holds Inv-loop μ-loop
+loop-holds c = (omega arith, put-none _ _ _)
+
+add-look : tie.Need-add-look Inv-loop μ-loop
+add-look c = omega arith
+
+add-look-2 : tie.Need-add-look-2 Inv-loop μ-loop
+add-look-2 c = omega arith
+
+look-requires : tie.Need-look-requires Inv-loop μ-loop
+look-requires c κs = let S = c .before .before .before .before .before in (falling-less _ (omega arith) (S .pre .0), omega (arith, c .before .loop .inv .1 .late))
+
+mul-lesser : tie.Need-mul-lesser Inv-loop μ-loop
+mul-lesser c = omega arith
+
+add-lesser : tie.Need-add-lesser Inv-loop μ-loop
+add-lesser c = omega arith
+
+mul-lesser-2 : tie.Need-mul-lesser-2 Inv-loop μ-loop
+mul-lesser-2 c = omega arith
+
+slice-read-lesser : tie.Need-slice-read-lesser Inv-loop μ-loop
+slice-read-lesser c = omega (arith, c .before .before .before .loop .inv .1 .same-length)
+
+lesser-requires : tie.Need-lesser-requires Inv-loop μ-loop
+lesser-requires c κs = omega arith
+
+mul-keys : tie.Need-mul-keys Inv-loop μ-loop
+mul-keys c = omega arith
+
+slice-write-keys : tie.Need-slice-write-keys Inv-loop μ-loop
+slice-write-keys c = omega (arith, c .before .before .before .before .loop .inv .1 .same-length)
+
+add-d : tie.Need-add-d Inv-loop μ-loop
+add-d c = omega arith
+
+loop-less : tie.Need-loop-less Inv-loop μ-loop
+loop-less c = omega arith
+
+loop-again : tie.Need-loop-again Inv-loop μ-loop
+loop-again c =
+    let L = c .before .before .before .before .loop in
+    let cost = c .before .before .look .ensures .0 in
+    let old = L .inv .1 .kept (L .d) (inr (omega arith)) in
+    let r = c .lesser .ensures in
+    (omega arith, put-more _ _ _ _ _ (L .inv .1) _ (omega arith) (omega arith, omega arith, omega arith, ⊎-elim (λ e. inl (omega arith)) (λ e. inr (omega arith)) (r .2)))
+
+same-length : tie.Need-same-length Inv-loop μ-loop
+same-length c = c .before .loop .inv .1 .same-length
+
+returns : tie.Need-returns Inv-loop μ-loop
+returns c = let S = c .before .before .before .before .before in pushing-all _ _ _ _ _ _ _ _ _ _ (omega arith) (c .before .loop .inv .1)
+
+pub push-spec : {M : Type 1} → statement M
+push-spec =
+    tie.close
+    (tie.spec
+    Inv-loop
+    μ-loop
+    loop-holds
+    add-look
+    add-look-2
+    look-requires
+    mul-lesser
+    add-lesser
+    mul-lesser-2
+    slice-read-lesser
+    lesser-requires
+    mul-keys
+    slice-write-keys
+    add-d
+    loop-less
+    loop-again
+    same-length
+    returns)
