@@ -18,7 +18,7 @@ use Rattle.folder.specs.Table.{Spelled, Numbered, Classed, cell, number}
 use Rattle.folder.specs.Rows.{Matched, Matches, Growing, Falling, Single}
 use Rattle.folder.proofs.Cells.{cell-in}
 use Rattle.folder.proofs.Tables.{number-first, number-last, falling-from, number-after-group, below-at}
-use Rattle.folder.proofs.Listings.{entry-more, entry-all, equal-kinds, kinds-equal, Sibling, is-step, is-group}
+use Rattle.folder.proofs.Listings.{entry-more, equal-kinds, kinds-equal, Sibling, is-step, is-group}
 
 -- From sibling i on there is one more than from the next on.
 further : (A : Allowed) (t : Forest) → Run A t → (i : ℕ) → i < siblings t → siblings (back i t) ≡ siblings (back (i + 1) t) + 1
@@ -56,17 +56,16 @@ module _ (A : Allowed) (t : Forest) (r : Run A t) (i : ℕ) (h : i < siblings t)
 -- The matches below width w are grown, the others as they were.
 pub record Grown (kinds : List ℕ) (i w : ℕ) (before after : List ℕ) : Type 0 where
   pub long : length after ≡ 1025
-  pub low : (v : ℕ) → getD after v 0 + i ≤ 1024
+  pub low : (v : ℕ) → 0 < v → v < w → getD after v 0 + i ≤ 1024
   pub more : (v : ℕ) → 0 < v → v < w → getD kinds i 0 ≡ getD kinds (i + v) 0 → getD after v 0 ≡ getD before v 0 + 1
   pub none : (v : ℕ) → 0 < v → v < w → (getD kinds i 0 ≡ getD kinds (i + v) 0 → ⊥) → getD after v 0 ≡ 0
   pub later : (v : ℕ) → w ≤ v → getD after v 0 ≡ getD before v 0
 
-pub grown-none : (kinds : List ℕ) (i : ℕ) (before : List ℕ) → length before ≡ 1025 → ((v : ℕ) → getD before v 0 + i < 1024)
-    → Grown kinds i 1 before before
-grown-none kinds i before long low =
+pub grown-none : (kinds : List ℕ) (i : ℕ) (before : List ℕ) → length before ≡ 1025 → Grown kinds i 1 before before
+grown-none kinds i before long =
     record {
       long = long;
-      low = λ v. omega (arith, low v);
+      low = λ v h l. absurd (omega arith);
       more = λ v h l e. absurd (omega arith);
       none = λ v h l e. absurd (omega arith);
       later = λ v h. refl;
@@ -79,7 +78,7 @@ module _ (kinds : List ℕ) (i w : ℕ) (before after : List ℕ) (g : Grown kin
   put-more x h p q =
       record {
         long = simp length-set (g .long);
-        low = entry-all (λ y. y + i ≤ 1024) after w x (omega (arith, g .long)) (g .low) h;
+        low = λ v a l. entry-more (λ u y. 0 < u → y + i ≤ 1024) after w x (omega (arith, g .long)) (λ u k b. g .low u b k) (λ b. h) v l a;
         more = λ v a l. entry-more (λ u y. 0 < u → getD kinds i 0 ≡ getD kinds (i + u) 0 → y ≡ getD before u 0 + 1) after w x (omega (arith, g .long))
             (λ u k b. g .more u b k) (λ b. p) v l a;
         none = λ v a l. entry-more (λ u y. 0 < u → (getD kinds i 0 ≡ getD kinds (i + u) 0 → ⊥) → y ≡ 0) after w x (omega (arith, g .long))
@@ -100,7 +99,7 @@ module _ (kinds : List ℕ) (i w : ℕ) (before after : List ℕ) (g : Grown kin
   grown-all m some few last =
       record {
         long = simp length-set (g .long);
-        low = entry-all (λ y. y + i ≤ 1024) after w 0 (omega (arith, g .long)) (g .low) (omega arith);
+        low = λ v a l. entry-more (λ u y. 0 < u → y + i ≤ 1024) after w 0 (omega (arith, g .long)) (λ u k b. g .low u b k) (λ b. omega arith) v (omega arith) a;
         matches = matches;
       }
     where

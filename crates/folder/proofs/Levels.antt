@@ -9,7 +9,7 @@ use Rattle.format.specs.Tree.{tree-of}
 use Rattle.optimum.specs.Cheapest.{Run, back}
 use Rattle.optimum.proofs.Cut.{siblings-le-nodes, siblings-back}
 use Rattle.folder.specs.Table.{Entered, Below, Filled, Kept, KeptOthers, Placed, Numbered, Classed, at-most, prices-of, cells}
-use Rattle.folder.specs.Rows.{Falling, Stored, Single, Matches, Growing, RowReady, RowSolved, KeysReady, LevelReady, RowGround}
+use Rattle.folder.specs.Rows.{Falling, Stored, Single, Matches, Growing, RowReady, RowSolved, KeysReady, LevelReady, RowGround, Scratch}
 use Rattle.folder.proofs.Tables.{number-last, falling-numbered, stored-entered, stored-kept, entered-none}
 use Rattle.folder.proofs.Solving.{solved-entry}
 use Rattle.folder.proofs.Tables.{kept-others-none, kept-others-then, kept-of-others, below-others}
@@ -79,8 +79,15 @@ zeros zero i = refl
 zeros (suc n) zero = refl
 zeros (suc n) (suc i) = zeros n i
 
-pub keys-none : KeysReady (replicate 1025 0)
-keys-none = record { long = refl; low = λ c. omega (arith, zeros 1025 c) }
+pub scratch-none : Scratch (replicate 1025 0) (replicate 1025 0) (replicate 1025 0) (replicate 1025 0) (replicate 1025 0)
+scratch-none =
+    record {
+      long-offsets = refl;
+      long-numbers = refl;
+      long-kinds = refl;
+      long-matches = refl;
+      keys-ready = record { long = refl; low = λ c. omega (arith, zeros 1025 c) };
+    }
 
 -- The loop from the last sibling to the first: the rows from sibling i on are entered, and the matches from there on known.
 pub record Descended (s : List ℕ) (b limit : ℕ) (table prices costs₀ choices₀ : List ℕ) (i : ℕ) (costs choices matches : List ℕ) : Type 0 where
@@ -89,22 +96,23 @@ pub record Descended (s : List ℕ) (b limit : ℕ) (table prices costs₀ choic
   pub kept-choices : KeptOthers b (tree-of s) choices₀ choices
   pub long-matches : length matches ≡ 1025
   pub matched : Matches (back i (tree-of s)) matches
-  pub low : (w : ℕ) → getD matches w 0 + i ≤ 1024
+  pub low : (w : ℕ) → 0 < w → i + w ≤ siblings (tree-of s) → getD matches w 0 + i ≤ 1024
 
 module _ {s : List ℕ} {b limit : ℕ} {table prices costs₀ choices₀ : List ℕ} (ready : LevelReady s b limit table prices costs₀ choices₀) where
   run : Run (at-most limit) (tree-of s)
   run = ready .spelled .run (at-most limit)
 
   -- Past the last sibling nothing is left to enter or to match.
-  pub descended-none : (m : ℕ) → m ≡ siblings (tree-of s) → Descended s b limit table prices costs₀ choices₀ m costs₀ choices₀ (replicate 1025 0)
-  descended-none m e =
+  pub descended-none : (m : ℕ) (matches : List ℕ) → m ≡ siblings (tree-of s) → length matches ≡ 1025
+      → Descended s b limit table prices costs₀ choices₀ m costs₀ choices₀ matches
+  descended-none m matches e long =
       record {
         entered = rw e (entered-none _ _ _ _ _ _);
         kept-costs = kept-others-none _ _ _;
         kept-choices = kept-others-none _ _ _;
-        long-matches = refl;
+        long-matches = long;
         matched = record { matched = λ w p q. absurd (omega (arith, siblings-back m (tree-of s) (run .plain) (omega arith))) };
-        low = λ w. omega (arith, zeros 1025 w, siblings-few ready);
+        low = λ w p q. absurd (omega arith);
       }
 
   -- The next row, of sibling j: what it is solved from, and what it leaves.
@@ -161,7 +169,7 @@ module _ {s : List ℕ} {b limit : ℕ} {table prices costs₀ choices₀ : List
           kept-choices = kept-others-then _ _ _ _ _ (d .kept-choices) (rw last at kk);
           long-matches = g .long;
           matched = matched-again;
-          low = g .low;
+          low = λ w p q. g .low w p (omega arith);
         }
 
   -- Down to the first sibling the level is filled, and nothing outside its interval has changed.

@@ -189,7 +189,7 @@ pub record LevelReady (s : List ℕ) (b limit : ℕ) (table prices costs choices
 -- What growing the matches from sibling i + 1 to sibling i does.
 pub record Growing (kinds : List ℕ) (i m : ℕ) (before after : List ℕ) : Type 0 where
   pub long : length after ≡ 1025
-  pub low : (w : ℕ) → getD after w 0 + i ≤ 1024
+  pub low : (w : ℕ) → 0 < w → i + w ≤ m → getD after w 0 + i ≤ 1024
   pub matches : (A : Allowed) (t : Forest) → Run A t → siblings t ≡ m → Classed t m kinds → Matches (back (i + 1) t) before → Matches (back i t) after
 
 -- The cost of sibling i by itself, where the sequences inside the groups are entered.
@@ -207,3 +207,11 @@ pub record RowGround (s offsets numbers : List ℕ) (i m : ℕ) (matches : List 
   pub some : i < m
   pub long-matches : length matches ≡ 1025
   pub matched : Matches (back i (tree-of s)) matches
+
+-- The lent arrays that every sequence is worked in, one after the other.
+pub record Scratch (offsets numbers kinds matches keys : List ℕ) : Type 0 where
+  pub long-offsets : length offsets ≡ 1025
+  pub long-numbers : length numbers ≡ 1025
+  pub long-kinds : length kinds ≡ 1025
+  pub long-matches : length matches ≡ 1025
+  pub keys-ready : KeysReady keys

@@ -14,7 +14,7 @@ ghost use lib.ListN.{getD};
 ghost use Rattle.format.specs.Forest.{nodes};
 ghost use Rattle.format.specs.Tree.{tree-of};
 ghost use Rattle.folder.specs.Table.{Below, Entered, Filled, Kept, KeptOthers, at-most, prices-of};
-ghost use Rattle.folder.specs.Rows.{KeysReady, LevelReady, RowGround};
+ghost use Rattle.folder.specs.Rows.{KeysReady, LevelReady, RowGround, Scratch};
 
 // Solves and enters the row of sibling i, whose siblings are those of sibling i + w as far as they match.
 pub fn enter_row(
@@ -56,37 +56,39 @@ pub fn enter_level(
     table: &[u16],
     prices: &[u64],
     limit: usize,
+    offsets: &mut [usize],
+    numbers: &mut [usize],
+    kinds: &mut [usize],
+    matches: &mut [usize],
+    keys: &mut [u64],
     costs: &mut [u32],
     choices: &mut [u32],
 )
     requires { ⌜ LevelReady (now s) b limit (now table) (now prices) (now costs) (now choices) ⌝ }
     requires { ⌜ Below (at-most limit) (prices-of (now table) (now prices)) b (tree-of (now s)) (now costs) (now choices) ⌝ }
+    requires { ⌜ Scratch (now offsets) (now numbers) (now kinds) (now matches) (now keys) ⌝ }
+    ensures scratch { λ _. ⌜ Scratch (now (offsets .exit)) (now (numbers .exit)) (now (kinds .exit)) (now (matches .exit)) (now (keys .exit)) ⌝ }
     ensures entered { λ _. ⌜ Filled (at-most limit) (prices-of (now (table .entry)) (now (prices .entry))) b (tree-of (now (s .entry))) (now (costs .exit)) (now (choices .exit)) ⌝ }
     ensures kept { λ _. ⌜ Kept b (nodes (tree-of (now (s .entry)))) (now (costs .entry)) (now (costs .exit)) × Kept b (nodes (tree-of (now (s .entry)))) (now (choices .entry)) (now (choices .exit)) ⌝ }
 {
-    let mut offsets = [0usize; 1025];
-    let mut numbers = [0usize; 1025];
-    let mut kinds = [0usize; 1025];
-    let mut matches = [0usize; 1025];
-    let mut keys = [0u64; 1025];
-    let m = list_siblings(s, b, &mut offsets, &mut numbers);
-    classify(s, &offsets, m, &mut kinds);
+    let m = list_siblings(s, b, offsets, numbers);
+    classify(s, offsets, m, kinds);
     let mut i = m;
     while i > 0 {
         i -= 1;
-        let w = grow(&kinds, i, m, &mut matches);
+        let w = grow(kinds, i, m, matches);
         enter_row(
             s,
             table,
             prices,
             limit,
-            &offsets,
-            &numbers,
+            offsets,
+            numbers,
             i,
             m,
-            &matches,
+            matches,
             w,
-            &mut keys,
+            keys,
             costs,
             choices,
         );
@@ -100,10 +102,17 @@ pub fn enter_tree(
     table: &[u16],
     prices: &[u64],
     limit: usize,
+    offsets: &mut [usize],
+    numbers: &mut [usize],
+    kinds: &mut [usize],
+    matches: &mut [usize],
+    keys: &mut [u64],
     costs: &mut [u32],
     choices: &mut [u32],
 )
     requires { ⌜ LevelReady (now s) b limit (now table) (now prices) (now costs) (now choices) ⌝ }
+    requires { ⌜ Scratch (now offsets) (now numbers) (now kinds) (now matches) (now keys) ⌝ }
+    ensures scratch { λ _. ⌜ Scratch (now (offsets .exit)) (now (numbers .exit)) (now (kinds .exit)) (now (matches .exit)) (now (keys .exit)) ⌝ }
     ensures entered { λ _. ⌜ Filled (at-most limit) (prices-of (now (table .entry)) (now (prices .entry))) b (tree-of (now (s .entry))) (now (costs .exit)) (now (choices .exit)) ⌝ }
     ensures kept { λ _. ⌜ Kept b (nodes (tree-of (now (s .entry)))) (now (costs .entry)) (now (costs .exit)) × Kept b (nodes (tree-of (now (s .entry)))) (now (choices .entry)) (now (choices .exit)) ⌝ }
 {
@@ -114,9 +123,35 @@ pub fn enter_tree(
         let end = at + part.len();
         n -= count_nodes(part);
         if s[at] == Format::GROUP {
-            enter_tree(&s[at + 2..end - 1], n, table, prices, limit, costs, choices);
+            enter_tree(
+                &s[at + 2..end - 1],
+                n,
+                table,
+                prices,
+                limit,
+                offsets,
+                numbers,
+                kinds,
+                matches,
+                keys,
+                costs,
+                choices,
+            );
         }
         at = end;
     }
-    enter_level(s, b, table, prices, limit, costs, choices);
+    enter_level(
+        s,
+        b,
+        table,
+        prices,
+        limit,
+        offsets,
+        numbers,
+        kinds,
+        matches,
+        keys,
+        costs,
+        choices,
+    );
 }

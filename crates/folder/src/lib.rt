@@ -70,7 +70,25 @@ fn fold_run(
     requires { ⌜ nodes (tree-of (now run)) ≡ n ⌝ }
     ensures { λ r. ⌜ RunFolded (now (run .entry)) n limit (prices-of (now (table .entry)) (now (prices .entry))) (now (costs .entry)) (now (costs .exit)) (now (choices .entry)) (now (choices .exit)) (now (out .entry)) (now (out .exit)) r ⌝ }
 {
-    enter_tree(run, 0, table, prices, limit, costs, choices);
+    let mut offsets = [0usize; 1025];
+    let mut numbers = [0usize; 1025];
+    let mut kinds = [0usize; 1025];
+    let mut matches = [0usize; 1025];
+    let mut keys = [0u64; 1025];
+    enter_tree(
+        run,
+        0,
+        table,
+        prices,
+        limit,
+        &mut offsets,
+        &mut numbers,
+        &mut kinds,
+        &mut matches,
+        &mut keys,
+        costs,
+        choices,
+    );
     let length = fold_length(run, 0, choices);
     let cost = whole_cost(costs, n);
     let used = entries(n);

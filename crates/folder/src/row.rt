@@ -20,7 +20,7 @@ ghost use Rattle.folder.specs.Rows.{Growing, Falling, Single, KeysReady,
 // a width at which the most do.
 pub fn grow(kinds: &[usize], i: usize, m: usize, matches: &mut [usize]) -> usize
     requires { ⌜ (length (now kinds) ≡ 1025) × (length (now matches) ≡ 1025) × (m ≤ 1024) × (i < m) ⌝ }
-    requires { ⌜ ((w : ℕ) → getD (now matches) w 0 + i < 1024) ⌝ }
+    requires { ⌜ ((w : ℕ) → 0 < w → i + w < m → getD (now matches) w 0 + i < 1024) ⌝ }
     ensures grown { λ _. ⌜ Growing (now (kinds .entry)) i m (now (matches .entry)) (now (matches .exit)) ⌝ }
     ensures width { λ r. ⌜ (0 < r) × (i + r ≤ m) ⌝ }
 {

@@ -14,7 +14,7 @@ abbrev μ-loop : tie.MeasureT-loop
 μ-loop kinds i m matches₀ most₀ w₀ matches most w = m - w
 
 loop-holds : tie.Need-loop-holds Inv-loop μ-loop
-loop-holds c = (omega arith, omega arith, omega arith, omega arith, grown-none _ _ _ (c .pre .0 .1) (c .pre .1))
+loop-holds c = (omega arith, omega arith, omega arith, omega arith, grown-none _ _ _ (c .pre .0 .1))
 
 add-loop : tie.Need-add-loop Inv-loop μ-loop
 add-loop c = omega arith
@@ -43,7 +43,7 @@ slice-read-matches c = omega arith
 add-matches : tie.Need-add-matches Inv-loop μ-loop
 add-matches c =
     let L = c .before .before .before .before .before .loop in
-    omega (arith, L .inv .4 .low (L .w))
+    omega (arith, L .inv .4 .later (L .w) (omega arith), c .before .before .before .before .before .before .pre .1 (L .w) (omega arith) (omega arith))
 
 slice-write-matches : tie.Need-slice-write-matches Inv-loop μ-loop
 slice-write-matches c = omega arith
@@ -76,7 +76,7 @@ loop-again : tie.Need-loop-again Inv-loop μ-loop
 loop-again c =
     let S = c .before .before .before .before .before in
     let L = c .before .before .before .before .loop in
-    let same = grown-same _ _ _ _ _ (L .inv .4) (omega arith) (S .pre .1 (L .w)) in
+    let same = grown-same _ _ _ _ _ (L .inv .4) (omega arith) (S .pre .1 (L .w) (omega arith) (omega arith)) in
     ⊎-elim
     (λ x. (omega arith, omega arith, omega (arith, x .6), omega (arith, x .6), rw (x .5) (same (x .0 .taken))))
     (⊎-elim
