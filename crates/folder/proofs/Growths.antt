@@ -73,26 +73,21 @@ grown-none kinds i before long =
 
 module _ (kinds : List ℕ) (i w : ℕ) (before after : List ℕ) (g : Grown kinds i w before after) (short : w < 1025) where
   -- One width more.
-  put-more : (x : ℕ) → x + i ≤ 1024 → (getD kinds i 0 ≡ getD kinds (i + w) 0 → x ≡ getD before w 0 + 1)
+  pub grown-more : (x : ℕ) → getD before w 0 + i < 1024 → (getD kinds i 0 ≡ getD kinds (i + w) 0 → x ≡ getD after w 0 + 1)
       → ((getD kinds i 0 ≡ getD kinds (i + w) 0 → ⊥) → x ≡ 0) → Grown kinds i (w + 1) before (set after w x)
-  put-more x h p q =
+  grown-more x h p q =
+      let same = g .later w (omega arith) in
+      let few : x + i ≤ 1024 =
+      elim (ℕ-discrete (getD kinds i 0) (getD kinds (i + w) 0)) [ yes e ↦ omega (arith, p e) | no e ↦ omega (arith, q e) ] in
       record {
         long = simp length-set (g .long);
-        low = λ v a l. entry-more (λ u y. 0 < u → y + i ≤ 1024) after w x (omega (arith, g .long)) (λ u k b. g .low u b k) (λ b. h) v l a;
+        low = λ v a l. entry-more (λ u y. 0 < u → y + i ≤ 1024) after w x (omega (arith, g .long)) (λ u k b. g .low u b k) (λ b. few) v l a;
         more = λ v a l. entry-more (λ u y. 0 < u → getD kinds i 0 ≡ getD kinds (i + u) 0 → y ≡ getD before u 0 + 1) after w x (omega (arith, g .long))
-            (λ u k b. g .more u b k) (λ b. p) v l a;
+            (λ u k b. g .more u b k) (λ b e. omega (arith, p e)) v l a;
         none = λ v a l. entry-more (λ u y. 0 < u → (getD kinds i 0 ≡ getD kinds (i + u) 0 → ⊥) → y ≡ 0) after w x (omega (arith, g .long))
             (λ u k b. g .none u b k) (λ b. q) v l a;
         later = λ v l. getD-set-other after w v x 0 (λ e. omega arith) ∙ g .later v (omega arith);
       }
-
-  pub grown-same : getD before w 0 + i < 1024 → getD kinds i 0 ≡ getD kinds (i + w) 0 → Grown kinds i (w + 1) before (set after w (getD after w 0 + 1))
-  grown-same h e =
-      let x = g .later w (omega arith) in
-      put-more (getD after w 0 + 1) (omega arith) (λ p. omega arith) (λ p. absurd (p e))
-
-  pub grown-other : i ≤ 1024 → (getD kinds i 0 ≡ getD kinds (i + w) 0 → ⊥) → Grown kinds i (w + 1) before (set after w 0)
-  grown-other h n = put-more 0 (omega arith) (λ e. absurd (n e)) (λ e. refl)
 
   -- At the last width nothing is left to match.
   pub grown-all : (m : ℕ) → i < m → m ≤ 1024 → i + w ≡ m → Growing kinds i m before (set after w 0)

@@ -38,6 +38,11 @@ module _ (numbers : List ℕ) (m room : ℕ) (r : Falling numbers m room) where
         r .fits,
       )
 
+-- So that entry may be read.
+pub falling-read : {numbers : List ℕ} {m room : ℕ} (i j : ℕ) → i < j → j ≤ m → Falling numbers m room
+    → (j < length numbers) × (getD numbers j 0 < getD numbers i 0) × (getD numbers i 0 ≤ 1024) × (cell (getD numbers j 0) (getD numbers i 0) < room)
+falling-read i j l h r = (omega (arith, r .short), r .fall i j l h, falling-most _ _ _ r i (omega arith), falling-cell _ _ _ r i j l h)
+
 -- The first of numbers that fall.
 pub falling-less : {numbers : List ℕ} {m room : ℕ} (k : ℕ) → k ≤ m → Falling numbers m room → Falling numbers k room
 falling-less k h r =

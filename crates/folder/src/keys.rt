@@ -1,6 +1,6 @@
 // The keys of one row: where they come from before any repeat is offered, and what a solved stretch does to those of longer ones.
 // A key is cost, count and width in one number, so that the least key is the cheapest choice and ties go by byte order.
-use crate::table::look;
+use crate::table::read;
 ghost use mathlib.Core.Path.{_≡_};
 ghost use mathlib.Core.Logic.{_⊎_};
 ghost use Prim.Native.Nat.{ℕ, _+_, _-_, _*_, _/_, _%_, _<_, _≤_};
@@ -20,9 +20,10 @@ pub fn copy_row(
     requires { ⌜ (length (now keys) ≡ 1025) × (n ≤ 1024) × ((c : ℕ) → getD (now keys) c 0 ≤ top-key) ⌝ }
     ensures { λ _. ⌜ Copied (now (costs .entry)) (now (choices .entry)) (now (numbers .entry)) j n (now (keys .entry)) (now (keys .exit)) ⌝ }
 {
+    let q = numbers[j];
     let mut d = 1;
     while d <= n {
-        keys[d] = look(costs, numbers, j, j + d) * 2097152 + look(choices, numbers, j, j + d);
+        keys[d] = read(costs, numbers, q, j + d) * 2097152 + read(choices, numbers, q, j + d);
         d += 1;
     }
 }
@@ -39,12 +40,13 @@ pub fn plain_row(
 )
     requires { ⌜ Falling (now numbers) (i + n) (length (now costs)) ⌝ }
     requires { ⌜ (length (now keys) ≡ 1025) × (n ≤ 1024) × ((c : ℕ) → getD (now keys) c 0 ≤ top-key) ⌝ }
-    requires { ⌜ (own < 4294967296) × (2 ≤ from) × (from ≤ 1025) ⌝ }
+    requires { ⌜ (own < 4294967296) × (2 ≤ from) × (from ≤ 1025) × (0 < n) ⌝ }
     ensures { λ _. ⌜ Plainly (now (costs .entry)) (now (numbers .entry)) i n own from (now (keys .entry)) (now (keys .exit)) ⌝ }
 {
+    let q = numbers[i + 1];
     let mut d = from;
     while d <= n {
-        keys[d] = (own + look(costs, numbers, i + 1, i + d)) * 2097152;
+        keys[d] = (own + read(costs, numbers, q, i + d)) * 2097152;
         d += 1;
     }
 }
@@ -77,12 +79,13 @@ pub fn push(
     keys: &mut [u64],
 )
     requires { ⌜ Falling (now numbers) (i + n) (length (now costs)) ⌝ }
-    requires { ⌜ (length (now keys) ≡ 1025) × (n ≤ 1024) × (c < from) × (from ≤ 1025) × (k ≤ top-key) ⌝ }
+    requires { ⌜ (length (now keys) ≡ 1025) × (n ≤ 1024) × (c < from) × (from ≤ 1025) × (k ≤ top-key) × (c ≤ n) ⌝ }
     ensures { λ _. ⌜ Pushing (now (costs .entry)) (now (numbers .entry)) i n c k from (now (keys .entry)) (now (keys .exit)) ⌝ }
 {
+    let q = numbers[i + c];
     let mut d = from;
     while d <= n {
-        keys[d] = lesser(k + look(costs, numbers, i + c, i + d) * 2097152, keys[d]);
+        keys[d] = lesser(k + read(costs, numbers, q, i + d) * 2097152, keys[d]);
         d += 1;
     }
 }

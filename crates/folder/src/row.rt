@@ -16,6 +16,17 @@ ghost use Rattle.format.specs.Tree.{tree-of};
 ghost use Rattle.folder.specs.Table.{Spelled, Placed, Numbered};
 ghost use Rattle.folder.specs.Rows.{Growing, Falling, Single, KeysReady, Started, Settled, Advanced};
 
+// One more than k where two siblings are equal, else none.
+fn longer(a: usize, b: usize, k: usize) -> usize
+    requires { ⌜ k < 1024 ⌝ }
+    ensures { λ r. ⌜ ((a ≡ b → r ≡ k + 1)) × (((a ≡ b → ⊥) → r ≡ 0)) ⌝ }
+{
+    if a == b {
+        return k + 1;
+    }
+    0
+}
+
 // Grows the matches from sibling i + 1 to sibling i: how many siblings from i on equal the one w further, for each width w. Answers
 // a width at which the most do.
 pub fn grow(kinds: &[usize], i: usize, m: usize, matches: &mut [usize]) -> usize
@@ -24,16 +35,16 @@ pub fn grow(kinds: &[usize], i: usize, m: usize, matches: &mut [usize]) -> usize
     ensures grown { λ _. ⌜ Growing (now (kinds .entry)) i m (now (matches .entry)) (now (matches .exit)) ⌝ }
     ensures width { λ r. ⌜ (0 < r) × (i + r ≤ m) ⌝ }
 {
+    let kind = kinds[i];
     let mut most = 1;
+    let mut far = 0;
     let mut w = 1;
     while i + w < m {
-        if kinds[i] == kinds[i + w] {
-            matches[w] += 1;
-            if matches[most] < matches[w] {
-                most = w;
-            }
-        } else {
-            matches[w] = 0;
+        let k = longer(kind, kinds[i + w], matches[w]);
+        matches[w] = k;
+        if far < k {
+            far = k;
+            most = w;
         }
         w += 1;
     }

@@ -28,13 +28,21 @@ pub fn entry(p: usize, q: usize) -> usize
     q * (q - 1) / 2 + p
 }
 
+// The cost or choice of the stretch from the sibling of number q up to sibling j.
+pub fn read(w: &[u32], numbers: &[usize], q: usize, j: usize) -> u64
+    requires { ⌜ (j < length (now numbers)) × (getD (now numbers) j 0 < q) × (q ≤ 1024) × (cell (getD (now numbers) j 0) q < length (now w)) ⌝ }
+    ensures { λ r. ⌜ (r ≡ getD (now (w .entry)) (cell (getD (now (numbers .entry)) j 0) q) 0) × (r < 4294967296) ⌝ }
+{
+    widen(w[entry(numbers[j], q)])
+}
+
 // The cost or choice of the stretch of siblings from i up to j.
 pub fn look(w: &[u32], numbers: &[usize], i: usize, j: usize) -> u64
     requires { ⌜ Falling (now numbers) j (length (now w)) ⌝ }
     requires { ⌜ i < j ⌝ }
     ensures { λ r. ⌜ (r ≡ getD (now (w .entry)) (cell (getD (now (numbers .entry)) j 0) (getD (now (numbers .entry)) i 0)) 0) × (r < 4294967296) ⌝ }
 {
-    widen(w[entry(numbers[j], numbers[i])])
+    read(w, numbers, numbers[i], j)
 }
 
 // Enters a row, costs and choices by the keys: the stretches of 1 to n siblings from sibling i on.
@@ -52,11 +60,13 @@ pub fn store_row(
     ensures costs { λ _. ⌜ Stored (now (numbers .entry)) i n (λ d. getD (now (keys .entry)) d 0 / 2097152) (now (costs .entry)) (now (costs .exit)) ⌝ }
     ensures choices { λ _. ⌜ Stored (now (numbers .entry)) i n (λ d. getD (now (keys .entry)) d 0 % 2097152) (now (choices .entry)) (now (choices .exit)) ⌝ }
 {
+    let q = numbers[i];
     let mut d = 1;
     while d <= n {
-        let at = entry(numbers[i + d], numbers[i]);
-        costs[at] = (keys[d] / 2097152) as u32;
-        choices[at] = (keys[d] % 2097152) as u32;
+        let at = entry(numbers[i + d], q);
+        let key = keys[d];
+        costs[at] = (key / 2097152) as u32;
+        choices[at] = (key % 2097152) as u32;
         d += 1;
     }
 }

@@ -1,34 +1,46 @@
 -- `folder::keys::copy_row` meets its contract. The loop's invariant: the places from 1 up to below d have the keys of the other row.
 use native.Mathlib.Omega.{arith}
-use Prim.Native.Nat.{_-_, _≤_}
-use Rattle.folder.proofs.Tables.{falling-less}
+use Prim.Native.Nat.{_+_, _-_, _≤_}
+use Rattle.folder.proofs.Tables.{falling-read}
 use Rattle.folder.proofs.Putting.{Put, OfRow, put-none, put-more, copied-all}
 use Rattle.folder.proofs.keys.copy_row.Statement.{statement}
 use Rattle.folder.proofs.keys.copy_row.Tie as tie
 
 abbrev Inv-loop : tie.InvT-loop
-Inv-loop costs choices numbers j n keys₀ d₀ keys d = (d ≤ 1025) × Put (OfRow costs choices numbers j) 1 d keys₀ keys
+Inv-loop costs choices numbers j n keys₀ q d₀ keys d = (d ≤ 1025) × Put (OfRow costs choices numbers j) 1 d keys₀ keys
 
 abbrev μ-loop : tie.MeasureT-loop
-μ-loop costs choices numbers j n keys₀ d₀ keys d = 1025 - d
+μ-loop costs choices numbers j n keys₀ q d₀ keys d = 1025 - d
+
+mul-q : tie.Need-mul-q Inv-loop μ-loop
+mul-q c = omega (arith, c .before .before .before .before .pre .0 .0 .short)
+
+shared-slice-read-q : tie.Need-shared-slice-read-q Inv-loop μ-loop
+shared-slice-read-q c = omega (arith, c .before .before .before .before .before .pre .0 .0 .short)
 
 loop-holds : tie.Need-loop-holds Inv-loop μ-loop
 loop-holds c = (omega arith, put-none _ _ _)
 
-add-look : tie.Need-add-look Inv-loop μ-loop
-add-look c = omega arith
+add-read : tie.Need-add-read Inv-loop μ-loop
+add-read c = omega arith
 
-look-requires : tie.Need-look-requires Inv-loop μ-loop
-look-requires c κs = let S = c .before .before .before .before .before .before in (falling-less _ (omega arith) (S .pre .0 .0), omega (arith, c .before .loop .inv .1 .late))
+read-requires : tie.Need-read-requires Inv-loop μ-loop
+read-requires c κs =
+    let S = c .before .before .before .before .before .before .before in
+    let late = c .before .loop .inv .1 .late in
+    falling-read (S .args .j) (S .args .j + c .before .loop .d) (omega arith) (omega arith) (S .pre .0 .0)
 
 mul-keys : tie.Need-mul-keys Inv-loop μ-loop
 mul-keys c = omega arith
 
-add-look-2 : tie.Need-add-look-2 Inv-loop μ-loop
-add-look-2 c = omega arith
+add-read-2 : tie.Need-add-read-2 Inv-loop μ-loop
+add-read-2 c = omega arith
 
-look-requires-2 : tie.Need-look-requires-2 Inv-loop μ-loop
-look-requires-2 c κs = let S = c .before .before .before .before .before .before .before in (falling-less _ (omega arith) (S .pre .0 .1), omega (arith, c .before .before .loop .inv .1 .late))
+read-requires-2 : tie.Need-read-requires-2 Inv-loop μ-loop
+read-requires-2 c κs =
+    let S = c .before .before .before .before .before .before .before .before in
+    let late = c .before .before .loop .inv .1 .late in
+    falling-read (S .args .j) (S .args .j + c .before .before .loop .d) (omega arith) (omega arith) (S .pre .0 .1)
 
 add-keys : tie.Need-add-keys Inv-loop μ-loop
 add-keys c = omega arith
@@ -48,13 +60,13 @@ loop-less c = omega arith
 loop-again : tie.Need-loop-again Inv-loop μ-loop
 loop-again c =
     let L = c .before .before .before .loop in
-    (omega arith, put-more _ _ _ _ _ (L .inv .1) _ (omega arith) (omega arith, omega (arith, c .before .look .ensures .0, c .look2 .ensures .0)))
+    (omega arith, put-more _ _ _ _ _ (L .inv .1) _ (omega arith) (omega arith, omega (arith, c .before .read .ensures .0, c .read2 .ensures .0)))
 
 same-length : tie.Need-same-length Inv-loop μ-loop
 same-length c = c .before .loop .inv .1 .same-length
 
 returns : tie.Need-returns Inv-loop μ-loop
-returns c = let S = c .before .before .before .before .before .before in copied-all _ _ _ _ _ _ _ _ (S .pre .1 .2) (omega arith) (c .before .loop .inv .1)
+returns c = let S = c .before .before .before .before .before .before .before in copied-all _ _ _ _ _ _ _ _ (S .pre .1 .2) (omega arith) (c .before .loop .inv .1)
 
 pub copy-row-spec : {M : Type 1} → statement M
 copy-row-spec =
@@ -62,12 +74,14 @@ copy-row-spec =
     (tie.spec
     Inv-loop
     μ-loop
+    mul-q
+    shared-slice-read-q
     loop-holds
-    add-look
-    look-requires
+    add-read
+    read-requires
     mul-keys
-    add-look-2
-    look-requires-2
+    add-read-2
+    read-requires-2
     add-keys
     mul-keys-2
     slice-write-keys

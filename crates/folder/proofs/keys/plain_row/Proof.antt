@@ -1,28 +1,37 @@
 -- `folder::keys::plain_row` meets its contract. The loop's invariant: the places from `from` up to below d have the keys of the plain node.
 use native.Mathlib.Omega.{arith}
-use Prim.Native.Nat.{_-_, _≤_}
-use Rattle.folder.proofs.Tables.{falling-less}
+use Prim.Native.Nat.{_+_, _-_, _≤_}
+use Rattle.folder.proofs.Tables.{falling-read}
 use Rattle.folder.proofs.Putting.{Put, OfPlain, put-none, put-more, plainly-all}
 use Rattle.folder.proofs.keys.plain_row.Statement.{statement}
 use Rattle.folder.proofs.keys.plain_row.Tie as tie
 
 abbrev Inv-loop : tie.InvT-loop
-Inv-loop costs numbers i n own from keys₀ d₀ keys d = (d ≤ 1025) × Put (OfPlain costs numbers i own) from d keys₀ keys
+Inv-loop costs numbers i n own from keys₀ q d₀ keys d = (d ≤ 1025) × Put (OfPlain costs numbers i own) from d keys₀ keys
 
 abbrev μ-loop : tie.MeasureT-loop
-μ-loop costs numbers i n own from keys₀ d₀ keys d = 1025 - d
+μ-loop costs numbers i n own from keys₀ q d₀ keys d = 1025 - d
+
+add-q : tie.Need-add-q Inv-loop μ-loop
+add-q c = omega (arith, c .before .before .before .pre .0 .short, c .before .before .before .good)
+
+mul-q : tie.Need-mul-q Inv-loop μ-loop
+mul-q c = omega (arith, c .before .before .before .pre .0 .short)
+
+shared-slice-read-q : tie.Need-shared-slice-read-q Inv-loop μ-loop
+shared-slice-read-q c = omega (arith, c .before .before .before .before .pre .0 .short)
 
 loop-holds : tie.Need-loop-holds Inv-loop μ-loop
 loop-holds c = (omega arith, put-none _ _ _)
 
-add-look : tie.Need-add-look Inv-loop μ-loop
-add-look c = omega arith
+add-read : tie.Need-add-read Inv-loop μ-loop
+add-read c = omega arith
 
-add-look-2 : tie.Need-add-look-2 Inv-loop μ-loop
-add-look-2 c = omega arith
-
-look-requires : tie.Need-look-requires Inv-loop μ-loop
-look-requires c κs = let S = c .before .before .before .before .before in (falling-less _ (omega arith) (S .pre .0), omega (arith, c .before .loop .inv .1 .late))
+read-requires : tie.Need-read-requires Inv-loop μ-loop
+read-requires c κs =
+    let S = c .before .before .before .before .before .before in
+    let late = c .before .loop .inv .1 .late in
+    falling-read (S .args .i + 1) (S .args .i + c .before .loop .d) (omega arith) (omega arith) (S .pre .0)
 
 add-keys : tie.Need-add-keys Inv-loop μ-loop
 add-keys c = omega arith
@@ -45,13 +54,13 @@ loop-less c = omega arith
 loop-again : tie.Need-loop-again Inv-loop μ-loop
 loop-again c =
     let L = c .before .before .loop in
-    (omega arith, put-more _ _ _ _ _ (L .inv .1) _ (omega arith) (omega arith, omega (arith, c .look .ensures .0)))
+    (omega arith, put-more _ _ _ _ _ (L .inv .1) _ (omega arith) (omega arith, omega (arith, c .read .ensures .0)))
 
 same-length : tie.Need-same-length Inv-loop μ-loop
 same-length c = c .before .loop .inv .1 .same-length
 
 returns : tie.Need-returns Inv-loop μ-loop
-returns c = let S = c .before .before .before .before .before in plainly-all _ _ _ _ _ _ _ _ _ (S .pre .1 .0 .2) (omega arith) (c .before .loop .inv .1)
+returns c = let S = c .before .before .before .before .before .before in plainly-all _ _ _ _ _ _ _ _ _ (S .pre .1 .0 .2) (omega arith) (c .before .loop .inv .1)
 
 pub plain-row-spec : {M : Type 1} → statement M
 plain-row-spec =
@@ -59,10 +68,12 @@ plain-row-spec =
     (tie.spec
     Inv-loop
     μ-loop
+    add-q
+    mul-q
+    shared-slice-read-q
     loop-holds
-    add-look
-    add-look-2
-    look-requires
+    add-read
+    read-requires
     add-keys
     mul-keys
     mul-keys-2

@@ -2,29 +2,38 @@
 -- what is pushed.
 use mathlib.Core.Logic.{inl, inr, ⊎-elim}
 use native.Mathlib.Omega.{arith}
-use Prim.Native.Nat.{_-_, _≤_}
-use Rattle.folder.proofs.Tables.{falling-less}
+use Prim.Native.Nat.{_+_, _-_, _≤_}
+use Rattle.folder.proofs.Tables.{falling-read}
 use Rattle.folder.proofs.Putting.{Put, OfPush, put-none, put-more, pushing-all}
 use Rattle.folder.proofs.keys.push.Statement.{statement}
 use Rattle.folder.proofs.keys.push.Tie as tie
 
 abbrev Inv-loop : tie.InvT-loop
-Inv-loop costs numbers i n c k from keys₀ d₀ keys d = (d ≤ 1025) × Put (OfPush costs numbers i n c k keys₀) from d keys₀ keys
+Inv-loop costs numbers i n c k from keys₀ q d₀ keys d = (d ≤ 1025) × Put (OfPush costs numbers i n c k keys₀) from d keys₀ keys
 
 abbrev μ-loop : tie.MeasureT-loop
-μ-loop costs numbers i n c k from keys₀ d₀ keys d = 1025 - d
+μ-loop costs numbers i n c k from keys₀ q d₀ keys d = 1025 - d
+
+add-q : tie.Need-add-q Inv-loop μ-loop
+add-q c = omega (arith, c .before .before .before .pre .0 .short, c .before .before .before .good)
+
+mul-q : tie.Need-mul-q Inv-loop μ-loop
+mul-q c = omega (arith, c .before .before .before .pre .0 .short)
+
+shared-slice-read-q : tie.Need-shared-slice-read-q Inv-loop μ-loop
+shared-slice-read-q c = omega (arith, c .before .before .before .before .pre .0 .short)
 
 loop-holds : tie.Need-loop-holds Inv-loop μ-loop
 loop-holds c = (omega arith, put-none _ _ _)
 
-add-look : tie.Need-add-look Inv-loop μ-loop
-add-look c = omega arith
+add-read : tie.Need-add-read Inv-loop μ-loop
+add-read c = omega arith
 
-add-look-2 : tie.Need-add-look-2 Inv-loop μ-loop
-add-look-2 c = omega arith
-
-look-requires : tie.Need-look-requires Inv-loop μ-loop
-look-requires c κs = let S = c .before .before .before .before .before in (falling-less _ (omega arith) (S .pre .0), omega (arith, c .before .loop .inv .1 .late))
+read-requires : tie.Need-read-requires Inv-loop μ-loop
+read-requires c κs =
+    let S = c .before .before .before .before .before .before in
+    let late = c .before .loop .inv .1 .late in
+    falling-read (S .args .i + S .args .c) (S .args .i + c .before .loop .d) (omega arith) (omega arith) (S .pre .0)
 
 mul-lesser : tie.Need-mul-lesser Inv-loop μ-loop
 mul-lesser c = omega arith
@@ -56,7 +65,7 @@ loop-less c = omega arith
 loop-again : tie.Need-loop-again Inv-loop μ-loop
 loop-again c =
     let L = c .before .before .before .before .loop in
-    let cost = c .before .before .look .ensures .0 in
+    let cost = c .before .before .read .ensures .0 in
     let old = L .inv .1 .kept (L .d) (inr (omega arith)) in
     let r = c .lesser .ensures in
     (omega arith, put-more _ _ _ _ _ (L .inv .1) _ (omega arith) (omega arith, omega arith, omega arith, ⊎-elim (λ e. inl (omega arith)) (λ e. inr (omega arith)) (r .2)))
@@ -65,7 +74,7 @@ same-length : tie.Need-same-length Inv-loop μ-loop
 same-length c = c .before .loop .inv .1 .same-length
 
 returns : tie.Need-returns Inv-loop μ-loop
-returns c = let S = c .before .before .before .before .before in pushing-all _ _ _ _ _ _ _ _ _ _ (omega arith) (c .before .loop .inv .1)
+returns c = let S = c .before .before .before .before .before .before in pushing-all _ _ _ _ _ _ _ _ _ _ (omega arith) (c .before .loop .inv .1)
 
 pub push-spec : {M : Type 1} → statement M
 push-spec =
@@ -73,10 +82,12 @@ push-spec =
     (tie.spec
     Inv-loop
     μ-loop
+    add-q
+    mul-q
+    shared-slice-read-q
     loop-holds
-    add-look
-    add-look-2
-    look-requires
+    add-read
+    read-requires
     mul-lesser
     add-lesser
     mul-lesser-2

@@ -54,7 +54,7 @@ push-requires c κs =
     let S = c .before .before .before .before .before .before .before .before .before in
     let p = S .pre in (
       falling-less _ (omega arith) (p .0),
-      (p .1 .0 .0 .long, omega arith, c .before .past .ensures .0, c .before .past .ensures .2, p .1 .0 .0 .low (S .args .d)),
+      (p .1 .0 .0 .long, omega arith, c .before .past .ensures .0, c .before .past .ensures .2, p .1 .0 .0 .low (S .args .d), omega arith),
     )
 
 count-past-requires : tie.Need-count-past-requires

@@ -49,7 +49,7 @@ plain-row-requires c κs =
       falling-less _ (omega arith) (S .pre .0 .0),
       (
         (k .long, omega arith, k .low),
-        (omega arith, f .0, f .2 1025 (omega arith) (omega arith)),
+        (omega arith, f .0, f .2 1025 (omega arith) (omega arith), omega arith),
       ),
     )
 
