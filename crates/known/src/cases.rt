@@ -1,17 +1,15 @@
 // The known folds of document 01, the marked ones too: what the folder writes, read and unrolled back.
-use crate::command::put_byte;
-use crate::lent::begins;
-use crate::lent::fill_bytes;
-use crate::lent::fold_checked;
-use crate::lent::untouched;
-use crate::print::difference;
-use crate::print::number;
-use crate::print::word;
 use format::Folded;
 use format::Format;
 use reader::read_fold;
 use reader::read_run;
-use unroller::unroll;
+use trying::begins;
+use trying::difference;
+use trying::fold_checked;
+use trying::number;
+use trying::put_byte;
+use trying::unrolls;
+use trying::word;
 
 // Whether a fold has these values by the fold reader.
 fn reads(
@@ -37,23 +35,6 @@ fn reads(
         return false;
     }
     r.cost == cost
-}
-
-// Whether a fold unrolls to a run, with the text beyond it untouched.
-fn unrolls(fold: &[u8], limit: usize, run: &[u8], text: &mut [u8]) -> bool {
-    fill_bytes(text);
-    let r = unroll(fold, limit, text);
-    let n = r.length;
-    if r.refusal != 0 {
-        return false;
-    }
-    if r.place != 0 {
-        return false;
-    }
-    if !untouched(text, n) {
-        return false;
-    }
-    begins(text, n, run)
 }
 
 // Prints an answer of the folder.

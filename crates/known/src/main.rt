@@ -1,31 +1,8 @@
-// The program of known folds: the folds and the refusals that document 01 names, the parts of nodes, and all short runs
-// against a trial of every fold. It prints what it saw, and a line that begins with `difference` where that is not right.
+// The program of known folds: the folds and the refusals that document 01 names, and the parts of nodes. It prints what it
+// saw, and a line that begins with `difference` where that is not right.
 mod cases;
-mod command;
-mod compare;
-mod lent;
 mod parts;
-mod print;
 mod refusals;
-mod runs;
-mod trial;
-
-use compare::Settings;
-use compare::Sums;
-use print::number;
-use print::word;
-use runs::try_runs;
-
-// Prints what was tried.
-fn show(name: &[u8], s: Sums) {
-    word(name);
-    number(b": runs ", s.runs);
-    number(b", folds ", s.folds);
-    number(b", compared ", s.compared);
-    number(b", cost ", s.cost);
-    number(b", length ", s.length);
-    word(b"\n");
-}
 
 fn main() {
     cases::marked();
@@ -36,9 +13,4 @@ fn main() {
     refusals::settings();
     refusals::room();
     parts::parts();
-    let all = Settings { from: 0, to: 25 };
-    let some = Settings { from: 4, to: 10 };
-    show(b"runs of up to 5 nodes", try_runs(all, true, 5));
-    show(b"runs of up to 6 nodes", try_runs(some, true, 6));
-    show(b"runs of up to 9 steps", try_runs(all, false, 9));
 }

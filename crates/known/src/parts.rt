@@ -1,9 +1,11 @@
 // The parts of nodes, and siblings compared by them.
-use crate::print::difference;
-use crate::print::number;
-use crate::print::word;
 use reader::part;
 use reader::same_node;
+use trying::above;
+use trying::difference;
+use trying::number;
+use trying::wide;
+use trying::word;
 
 // Whether the part at an offset is that many bytes of the run.
 fn part_is(run: &[u8], at: usize, n: usize) -> bool {
@@ -20,15 +22,9 @@ fn part_is(run: &[u8], at: usize, n: usize) -> bool {
     check::same(p, &run[at..at + n])
 }
 
-fn wide(x: u8) -> usize {
-    x as usize
-}
-
 fn counted(n: usize, more: bool) -> usize {
     if more {
-        if n < 1000 {
-            return n + 1;
-        }
+        return above(n);
     }
     n
 }

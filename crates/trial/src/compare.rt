@@ -1,0 +1,276 @@
+// The folder against the trial of every fold: the best of all folds of a run, by cost and then by byte order, at several
+// prices and limits.
+use crate::folds::fold_at;
+use crate::folds::gather;
+use reader::read_fold;
+use reader::read_run;
+use std::num::wrapping_add_u64;
+use trying::begins;
+use trying::difference;
+use trying::fold_checked;
+
+// Prices: of the labels 1 and 2, and of a repeat.
+struct Setting {
+    one: u16,
+    two: u16,
+    first: u16,
+    each: u16,
+}
+
+fn prices(one: u16, two: u16, first: u16, each: u16) -> Setting {
+    Setting {
+        one,
+        two,
+        first,
+        each,
+    }
+}
+
+// The prices that are tried: unit costs, first 0, each 5, labels that cost nothing, and labels that cost unlike.
+fn prices_of(k: usize) -> Setting {
+    if k == 0 {
+        return prices(1, 1, 1, 0);
+    }
+    if k == 1 {
+        return prices(1, 1, 0, 0);
+    }
+    if k == 2 {
+        return prices(1, 1, 1, 5);
+    }
+    if k == 3 {
+        return prices(0, 0, 1, 0);
+    }
+    prices(3, 1, 2, 1)
+}
+
+// The limits that are tried: 0 to 3, and the largest.
+fn limit_of(k: usize) -> usize {
+    if k < 4 {
+        return k;
+    }
+    1024
+}
+
+// Whether one fold's bytes come before another's: the lower byte at the first difference.
+fn before(a: &[u8], b: &[u8]) -> bool {
+    let mut i = 0;
+    while i < a.len() {
+        if i < b.len() {
+            if a[i] < b[i] {
+                return true;
+            }
+            if b[i] < a[i] {
+                return false;
+            }
+        }
+        i += 1;
+    }
+    false
+}
+
+// The best fold so far: whether there is one, its number in the pool, and its cost.
+struct Best {
+    some: bool,
+    number: usize,
+    cost: u64,
+}
+
+// The better of the best so far and fold k, which counts only if it is within the limit.
+fn better(
+    best: Best,
+    k: usize,
+    pool: &[u8],
+    lengths: &[usize],
+    limit: usize,
+    table: &[u16],
+    first: u16,
+    each: u16,
+) -> Best {
+    let fold = fold_at(pool, lengths, k);
+    let r = read_fold(fold, limit, table, first, each);
+    let this = Best {
+        some: true,
+        number: k,
+        cost: r.cost,
+    };
+    if r.refusal != 0 {
+        return best;
+    }
+    if !best.some {
+        return this;
+    }
+    if r.cost < best.cost {
+        return this;
+    }
+    if best.cost < r.cost {
+        return best;
+    }
+    if before(fold, fold_at(pool, lengths, best.number)) {
+        return this;
+    }
+    best
+}
+
+// The best fold of the pool.
+fn best_of(
+    found: usize,
+    pool: &[u8],
+    lengths: &[usize],
+    limit: usize,
+    table: &[u16],
+    first: u16,
+    each: u16,
+) -> Best {
+    let mut best = Best {
+        some: false,
+        number: 0,
+        cost: 0,
+    };
+    let mut k = 0;
+    while k < found {
+        best = better(best, k, pool, lengths, limit, table, first, each);
+        k += 1;
+    }
+    best
+}
+
+// What was tried, and whether all agreed: runs, their folds, comparisons, and the sums of the cheapest folds' costs and lengths.
+pub struct Sums {
+    pub right: bool,
+    pub runs: u64,
+    pub folds: u64,
+    pub compared: u64,
+    pub cost: u64,
+    pub length: u64,
+}
+
+pub fn nothing() -> Sums {
+    Sums {
+        right: true,
+        runs: 0,
+        folds: 0,
+        compared: 0,
+        cost: 0,
+        length: 0,
+    }
+}
+
+// The folder's fold at one setting of prices and limit, against the best of the pool.
+fn compare(
+    mut sums: Sums,
+    setting: usize,
+    run: &[u8],
+    found: usize,
+    pool: &[u8],
+    lengths: &[usize],
+) -> Sums {
+    let p = prices_of(setting / 5);
+    let limit = limit_of(setting % 5);
+    let mut table = [7u16; 256];
+    table[1] = p.one;
+    table[2] = p.two;
+    let mut costs = [0u32; 60];
+    let mut choices = [0u32; 60];
+    let mut out = [0u8; 64];
+    let c = fold_checked(
+        run,
+        limit,
+        &table,
+        p.first,
+        p.each,
+        &mut costs,
+        &mut choices,
+        &mut out,
+    );
+    let r = c.answer;
+    let n = r.length;
+    let best = best_of(found, pool, lengths, limit, &table, p.first, p.each);
+    let right = agree(c.right, r.refusal, r.cost, best);
+    sums.compared = wrapping_add_u64(sums.compared, 1);
+    sums.cost = wrapping_add_u64(sums.cost, r.cost);
+    sums.length = wrapping_add_u64(sums.length, n as u64);
+    if !right {
+        sums.right = false;
+    }
+    if !begins(&out, n, fold_at(pool, lengths, best.number)) {
+        sums.right = false;
+    }
+    sums
+}
+
+// Whether the folder's answer is that of the best fold.
+fn agree(right: bool, refusal: u8, cost: u64, best: Best) -> bool {
+    if refusal != 0 {
+        return false;
+    }
+    if !best.some {
+        return false;
+    }
+    if cost != best.cost {
+        return false;
+    }
+    right
+}
+
+// The settings of prices and limits from one up to another; there are 25.
+pub struct Settings {
+    pub from: usize,
+    pub to: usize,
+}
+
+fn compare_all(
+    before: Sums,
+    at: Settings,
+    run: &[u8],
+    found: usize,
+    pool: &[u8],
+    lengths: &[usize],
+) -> Sums {
+    let mut sums = before;
+    let mut setting = at.from;
+    while setting < at.to {
+        sums = compare(sums, setting, run, found, pool, lengths);
+        setting += 1;
+    }
+    sums
+}
+
+// One run, at some settings, against all its folds.
+pub fn try_run(mut sums: Sums, at: Settings, run: &[u8]) -> Sums {
+    let mut text = [0u8; 128];
+    let mut starts = [0usize; 64];
+    let mut places = [0usize; 64];
+    let mut bounds = [0usize; 64];
+    let mut tops = [0usize; 64];
+    let mut pool = [0u8; 76800];
+    let mut lengths = [0usize; 1200];
+    let nodes = read_run(run).nodes;
+    if 255 < nodes {
+        sums.right = false;
+        return sums;
+    }
+    let s = gather(
+        run,
+        nodes as u8,
+        &mut text,
+        &mut starts,
+        &mut places,
+        &mut bounds,
+        &mut tops,
+        &mut pool,
+        &mut lengths,
+    );
+    sums.runs = wrapping_add_u64(sums.runs, 1);
+    sums.folds = wrapping_add_u64(sums.folds, s.found as u64);
+    sums = compare_all(sums, at, run, s.found, &pool, &lengths);
+    if s.short {
+        sums.right = false;
+    }
+    if !s.done {
+        sums.right = false;
+    }
+    if !sums.right {
+        difference(b"the folder and the trial of every fold", run);
+    }
+    sums
+}

@@ -1,0 +1,31 @@
+// The trial of short runs: the folder on all of them, against every fold that each has. It prints what was tried, and a line
+// that begins with `difference` where the two do not agree.
+mod command;
+mod compare;
+mod folds;
+mod runs;
+
+use compare::Settings;
+use compare::Sums;
+use runs::try_runs;
+use trying::number;
+use trying::word;
+
+// Prints what was tried.
+fn show(name: &[u8], s: Sums) {
+    word(name);
+    number(b": runs ", s.runs);
+    number(b", folds ", s.folds);
+    number(b", compared ", s.compared);
+    number(b", cost ", s.cost);
+    number(b", length ", s.length);
+    word(b"\n");
+}
+
+fn main() {
+    let all = Settings { from: 0, to: 25 };
+    let some = Settings { from: 4, to: 10 };
+    show(b"runs of up to 5 nodes", try_runs(all, true, 5));
+    show(b"runs of up to 6 nodes", try_runs(some, true, 6));
+    show(b"runs of up to 9 steps", try_runs(all, false, 9));
+}

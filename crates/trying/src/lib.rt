@@ -1,0 +1,19 @@
+// What the programs that try the library share: the calls that look at every entry of the lent slices, what they print, and
+// small helpers.
+mod lent;
+mod print;
+mod small;
+
+pub use lent::Checked;
+pub use lent::begins;
+pub use lent::fill_bytes;
+pub use lent::fold_checked;
+pub use lent::unrolls;
+pub use lent::untouched;
+pub use print::difference;
+pub use print::number;
+pub use print::word;
+pub use small::above;
+pub use small::product;
+pub use small::put_byte;
+pub use small::wide;
