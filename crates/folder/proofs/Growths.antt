@@ -1,5 +1,6 @@
--- What a row starts from: the matches grown by one sibling, and the cost of one sibling by itself.
+-- What a row starts from: the matches grown by one sibling, how far they reach, and the cost of one sibling by itself.
 use mathlib.Core.Path.{_≡_, refl, sym, _∙_}
+use mathlib.Core.Logic.{_⊎_, inl, inr, ⊎-elim}
 use mathlib.Core.List.{List}
 use Prim.Native.Nat.{ℕ, _+_, _-_, _<_, _≤_}
 use native.Mathlib.Nat.{zero-add}
@@ -15,7 +16,7 @@ use Rattle.optimum.proofs.Cut.{front-whole, back-back, siblings-back, siblings-
 use Rattle.optimum.proofs.Powers.{node-back, shift-grow}
 use Rattle.optimum.proofs.Cheapest.{best-cost-step, best-cost-group}
 use Rattle.folder.specs.Table.{Spelled, Numbered, Classed, cell, number}
-use Rattle.folder.specs.Rows.{Matched, Matches, Growing, Falling, Single}
+use Rattle.folder.specs.Rows.{Matched, Matches, Growing, Topped, Falling, Single}
 use Rattle.folder.proofs.Cells.{cell-in}
 use Rattle.folder.proofs.Tables.{number-first, number-last, falling-from, number-after-group, below-at}
 use Rattle.folder.proofs.Listings.{entry-more, equal-kinds, kinds-equal, Sibling, is-step, is-group}
@@ -119,6 +120,48 @@ module _ (kinds : List ℕ) (i w : ℕ) (before after : List ℕ) (g : Grown kin
               let e : v ≡ w = omega (arith, siblings-back i t (r .plain) (omega arith)) in
               rw (e, getD-set-same after w 0 0 (omega (arith, g .long)))
               (matched-none A t r i (omega arith) w (omega arith) (λ a q. omega arith))
+
+-- The most that a repeat covers, one width more taken in; the last width has no match.
+pub topped-none : (same : List ℕ) → Topped 1 same 0
+topped-none same = record { covers = λ v a l h. absurd (omega arith); one-of = inl refl }
+
+module _ (w : ℕ) (same : List ℕ) (top : ℕ) (t : Topped w same top) where
+  -- What stands at other places does not matter.
+  kept : (k v : ℕ) → v < w → getD (set same w k) v 0 ≡ getD same v 0
+  kept k v l = getD-set-other same w v k 0 (λ e. omega arith)
+
+  below : (k c : ℕ) → top ≤ c → (v : ℕ) → 0 < v → v < w → v ≤ getD (set same w k) v 0 → v + getD (set same w k) v 0 ≤ c
+  below k c h v a l s = let e = kept k v l in omega (arith, t .covers v a l (omega arith))
+
+  pub topped-less : (k : ℕ) → Topped w (set same w k) top
+  topped-less k =
+      record {
+        covers = below k top (omega arith);
+        one-of = ⊎-elim inl (λ x. inr (x .0, x .1, x .2, rw (kept k (x .0) (x .2)) (x .3))) (t .one-of);
+      }
+
+  module _ (k c : ℕ) (short : w < length same) (far : w ≤ k → c ≡ w + k) (near : k < w → c ≡ 0) where
+    at : (v : ℕ) → v ≡ w → getD (set same w k) v 0 ≡ k
+    at v e = rw e (getD-set-same same w k 0 short)
+
+    pub topped-raised : 0 < w → top < c → Topped (w + 1) (set same w k) c
+    topped-raised pos h =
+        let f : c ≡ w + k = elim (decLt k w) [ yes l ↦ absurd (omega (arith, near l)) | no l ↦ far (omega arith) ] in
+        record {
+          covers = λ v a l s. elim (decLt v w) [ yes m ↦ below k c (omega arith) v a m s | no m ↦ omega (arith, at v (omega arith)) ];
+          one-of = inr (w, pos, omega arith, rw (at w refl) f);
+        }
+
+    pub topped-kept : c ≤ top → Topped (w + 1) (set same w k) top
+    topped-kept h =
+        let s = topped-less k in
+        record {
+          covers = λ v a l s. elim (decLt v w) [
+            | yes m ↦ below k top (omega arith) v a m s
+            | no m ↦ let e = at v (omega arith) in omega (arith, far (omega arith))
+          ];
+          one-of = ⊎-elim inl (λ x. inr (x .0, x .1, omega arith, x .3)) (s .one-of);
+        }
 
 -- The cost of sibling i by itself, by its first byte c and its label l.
 module _ (s : List ℕ) (i c l : ℕ) (x : Sibling (tree-of s) i c l) where

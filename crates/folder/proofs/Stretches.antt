@@ -106,7 +106,7 @@ module _ {A : Allowed} {P : Prices} {t : Forest} (g : Modest A P t) (i : ℕ) wh
   pub whole-candidate : (n h w : ℕ) → Power A (back i t) h w → h * w ≤ n → Candidate A (stretch t i n) h w
   whole-candidate n h w p l = power (power-front n l p)
 
-  whole-power : (c h w : ℕ) → h * w ≡ c → 0 < c → Candidate A (stretch t i c) h w → Power A (back i t) h w
+  pub whole-power : (c h w : ℕ) → h * w ≡ c → 0 < c → Candidate A (stretch t i c) h w → Power A (back i t) h w
   whole-power c h w e pos plain = absurd (omega arith)
   whole-power c h w e pos (power p) = power-of-front c (rest .plain) p
 

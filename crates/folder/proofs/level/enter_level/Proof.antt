@@ -68,7 +68,7 @@ enter-row-requires c κs =
     let L = I .before .loop in
     let next : L .i - 1 + 1 ≡ L .i = omega (arith, I .loop-test .taken) in
     row-asks (p .0) (sym (l .0)) next (L .inv .0) (l .1 .1 .1) (L .inv .1) (classed I .classify .ensures .1) (G .grow .ensures .0) (l .1 .0) (l .1 .1 .0)
-    (L .inv .2) (G .grow .ensures .1) (p .1 .0)
+    (L .inv .2) (G .grow .ensures .1 .0) (G .grow .ensures .1 .1) (p .1 .0)
 
 loop-less : tie.Need-loop-less Inv-loop μ-loop
 loop-less c = let more = c .before .before .before .before .before .before .before .before .before .before .before .before .before .before .before .before .before .before .loop-test .taken in omega arith
@@ -86,8 +86,8 @@ loop-again c =
     let next : L .i - 1 + 1 ≡ L .i = omega (arith, I .loop-test .taken) in (
       omega arith,
       descended-more (p .0) (sym (l .0)) next near (l .1 .1 .1) (L .inv .1) (classed I .classify .ensures .1) (G .grow .ensures .0)
-          {costs′ = E .last .1 .1 .1 .1 .1 .1 .1 .1 .1 .1 .1 .0}
-          {choices′ = E .last .1 .1 .1 .1 .1 .1 .1 .1 .1 .1 .1 .1 .0}
+          {costs′ = E .last .1 .1 .1 .1 .1 .1 .1 .1 .1 .1 .1 .1 .0}
+          {choices′ = E .last .1 .1 .1 .1 .1 .1 .1 .1 .1 .1 .1 .1 .1 .0}
           (r .1 .0) (r .1 .1 .0) (r .1 .1 .1),
       r .0,
     )

@@ -1,18 +1,20 @@
--- `folder::row::grow` meets its contract. The loop's invariant: the matches below width w are grown.
+-- `folder::row::grow` meets its contract. The loop's invariant: the matches below width w are grown, and how far they reach is known.
+use mathlib.Core.Path.{_≡_}
 use mathlib.Core.Logic.{⊎-elim}
 use Prim.Native.Nat.{_+_, _-_, _≤_, _<_}
 use native.Mathlib.Omega.{arith}
 use lib.ListN.{length-set}
-use Rattle.folder.proofs.Growths.{Grown, grown-none, grown-more, grown-all}
+use Rattle.folder.specs.Rows.{Topped}
+use Rattle.folder.proofs.Growths.{Grown, grown-none, grown-more, grown-all, topped-none, topped-less, topped-raised, topped-kept}
 use Rattle.folder.proofs.row.grow.Statement.{statement}
 use Rattle.folder.proofs.row.grow.Tie as tie
 
 abbrev Inv-loop : tie.InvT-loop
-Inv-loop kinds i m matches₀ kind most₀ far₀ w₀ matches most far w =
-    (1 ≤ w) × (i + w ≤ m) × (0 < most) × (most ≤ w) × Grown kinds i w matches₀ matches
+Inv-loop kinds i m matches₀ kind most₀ far₀ top₀ w₀ matches most far top w =
+    (1 ≤ w) × (i + w ≤ m) × (0 < most) × (most ≤ w) × Grown kinds i w matches₀ matches × Topped w matches top
 
 abbrev μ-loop : tie.MeasureT-loop
-μ-loop kinds i m matches₀ kind most₀ far₀ w₀ matches most far w = m - w
+μ-loop kinds i m matches₀ kind most₀ far₀ top₀ w₀ matches most far top w = m - w
 
 mul-kind : tie.Need-mul-kind Inv-loop μ-loop
 mul-kind c = omega arith
@@ -21,7 +23,7 @@ shared-slice-read-kind : tie.Need-shared-slice-read-kind Inv-loop μ-loop
 shared-slice-read-kind c = omega arith
 
 loop-holds : tie.Need-loop-holds Inv-loop μ-loop
-loop-holds c = (omega arith, omega arith, omega arith, omega arith, grown-none _ _ _ (c .before .before .before .pre .0 .1))
+loop-holds c = (omega arith, omega arith, omega arith, omega arith, grown-none _ _ _ (c .before .before .before .pre .0 .1), topped-none _)
 
 add-loop : tie.Need-add-loop Inv-loop μ-loop
 add-loop c = omega arith
@@ -52,6 +54,11 @@ mul-matches c = omega arith
 slice-write-matches : tie.Need-slice-write-matches Inv-loop μ-loop
 slice-write-matches c = omega arith
 
+cover-requires : tie.Need-cover-requires Inv-loop μ-loop
+cover-requires c κs =
+    let L = c .before .before .before .before .before .loop in
+    (omega arith, omega (arith, c .before .longer .ensures .2, L .inv .4 .later (L .w) (omega arith), c .before .before .before .before .before .before .before .before .before .pre .1 (L .w) (omega arith) (omega arith)))
+
 add-w : tie.Need-add-w Inv-loop μ-loop
 add-w c = omega arith
 
@@ -60,14 +67,23 @@ loop-less c = omega arith
 
 loop-again : tie.Need-loop-again Inv-loop μ-loop
 loop-again c =
-    let S = c .before .before .before .before .before .before .before .before .before in
-    let L = c .before .before .before .before .before .loop in
-    let r = c .before .longer .ensures in
+    let S = c .before .before .before .before .before .before .before .before .before .before .before in
+    let L = c .before .before .before .before .before .before .before .loop in
+    let r = c .before .before .before .longer .ensures in
+    let k = c .before .cover .ensures in
     let g = grown-more _ _ _ _ _ (L .inv .4) (omega arith) _ (S .pre .1 (L .w) (omega arith) (omega arith)) (r .0) (r .1) in
-    ⊎-elim
-    (λ x. (omega arith, omega arith, omega arith, omega arith, g))
-    (λ x. (omega arith, omega arith, omega arith, omega arith, g))
-    (c .if1 .came)
+    let most : (0 < c .before .before .if1 .most) × (c .before .before .if1 .most ≤ L .w + 1) =
+    ⊎-elim (λ x. (omega arith, omega arith)) (λ x. (omega arith, omega arith)) (c .before .before .if1 .came) in (
+      omega arith,
+      omega arith,
+      most .0,
+      most .1,
+      g,
+      ⊎-elim
+          (λ x. rw (x .1) (topped-raised _ _ _ (L .inv .5) _ _ (omega arith) (k .0) (k .1) (omega arith) (x .0 .taken)))
+          (λ x. rw (x .1) (topped-kept _ _ _ (L .inv .5) _ _ (omega arith) (k .0) (k .1) (x .0 .left)))
+          (c .if2 .came),
+    )
 
 mul-matches-2 : tie.Need-mul-matches-2 Inv-loop μ-loop
 mul-matches-2 c = omega arith
@@ -82,7 +98,10 @@ returns : tie.Need-returns Inv-loop μ-loop
 returns c =
     let S = c .before .before .before .before .before in
     let L = c .before .loop in
-    (grown-all _ _ _ _ _ (L .inv .4) (omega arith) (S .args .m) (omega arith) (omega arith) (omega arith), (omega arith, omega arith))
+    let e : L .w ≡ S .args .m - S .args .i = omega arith in (
+      grown-all _ _ _ _ _ (L .inv .4) (omega arith) (S .args .m) (omega arith) (omega arith) (omega arith),
+      ((omega arith, omega arith), rw (← e) (topped-less _ _ _ (L .inv .5) 0)),
+    )
 
 pub grow-spec : {M : Type 1} → statement M
 grow-spec =
@@ -102,6 +121,7 @@ grow-spec =
     longer-requires
     mul-matches
     slice-write-matches
+    cover-requires
     add-w
     loop-less
     loop-again

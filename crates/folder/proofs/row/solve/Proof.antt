@@ -1,25 +1,22 @@
 -- `folder::row::solve` meets its contract. The loop's invariant: the stretches of fewer than d siblings have done their part. The
--- measure is what is left of the siblings.
+-- measure is what is left of those that a repeat may cover.
 use mathlib.Core.Path.{_≡_, sym, _∙_}
 use Prim.Native.Nat.{_+_, _-_, _≤_}
 use native.Mathlib.Omega.{arith}
 use Rattle.folder.specs.Rows.{Advanced}
-use Rattle.folder.proofs.Solving.{advanced-none, advanced-more}
+use Rattle.folder.proofs.Solving.{advanced-none, advanced-more, advanced-past}
 use Rattle.folder.proofs.row.solve.Statement.{statement}
 use Rattle.folder.proofs.row.solve.Tie as tie
 
 abbrev Inv-loop : tie.InvT-loop
-Inv-loop costs numbers i m limit prices matches span keys₀ d₀ keys d =
-    (1 ≤ d) × (i + d ≤ m + 1) × Advanced costs numbers i m limit prices matches span (d - 1) keys₀ keys
+Inv-loop costs numbers i m limit prices matches span top keys₀ d₀ keys d =
+    (1 ≤ d) × (d ≤ top + 1) × Advanced costs numbers i m limit prices matches span (d - 1) keys₀ keys
 
 abbrev μ-loop : tie.MeasureT-loop
-μ-loop costs numbers i m limit prices matches span keys₀ d₀ keys d = m + 1 - i - d
+μ-loop costs numbers i m limit prices matches span top keys₀ d₀ keys d = top + 1 - d
 
 loop-holds : tie.Need-loop-holds Inv-loop μ-loop
 loop-holds c = (omega arith, omega arith, advanced-none (c .before .before .before .before .before .pre .1 .0 .0))
-
-add-loop : tie.Need-add-loop Inv-loop μ-loop
-add-loop c = omega arith
 
 mul-settle : tie.Need-mul-settle Inv-loop μ-loop
 mul-settle c = omega arith
@@ -54,8 +51,8 @@ loop-again c =
 returns : tie.Need-returns Inv-loop μ-loop
 returns c =
     let S = c .before .before .before .before .before .before .before in
-    let e : c .before .loop .d - 1 ≡ S .args .m - S .args .i = omega arith in
-    rw e at (c .before .loop .inv .2)
+    let e : c .before .loop .d - 1 ≡ S .args .top = omega arith in
+    advanced-past (S .args .top) (S .args .m - S .args .i) _ (S .pre .1 .1 .0 .5) (rw e at (c .before .loop .inv .2))
 
 same-length : tie.Need-same-length Inv-loop μ-loop
 same-length c = c .before .loop .inv .2 .ready .long ∙ sym (c .before .before .before .before .before .before .before .pre .1 .0 .0 .long)
@@ -67,7 +64,6 @@ solve-spec =
     Inv-loop
     μ-loop
     loop-holds
-    add-loop
     mul-settle
     shared-slice-read-settle
     settle-requires
