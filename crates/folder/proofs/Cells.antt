@@ -51,6 +51,3 @@ cell-same p q p′ q′ h h′ e = by-order (decLt q q′) (decLt q′ q)
 -- At most 1,024 nodes.
 pub product-most : (m n : ℕ) → m ≤ 1024 → n ≤ 1025 → m * n ≤ 1049600
 product-most m n h l = mul-le-mul h l
-
-pub cells-most : (n : ℕ) → n ≤ 1024 → cells n ≤ 524800
-cells-most n h = cells-mono n 1024 h

@@ -1,13 +1,11 @@
 -- The folder's outer steps: the list of repeat prices, the table of an accepted run, and the answer.
-use mathlib.Core.Path.{_≡_, refl, sym, ap, subst, _∙_}
-use mathlib.Core.Bool.{Bool, true, false}
-use mathlib.Core.List.{List, [], _∷_, _++_}
-use mathlib.Core.Logic.{⊎-elim}
-use Prim.Native.Nat.{ℕ, suc, _+_, _-_, _*_, _<_, _≤_}
+use mathlib.Core.Path.{_≡_, refl, sym, ap, _∙_}
+use mathlib.Core.List.{List, _++_}
+use Prim.Native.Nat.{ℕ, _+_, _-_, _*_, _<_, _≤_}
 use native.Mathlib.Nat.{mul-le-mul, zero-add}
 use native.Mathlib.Decide.{ℕ-discrete}
 use native.Mathlib.Omega.{arith}
-use lib.ListN.{length, getD, drop, set, length-set, replicate, length-drop, List·getD-eq-default}
+use lib.ListN.{length, getD, drop, set, length-set, replicate, length-drop}
 use borrow.Author.Tests.{lt-ltb, le-ltb}
 use lib.Seq.{getD-set-same, getD-set-other, getD-drop, ext-getD}
 use Rattle.format.specs.Limits as limits
@@ -82,11 +80,17 @@ no-nodes (step l f) p e = absurd (omega arith)
 no-nodes (group l b f) p e = absurd (omega arith)
 no-nodes (repeat h w b f) p e = absurd p
 
--- The table of an accepted run of n nodes, entered: what the writer rests on, and the cost of the whole.
-module _ (s : List ℕ) (limit : ℕ) (table prices costs choices costs′ choices′ : List ℕ) (ready : LevelReady s 0 limit table prices costs choices)
-    (n : ℕ) (count : nodes (tree-of s) ≡ n)
-    (filled : Filled (at-most limit) (prices-of table prices) 0 (tree-of s) costs′ choices′)
-    (kept-costs : Kept 0 (nodes (tree-of s)) costs costs′) (kept-choices : Kept 0 (nodes (tree-of s)) choices choices′) where
+-- An accepted run of n nodes, entered in the table.
+pub record Worked (s : List ℕ) (n limit : ℕ) (table prices costs choices costs′ choices′ : List ℕ) : Type 0 where
+  pub ready : LevelReady s 0 limit table prices costs choices
+  pub count : nodes (tree-of s) ≡ n
+  pub filled : Filled (at-most limit) (prices-of table prices) 0 (tree-of s) costs′ choices′
+  pub kept-costs : Kept 0 (nodes (tree-of s)) costs costs′
+  pub kept-choices : Kept 0 (nodes (tree-of s)) choices choices′
+
+-- What the writer rests on, and the cost of the whole.
+module _ {s : List ℕ} {n limit : ℕ} {table prices costs choices costs′ choices′ : List ℕ}
+    (w : Worked s n limit table prices costs choices costs′ choices′) where
   abbrev P : limits.Prices
   P = prices-of table prices
 
@@ -99,34 +103,34 @@ module _ (s : List ℕ) (limit : ℕ) (table prices costs choices costs′ choic
         allowed = at-most limit;
         prices-are = P;
         costs = costs′;
-        spelled = ready .spelled;
-        total = ready .total;
-        room = rw (kept-choices .same-length) (ready .choice-room);
-        filled = filled;
+        spelled = w .ready .spelled;
+        total = w .ready .total;
+        room = rw (w .kept-choices .same-length) (w .ready .choice-room);
+        filled = w .filled;
       }
 
   pub few-nodes : n ≤ 1024
-  few-nodes = omega (arith, ready .total)
+  few-nodes = omega (arith, w .ready .total)
 
   pub cost-room : cells n ≤ length costs′
-  cost-room = rw (← count, kept-costs .same-length, ← zero-add (nodes (tree-of s))) (ready .cost-room)
+  cost-room = rw (← w .count, w .kept-costs .same-length, ← zero-add (nodes (tree-of s))) (w .ready .cost-room)
 
   pub choice-room : cells n ≤ length choices′
-  choice-room = rw (← count, kept-choices .same-length, ← zero-add (nodes (tree-of s))) (ready .choice-room)
+  choice-room = rw (← w .count, w .kept-choices .same-length, ← zero-add (nodes (tree-of s))) (w .ready .choice-room)
 
   pub whole-is : (r : ℕ) → (n ≡ 0 → r ≡ 0) → (0 < n → r ≡ getD costs′ (cell 0 n) 0) → r ≡ best-cost (at-most limit) P (tree-of s)
   whole-is r none some =
       let t = tree-of s in
-      let run = ready .spelled .run (at-most limit) in
+      let run = w .ready .spelled .run (at-most limit) in
       let m = siblings t in
       elim (ℕ-discrete n 0) [
         | yes e ↦
-            let z : t ≡ end = no-nodes t (run .plain) (count ∙ e) in
+            let z : t ≡ end = no-nodes t (run .plain) (w .count ∙ e) in
             none e ∙ (sym (best-cost-end (at-most limit) P) ∙ ap (best-cost (at-most limit) P) (sym z))
         | no e ↦
             let some-siblings : 0 < m = has-siblings t (run .plain) (omega arith) in
-            let x = filled .top .entry 0 m (omega arith) some-siblings (omega arith) in
-            let first : number 0 t 0 ≡ n = number-first 0 t ∙ (zero-add (nodes t) ∙ count) in
+            let x = w .filled .top .entry 0 m (omega arith) some-siblings (omega arith) in
+            let first : number 0 t 0 ≡ n = number-first 0 t ∙ (zero-add (nodes t) ∙ w .count) in
             let last : number 0 t (0 + m) ≡ 0 = ap (number 0 t) (zero-add m) ∙ number-last 0 t (run .plain) in
             let c : getD costs′ (cell 0 n) 0 ≡ best-cost (at-most limit) P (stretch t 0 m) = rw (first, last) at (x .costs) in
             some (omega arith) ∙ (c ∙ ap (best-cost (at-most limit) P) (whole-stretch t (run .plain)))
@@ -142,10 +146,10 @@ module _ (s : List ℕ) (limit : ℕ) (table prices costs choices costs′ choic
     len-is = is-length .is-length write-ready
 
     costs-are : costs″ ≡ replicate (cells n) 0 ++ drop (cells n) costs
-    costs-are = cleared-costs ∙ rw (is-used, ← count) (ap (λ (x : List ℕ). replicate (cells (nodes (tree-of s))) 0 ++ x) (kept-tail (nodes (tree-of s)) costs costs′ kept-costs))
+    costs-are = cleared-costs ∙ rw (is-used, ← w .count) (ap (λ (x : List ℕ). replicate (cells (nodes (tree-of s))) 0 ++ x) (kept-tail (nodes (tree-of s)) costs costs′ (w .kept-costs)))
 
     choices-are : choices″ ≡ replicate (cells n) 0 ++ drop (cells n) choices
-    choices-are = cleared-choices ∙ rw (is-used, ← count) (ap (λ (x : List ℕ). replicate (cells (nodes (tree-of s))) 0 ++ x) (kept-tail (nodes (tree-of s)) choices choices′ kept-choices))
+    choices-are = cleared-choices ∙ rw (is-used, ← w .count) (ap (λ (x : List ℕ). replicate (cells (nodes (tree-of s))) 0 ++ x) (kept-tail (nodes (tree-of s)) choices choices′ (w .kept-choices)))
 
     pub folded-short : length out < len → RunFolded s n limit P costs costs″ choices choices″ out out (record { refusal = 14; place = 0; length = 0; cost = 0 })
     folded-short l =
@@ -155,7 +159,7 @@ module _ (s : List ℕ) (limit : ℕ) (table prices costs choices costs′ choic
     pub folded-whole : len ≤ length out → (cost : ℕ) → cost ≡ best-cost (at-most limit) P (tree-of s) → (out′ : List ℕ) (r : ℕ) → FoldWritten s 0 choices′ out out′ r
         → RunFolded s n limit P costs costs″ choices choices″ out out′ (record { refusal = 0; place = 0; length = len; cost = cost })
     unfolding write-ready
-    folded-whole l cost c out′ r w =
+    folded-whole l cost c out′ r v =
         let e = le-ltb (length out) (length f) (omega (arith, len-is)) in
-        let k : r ≡ length f = w .is-length write-ready in
-        record { answered = rw (e, len-is, c); written = rw e (w .written write-ready ∙ rw k); costs-cleared = costs-are; choices-cleared = choices-are }
+        let k : r ≡ length f = v .is-length write-ready in
+        record { answered = rw (e, len-is, c); written = rw e (v .written write-ready ∙ rw k); costs-cleared = costs-are; choices-cleared = choices-are }

@@ -1,15 +1,15 @@
 -- Solving a row: the keys that it starts from, what one more solved stretch does to those of longer ones, and the end.
 use mathlib.Core.Path.{_≡_, refl, sym, ap, _∙_}
-use mathlib.Core.Logic.{_⊎_, inl, inr, ⊎-elim}
+use mathlib.Core.Logic.{_⊎_, ⊎-elim}
 use mathlib.Core.List.{List}
 use Prim.Native.Nat.{ℕ, suc, _+_, _-_, _*_, _/_, _%_, _<_, _≤_}
 use native.Mathlib.Nat.{mul-le-mul-right}
-use native.Mathlib.Decide.{decLt, decLe, ℕ-discrete}
+use native.Mathlib.Decide.{decLt, ℕ-discrete}
 use native.Mathlib.Omega.{arith}
 use lib.ListN.{length, getD}
 use Rattle.format.specs.Limits.{Prices, of-repeat}
-use Rattle.format.specs.Forest.{Forest, Allowed, siblings, nodes}
-use Rattle.optimum.specs.Cheapest.{Run, front, back, node, Candidate, power, Power, Least, usual, rank, best-cost}
+use Rattle.format.specs.Forest.{Forest, Allowed, siblings}
+use Rattle.optimum.specs.Cheapest.{Run, front, back, Candidate, Power, Least, usual, rank, best-cost}
 use Rattle.optimum.proofs.Cut.{back-back, run-back, siblings-back, siblings-le-nodes}
 use Rattle.optimum.proofs.Powers.{front-less, reach}
 use Rattle.optimum.proofs.Rank.{rank-usual}

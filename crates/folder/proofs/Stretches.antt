@@ -1,12 +1,11 @@
 -- The keys of the stretches that begin at sibling i: from a key that is bounded by few candidates to that of the least pair, and back.
 use mathlib.Core.Path.{_≡_, refl, sym, _∙_}
-use mathlib.Core.List.{List}
 use Prim.Native.Nat.{ℕ, suc, _+_, _-_, _*_, _/_, _%_, _<_, _≤_}
 use native.Mathlib.Omega.{arith}
 use Rattle.format.specs.Limits.{Prices, of-repeat}
 use Rattle.format.specs.Forest.{Forest, end, step, group, repeat, Plain, Allowed, siblings, nodes, cost}
 use Rattle.optimum.specs.Cheapest.{Run, front, back, node, Candidate, plain, power, Power, Spans, Least, usual, rank, price, best-cost}
-use Rattle.optimum.proofs.Cut.{run-front, run-back, siblings-le-nodes, siblings-piece, siblings-back, nodes-cut}
+use Rattle.optimum.proofs.Cut.{run-front, run-back, siblings-le-nodes, siblings-piece, nodes-cut}
 use Rattle.optimum.proofs.Powers.{reach, power-front, power-of-front, spans-usual, spans-front}
 use Rattle.optimum.proofs.Rank.{rank-usual, rank-add}
 use Rattle.optimum.proofs.Least.{price-piece, least-one, least-unique}

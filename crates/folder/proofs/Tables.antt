@@ -258,9 +258,6 @@ module _ (A : Allowed) (P : Prices) (b : ℕ) (t : Forest) (b′ n′ : ℕ) (cs
   below-kept =
       below-alike A P cs ks cs′ ks′ b t r (kept-alike b (nodes t) b′ n′ cs cs′ apart kc) (kept-alike b (nodes t) b′ n′ ks ks′ apart kk)
 
-  pub filled-kept : Filled A P b t cs ks → Filled A P b t cs′ ks′
-  filled-kept f = record { top = entered-kept 0 (f .top); below = below-kept (f .below) }
-
 -- A group's number by the one after it, and no sibling's number lies between two that follow each other.
 back-next : (i : ℕ) (t f : Forest) → back i t ≡ f → back (i + 1) t ≡ back 1 f
 back-next i t f e = sym (back-back i 1 (i + 1) t refl) ∙ ap (back 1) e

@@ -1,8 +1,7 @@
 -- The folder's answer as a whole: what the run and the prices decide, what fold_run rests on, and what the slices then hold.
-use mathlib.Core.Path.{_≡_, refl, sym, ap, subst, _∙_}
+use mathlib.Core.Path.{_≡_, refl, sym, ap, _∙_}
 use mathlib.Core.Bool.{Bool, true, false}
-use mathlib.Core.List.{List, [], _∷_, _++_}
-use mathlib.Core.Logic.{_≢_, _⊎_, ⊎-elim, inl, inr}
+use mathlib.Core.List.{List, _++_}
 use Prim.Native.Nat.{ℕ, zero, suc, _+_, _-_, _*_, _<_, _≤_}
 use native.Mathlib.Nat.{mul-le-mul, zero-add}
 use native.Mathlib.Decide.{decLe}
@@ -13,7 +12,7 @@ use lib.Seq.{take-at}
 use borrow.Author.Tests.{lt-ltb, le-ltb, eq-eqb, ne-eqb}
 use Rattle.format.specs.Limits.{limits, Prices, priced, of-repeat}
 use Rattle.format.specs.Order.{Bytes}
-use Rattle.format.specs.Forest.{Forest, Allowed, nodes, bytes}
+use Rattle.format.specs.Forest.{nodes, bytes}
 use Rattle.format.specs.Machine.{Outcome, refused, accepted, read}
 use Rattle.format.specs.Readings.{run-rules, run-answer, run-reading}
 use Rattle.format.specs.Tree.{tree-of}
@@ -22,7 +21,7 @@ use Rattle.format.specs.declared.RunReading.{RunReading}
 use Rattle.format.specs.declared.Folded.{Folded}
 use Rattle.format.proofs.Bridge.{sound-widest, sound-within}
 use Rattle.format.proofs.Refusals.{refused-some}
-use Rattle.optimum.specs.Cheapest.{Run, cheapest, best-cost}
+use Rattle.optimum.specs.Cheapest.{cheapest, best-cost}
 use Rattle.optimum.specs.Demands.{CheapestWithin}
 use Rattle.optimum.proofs.Demands.{run-form, run-shape, run-nodes, cheapest-bytes}
 use Rattle.folder.specs.Table.{Spelled, Prepared, cells, at-most, prices-of}

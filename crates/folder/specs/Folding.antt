@@ -1,5 +1,4 @@
 -- What the folder answers, writes and leaves in the work slices, for every run, limit, prices and lent slices.
-use mathlib.Core.Path.{_≡_}
 use mathlib.Core.Bool.{Bool, not, cond, _||_}
 use mathlib.Core.List.{List, _++_}
 use Prim.Native.Nat.{ℕ}

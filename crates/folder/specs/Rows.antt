@@ -8,7 +8,7 @@ use Rattle.format.specs.Limits.{Prices, of-repeat}
 use Rattle.format.specs.Forest.{Forest, Allowed, siblings, nodes}
 use Rattle.format.specs.Tree.{tree-of}
 use Rattle.optimum.specs.Cheapest.{Run, front, back, node, rank, usual, price, Candidate, Power, Least, best-cost}
-use Rattle.folder.specs.Table.{Entry, Entered, Below, Filled, Spelled, Placed, Numbered, Classed, Prepared, cell, cells, number, stretch}
+use Rattle.folder.specs.Table.{Entered, Below, Spelled, Placed, Numbered, Classed, Prepared, cell, cells, stretch}
 
 -- The price of each count, as a list.
 pub record Priced (P : Prices) (prices : List ℕ) : Type 0 where

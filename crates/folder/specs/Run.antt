@@ -2,7 +2,7 @@
 use mathlib.Core.Path.{_≡_}
 use mathlib.Core.Bool.{cond}
 use mathlib.Core.List.{List, _++_}
-use Prim.Native.Nat.{ℕ, _+_, _-_, _*_, _<_, _≤_}
+use Prim.Native.Nat.{ℕ, _+_, _-_, _*_, _≤_}
 use lib.Dec.{ltb}
 use lib.ListN.{length, getD, drop, replicate}
 use Rattle.format.specs.Limits.{Prices}
@@ -11,7 +11,6 @@ use Rattle.format.specs.Tree.{tree-of}
 use Rattle.format.specs.declared.Folded.{Folded}
 use Rattle.optimum.specs.Cheapest.{cheapest, best-cost}
 use Rattle.folder.specs.Table.{cells, at-most}
-use Rattle.folder.specs.Folding.{folds, fold-answer, fold-output}
 
 -- The list of repeat prices: entry h is first + each × (h − 2) from h = 2 on, entries 0 and 1 are 0.
 pub record PriceList (first each : ℕ) (prices : List ℕ) : Type 0 where

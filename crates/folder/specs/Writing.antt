@@ -4,7 +4,7 @@ use mathlib.Core.List.{List, _∷_, _++_}
 use Prim.Native.Nat.{ℕ, _+_, _-_, _*_, _≤_}
 use lib.ListN.{length, getD, take, drop}
 use Rattle.format.specs.Limits.{Prices}
-use Rattle.format.specs.Forest.{Forest, Allowed, siblings, nodes, bytes, two-bytes}
+use Rattle.format.specs.Forest.{Allowed, siblings, nodes, bytes, two-bytes}
 use Rattle.format.specs.Tree.{tree-of}
 use Rattle.optimum.specs.Cheapest.{cheapest}
 use Rattle.folder.specs.Table.{Filled, Spelled, Placed, Numbered, cells, stretch}

@@ -3,7 +3,7 @@ use check::same;
 use reader::node_at;
 use reader::opens_node;
 ghost use mathlib.Core.Path.{_≡_};
-ghost use Prim.Native.Nat.{ℕ, _+_, _<_, _≤_};
+ghost use Prim.Native.Nat.{_+_, _<_, _≤_};
 ghost use lib.ListN.{length};
 ghost use Rattle.format.specs.Forest.{siblings, nodes, bytes};
 ghost use Rattle.format.specs.Tree.{tree-of};

@@ -3,9 +3,8 @@ use crate::listing::list_siblings;
 use crate::table::look;
 use format::Format;
 ghost use mathlib.Core.Path.{_≡_};
-ghost use mathlib.Core.List.{_++_};
-ghost use Prim.Native.Nat.{ℕ, _+_, _-_, _<_, _≤_};
-ghost use lib.ListN.{length, drop};
+ghost use Prim.Native.Nat.{_+_, _-_, _<_, _≤_};
+ghost use lib.ListN.{length};
 ghost use Rattle.folder.specs.Writing.{WriteReady, SpanReady, FoldLength, SpanLength, FoldRoom, SpanRoom, FoldWritten, SpanWritten, opened};
 
 // The length of the cheapest fold of the sequence s, behind which b nodes of the run follow.

@@ -1,7 +1,7 @@
 -- `fold_run` meets its contract.
 use borrow.Author.Needs.{needs}
 use native.Mathlib.Omega.{arith}
-use Rattle.folder.proofs.Runs.{write-ready, few-nodes, cost-room, choice-room, fold-room, whole-is, folded-short, folded-whole}
+use Rattle.folder.proofs.Runs.{Worked, write-ready, few-nodes, cost-room, choice-room, fold-room, whole-is, folded-short, folded-whole}
 use Rattle.folder.proofs.Levels.{scratch-none}
 use Rattle.folder.proofs.fold_run.Statement.{statement}
 use Rattle.folder.proofs.fold_run.Tie as tie
@@ -21,28 +21,37 @@ slice-aggregate-enter-tree-4 c = search needs
 slice-aggregate-enter-tree-5 : tie.Need-slice-aggregate-enter-tree-5
 slice-aggregate-enter-tree-5 c = search needs
 
+-- The run, entered.
+worked : (c : tie.After-enter-tree)
+    → (let a = c .before .before .before .before .before .before .before .before .before .before .before .before .before .before .args in
+    Worked (a .run .now) (a .n) (a .limit) (a .table .now) (a .prices .now) (a .costs .now) (a .choices .now) (c .enter-tree .last .1 .1 .1 .1 .1 .1 .1 .1 .1 .1 .0) (c .enter-tree .last .1 .1 .1 .1 .1 .1 .1 .1 .1 .1 .1 .0))
+worked c =
+    let p = c .before .before .before .before .before .before .before .before .before .before .before .before .before .before .pre in
+    let e = c .enter-tree .ensures in
+    record { ready = p .0; count = p .1; filled = e .1 .0; kept-costs = e .1 .1 .0; kept-choices = e .1 .1 .1 }
+
 enter-tree-requires : tie.Need-enter-tree-requires
 enter-tree-requires c κs = (c .before .before .before .before .before .before .before .before .before .before .before .before .before .pre .0, scratch-none)
 
 fold-length-requires : tie.Need-fold-length-requires
 fold-length-requires c κs =
-    let S = c .before .before .before .before .before .before .before .before .before .before .before .before .before .before .before .before .before .before .before .before .before .before .before .before in let E = c .before .before .before .before .before .before .before .before .before .before .enter-tree in write-ready (S .args .run .now) (S .args .limit) (S .args .table .now) (S .args .prices .now) (S .args .costs .now) (S .args .choices .now) (E .last .1 .1 .1 .1 .1 .1 .1 .1 .1 .1 .0) (E .last .1 .1 .1 .1 .1 .1 .1 .1 .1 .1 .1 .0) (S .pre .0) (S .args .n) (S .pre .1) (E .ensures .1 .0) (E .ensures .1 .1 .0) (E .ensures .1 .1 .1)
+    write-ready (worked (c .before .before .before .before .before .before .before .before .before .before))
 
 whole-cost-requires : tie.Need-whole-cost-requires
 whole-cost-requires c κs =
-    let S = c .before .before .before .before .before .before .before .before .before .before .before .before .before .before .before .before .before .before .before .before .before .before .before .before .before .before in let E = c .before .before .before .before .before .before .before .before .before .before .before .before .enter-tree in (few-nodes (S .args .run .now) (S .args .limit) (S .args .table .now) (S .args .prices .now) (S .args .costs .now) (S .args .choices .now) (E .last .1 .1 .1 .1 .1 .1 .1 .1 .1 .1 .0) (E .last .1 .1 .1 .1 .1 .1 .1 .1 .1 .1 .1 .0) (S .pre .0) (S .args .n) (S .pre .1) (E .ensures .1 .0) (E .ensures .1 .1 .0) (E .ensures .1 .1 .1), cost-room (S .args .run .now) (S .args .limit) (S .args .table .now) (S .args .prices .now) (S .args .costs .now) (S .args .choices .now) (E .last .1 .1 .1 .1 .1 .1 .1 .1 .1 .1 .0) (E .last .1 .1 .1 .1 .1 .1 .1 .1 .1 .1 .1 .0) (S .pre .0) (S .args .n) (S .pre .1) (E .ensures .1 .0) (E .ensures .1 .1 .0) (E .ensures .1 .1 .1))
+    (few-nodes (worked (c .before .before .before .before .before .before .before .before .before .before .before .before)), cost-room (worked (c .before .before .before .before .before .before .before .before .before .before .before .before)))
 
 entries-requires : tie.Need-entries-requires
 entries-requires c κs =
-    let S = c .before .before .before .before .before .before .before .before .before .before .before .before .before .before .before .before .before .before .before .before .before .before .before .before .before .before .before in let E = c .before .before .before .before .before .before .before .before .before .before .before .before .before .enter-tree in few-nodes (S .args .run .now) (S .args .limit) (S .args .table .now) (S .args .prices .now) (S .args .costs .now) (S .args .choices .now) (E .last .1 .1 .1 .1 .1 .1 .1 .1 .1 .1 .0) (E .last .1 .1 .1 .1 .1 .1 .1 .1 .1 .1 .1 .0) (S .pre .0) (S .args .n) (S .pre .1) (E .ensures .1 .0) (E .ensures .1 .1 .0) (E .ensures .1 .1 .1)
+    few-nodes (worked (c .before .before .before .before .before .before .before .before .before .before .before .before .before))
 
 clear-requires : tie.Need-clear-requires
 clear-requires c κs =
-    let S = c .before .before .before .before .before .before .before .before .before .before .before .before .before .before .before .before .before .before .before .before .before .before .before .before .before .before .before .before .before .before in let E = c .before .before .before .before .before .before .before .before .before .before .before .before .before .before .before .before .enter-tree in let u = c .before .before .entries .ensures in omega (arith, cost-room (S .args .run .now) (S .args .limit) (S .args .table .now) (S .args .prices .now) (S .args .costs .now) (S .args .choices .now) (E .last .1 .1 .1 .1 .1 .1 .1 .1 .1 .1 .0) (E .last .1 .1 .1 .1 .1 .1 .1 .1 .1 .1 .1 .0) (S .pre .0) (S .args .n) (S .pre .1) (E .ensures .1 .0) (E .ensures .1 .1 .0) (E .ensures .1 .1 .1))
+    let u = c .before .before .entries .ensures in omega (arith, cost-room (worked (c .before .before .before .before .before .before .before .before .before .before .before .before .before .before .before .before)))
 
 clear-requires-2 : tie.Need-clear-requires-2
 clear-requires-2 c κs =
-    let S = c .before .before .before .before .before .before .before .before .before .before .before .before .before .before .before .before .before .before .before .before .before .before .before .before .before .before .before .before .before .before .before .before .before .before in let E = c .before .before .before .before .before .before .before .before .before .before .before .before .before .before .before .before .before .before .before .before .enter-tree in let u = c .before .before .before .before .before .before .entries .ensures in omega (arith, choice-room (S .args .run .now) (S .args .limit) (S .args .table .now) (S .args .prices .now) (S .args .costs .now) (S .args .choices .now) (E .last .1 .1 .1 .1 .1 .1 .1 .1 .1 .1 .0) (E .last .1 .1 .1 .1 .1 .1 .1 .1 .1 .1 .1 .0) (S .pre .0) (S .args .n) (S .pre .1) (E .ensures .1 .0) (E .ensures .1 .1 .0) (E .ensures .1 .1 .1))
+    let u = c .before .before .before .before .before .before .entries .ensures in omega (arith, choice-room (worked (c .before .before .before .before .before .before .before .before .before .before .before .before .before .before .before .before .before .before .before .before)))
 
 same-length : tie.Need-same-length
 same-length c = search needs
@@ -52,19 +61,19 @@ same-length-2 c = search needs
 
 returns : tie.Need-returns
 returns c =
-    let S = c .before .before .before .before .before .before .before .before .before .before .before .before .before .before .before .before .before .before .before .before .before .before .before .before .before .before .before .before .before .before .before .before .before .before .before .before .before in let E = c .before .before .before .before .before .before .before .before .before .before .before .before .before .before .before .before .before .before .before .before .before .before .before .enter-tree in folded-short (S .args .run .now) (S .args .limit) (S .args .table .now) (S .args .prices .now) (S .args .costs .now) (S .args .choices .now) (E .last .1 .1 .1 .1 .1 .1 .1 .1 .1 .1 .0) (E .last .1 .1 .1 .1 .1 .1 .1 .1 .1 .1 .1 .0) (S .pre .0) (S .args .n) (S .pre .1) (E .ensures .1 .0) (E .ensures .1 .1 .0) (E .ensures .1 .1 .1) (c .before .before .before .before .before .before .before .before .before .before .before .before .fold-length .result) (c .before .before .before .before .before .before .before .before .before .before .before .before .fold-length .ensures) (c .before .before .before .before .before .before .before .before .before .entries .result) (c .before .before .before .before .before .before .before .before .before .entries .ensures) (S .args .out .now) (c .before .before .before .before .before .before .clear .last .0) (c .before .before .clear2 .last .0) (c .before .before .before .before .before .before .clear .ensures) (c .before .before .clear2 .ensures) (c .before .before .before .before .before .before .before .before .if1 .taken)
+    let S = c .before .before .before .before .before .before .before .before .before .before .before .before .before .before .before .before .before .before .before .before .before .before .before .before .before .before .before .before .before .before .before .before .before .before .before .before .before in folded-short (worked (c .before .before .before .before .before .before .before .before .before .before .before .before .before .before .before .before .before .before .before .before .before .before .before)) (c .before .before .before .before .before .before .before .before .before .before .before .before .fold-length .result) (c .before .before .before .before .before .before .before .before .before .before .before .before .fold-length .ensures) (c .before .before .before .before .before .before .before .before .before .entries .result) (c .before .before .before .before .before .before .before .before .before .entries .ensures) (S .args .out .now) (c .before .before .before .before .before .before .clear .last .0) (c .before .before .clear2 .last .0) (c .before .before .before .before .before .before .clear .ensures) (c .before .before .clear2 .ensures) (c .before .before .before .before .before .before .before .before .if1 .taken)
 
 put-fold-requires : tie.Need-put-fold-requires
 put-fold-requires c κs =
-    let S = c .before .before .before .before .before .before .before .before .before .before .before .before .before .before .before .before .before .before .before .before .before .before .before .before .before .before .before .before .before .before .before in let E = c .before .before .before .before .before .before .before .before .before .before .before .before .before .before .before .before .before .enter-tree in fold-room (S .args .run .now) (S .args .limit) (S .args .table .now) (S .args .prices .now) (S .args .costs .now) (S .args .choices .now) (E .last .1 .1 .1 .1 .1 .1 .1 .1 .1 .1 .0) (E .last .1 .1 .1 .1 .1 .1 .1 .1 .1 .1 .1 .0) (S .pre .0) (S .args .n) (S .pre .1) (E .ensures .1 .0) (E .ensures .1 .1 .0) (E .ensures .1 .1 .1) (c .before .before .before .before .before .before .fold-length .result) (c .before .before .before .before .before .before .fold-length .ensures) (S .args .out .now) (c .before .before .if1 .left)
+    let S = c .before .before .before .before .before .before .before .before .before .before .before .before .before .before .before .before .before .before .before .before .before .before .before .before .before .before .before .before .before .before .before in fold-room (worked (c .before .before .before .before .before .before .before .before .before .before .before .before .before .before .before .before .before)) (c .before .before .before .before .before .before .fold-length .result) (c .before .before .before .before .before .before .fold-length .ensures) (S .args .out .now) (c .before .before .if1 .left)
 
 clear-requires-3 : tie.Need-clear-requires-3
 clear-requires-3 c κs =
-    let S = c .before .before .before .before .before .before .before .before .before .before .before .before .before .before .before .before .before .before .before .before .before .before .before .before .before .before .before .before .before .before .before .before .before .before .before in let E = c .before .before .before .before .before .before .before .before .before .before .before .before .before .before .before .before .before .before .before .before .before .enter-tree in let u = c .before .before .before .before .before .before .before .entries .ensures in omega (arith, cost-room (S .args .run .now) (S .args .limit) (S .args .table .now) (S .args .prices .now) (S .args .costs .now) (S .args .choices .now) (E .last .1 .1 .1 .1 .1 .1 .1 .1 .1 .1 .0) (E .last .1 .1 .1 .1 .1 .1 .1 .1 .1 .1 .1 .0) (S .pre .0) (S .args .n) (S .pre .1) (E .ensures .1 .0) (E .ensures .1 .1 .0) (E .ensures .1 .1 .1))
+    let u = c .before .before .before .before .before .before .before .entries .ensures in omega (arith, cost-room (worked (c .before .before .before .before .before .before .before .before .before .before .before .before .before .before .before .before .before .before .before .before .before)))
 
 clear-requires-4 : tie.Need-clear-requires-4
 clear-requires-4 c κs =
-    let S = c .before .before .before .before .before .before .before .before .before .before .before .before .before .before .before .before .before .before .before .before .before .before .before .before .before .before .before .before .before .before .before .before .before .before .before .before .before .before .before in let E = c .before .before .before .before .before .before .before .before .before .before .before .before .before .before .before .before .before .before .before .before .before .before .before .before .before .enter-tree in let u = c .before .before .before .before .before .before .before .before .before .before .before .entries .ensures in omega (arith, choice-room (S .args .run .now) (S .args .limit) (S .args .table .now) (S .args .prices .now) (S .args .costs .now) (S .args .choices .now) (E .last .1 .1 .1 .1 .1 .1 .1 .1 .1 .1 .0) (E .last .1 .1 .1 .1 .1 .1 .1 .1 .1 .1 .1 .0) (S .pre .0) (S .args .n) (S .pre .1) (E .ensures .1 .0) (E .ensures .1 .1 .0) (E .ensures .1 .1 .1))
+    let u = c .before .before .before .before .before .before .before .before .before .before .before .entries .ensures in omega (arith, choice-room (worked (c .before .before .before .before .before .before .before .before .before .before .before .before .before .before .before .before .before .before .before .before .before .before .before .before .before)))
 
 same-length-3 : tie.Need-same-length-3
 same-length-3 c = search needs
@@ -77,7 +86,7 @@ same-length-5 c = search needs
 
 returns-2 : tie.Need-returns-2
 returns-2 c =
-    let S = c .before .before .before .before .before .before .before .before .before .before .before .before .before .before .before .before .before .before .before .before .before .before .before .before .before .before .before .before .before .before .before .before .before .before .before .before .before .before .before .before .before .before in let E = c .before .before .before .before .before .before .before .before .before .before .before .before .before .before .before .before .before .before .before .before .before .before .before .before .before .before .before .before .enter-tree in folded-whole (S .args .run .now) (S .args .limit) (S .args .table .now) (S .args .prices .now) (S .args .costs .now) (S .args .choices .now) (E .last .1 .1 .1 .1 .1 .1 .1 .1 .1 .1 .0) (E .last .1 .1 .1 .1 .1 .1 .1 .1 .1 .1 .1 .0) (S .pre .0) (S .args .n) (S .pre .1) (E .ensures .1 .0) (E .ensures .1 .1 .0) (E .ensures .1 .1 .1) (c .before .before .before .before .before .before .before .before .before .before .before .before .before .before .before .before .before .fold-length .result) (c .before .before .before .before .before .before .before .before .before .before .before .before .before .before .before .before .before .fold-length .ensures) (c .before .before .before .before .before .before .before .before .before .before .before .before .before .before .entries .result) (c .before .before .before .before .before .before .before .before .before .before .before .before .before .before .entries .ensures) (S .args .out .now) (c .before .before .before .before .before .before .clear3 .last .0) (c .before .before .clear4 .last .0) (c .before .before .before .before .before .before .clear3 .ensures) (c .before .before .clear4 .ensures) (c .before .before .before .before .before .before .before .before .before .before .before .before .before .if1 .left) (c .before .before .before .before .before .before .before .before .before .before .before .before .before .before .before .whole-cost .result) (whole-is (S .args .run .now) (S .args .limit) (S .args .table .now) (S .args .prices .now) (S .args .costs .now) (S .args .choices .now) (E .last .1 .1 .1 .1 .1 .1 .1 .1 .1 .1 .0) (E .last .1 .1 .1 .1 .1 .1 .1 .1 .1 .1 .1 .0) (S .pre .0) (S .args .n) (S .pre .1) (E .ensures .1 .0) (E .ensures .1 .1 .0) (E .ensures .1 .1 .1) (c .before .before .before .before .before .before .before .before .before .before .before .before .before .before .before .whole-cost .result) (c .before .before .before .before .before .before .before .before .before .before .before .before .before .before .before .whole-cost .ensures .0) (c .before .before .before .before .before .before .before .before .before .before .before .before .before .before .before .whole-cost .ensures .1)) (c .before .before .before .before .before .before .before .before .before .before .put-fold .last .1 .1 .1 .0) (c .before .before .before .before .before .before .before .before .before .before .put-fold .result) (c .before .before .before .before .before .before .before .before .before .before .put-fold .ensures)
+    let S = c .before .before .before .before .before .before .before .before .before .before .before .before .before .before .before .before .before .before .before .before .before .before .before .before .before .before .before .before .before .before .before .before .before .before .before .before .before .before .before .before .before .before in folded-whole (worked (c .before .before .before .before .before .before .before .before .before .before .before .before .before .before .before .before .before .before .before .before .before .before .before .before .before .before .before .before)) (c .before .before .before .before .before .before .before .before .before .before .before .before .before .before .before .before .before .fold-length .result) (c .before .before .before .before .before .before .before .before .before .before .before .before .before .before .before .before .before .fold-length .ensures) (c .before .before .before .before .before .before .before .before .before .before .before .before .before .before .entries .result) (c .before .before .before .before .before .before .before .before .before .before .before .before .before .before .entries .ensures) (S .args .out .now) (c .before .before .before .before .before .before .clear3 .last .0) (c .before .before .clear4 .last .0) (c .before .before .before .before .before .before .clear3 .ensures) (c .before .before .clear4 .ensures) (c .before .before .before .before .before .before .before .before .before .before .before .before .before .if1 .left) (c .before .before .before .before .before .before .before .before .before .before .before .before .before .before .before .whole-cost .result) (whole-is (worked (c .before .before .before .before .before .before .before .before .before .before .before .before .before .before .before .before .before .before .before .before .before .before .before .before .before .before .before .before)) (c .before .before .before .before .before .before .before .before .before .before .before .before .before .before .before .whole-cost .result) (c .before .before .before .before .before .before .before .before .before .before .before .before .before .before .before .whole-cost .ensures .0) (c .before .before .before .before .before .before .before .before .before .before .before .before .before .before .before .whole-cost .ensures .1)) (c .before .before .before .before .before .before .before .before .before .before .put-fold .last .1 .1 .1 .0) (c .before .before .before .before .before .before .before .before .before .before .put-fold .result) (c .before .before .before .before .before .before .before .before .before .before .put-fold .ensures)
 
 pub fold-run-spec : {M : Type 1} → statement M
 fold-run-spec =

@@ -3,7 +3,7 @@
 use mathlib.Core.Path.{_≡_, sym, _∙_}
 use Prim.Native.Nat.{_+_, _-_, _≤_}
 use native.Mathlib.Omega.{arith}
-use Rattle.folder.specs.Rows.{KeysReady, Scratch}
+use Rattle.folder.specs.Rows.{KeysReady}
 use Rattle.folder.proofs.Levels.{Descended, siblings-few, descended-none, row-asks, descended-more, level-filled, level-kept}
 use Rattle.folder.proofs.level.enter_level.Statement.{statement}
 use Rattle.folder.proofs.level.enter_level.Tie as tie

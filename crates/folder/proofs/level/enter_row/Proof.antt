@@ -1,6 +1,5 @@
 -- `folder::level::enter_row` meets its contract. The row is solved whatever tree it was asked for, and so for the one that the bytes
 -- spell; stored, it enters one sibling more.
-use mathlib.Core.Path.{sym, _∙_}
 use native.Mathlib.Omega.{arith}
 use Rattle.folder.specs.Rows.{RowReady, RowSolved}
 use Rattle.folder.proofs.Solving.{few, match-low, top-low, own-low, started-rowed, row-solved, solved-low}
