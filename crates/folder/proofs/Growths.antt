@@ -1,4 +1,4 @@
--- What a row starts from: the matches grown by one sibling, how far they reach, and the cost of one sibling by itself.
+-- What a row starts from: the matches grown by one sibling, the width at which the most match, and the cost of one sibling by itself.
 use mathlib.Core.Path.{_≡_, refl, sym, _∙_}
 use mathlib.Core.Logic.{_⊎_, inl, inr, ⊎-elim}
 use mathlib.Core.List.{List}
@@ -16,7 +16,7 @@ use Rattle.optimum.proofs.Cut.{front-whole, back-back, siblings-back, siblings-
 use Rattle.optimum.proofs.Powers.{node-back, shift-grow}
 use Rattle.optimum.proofs.Cheapest.{best-cost-step, best-cost-group}
 use Rattle.folder.specs.Table.{Spelled, Numbered, Classed, cell, number}
-use Rattle.folder.specs.Rows.{Matched, Matches, Growing, Topped, Falling, Single}
+use Rattle.folder.specs.Rows.{Matched, Matches, Growing, Falling, Single}
 use Rattle.folder.proofs.Cells.{cell-in}
 use Rattle.folder.proofs.Tables.{number-first, number-last, falling-from, number-after-group, below-at}
 use Rattle.folder.proofs.Listings.{entry-more, equal-kinds, kinds-equal, Sibling, is-step, is-group}
@@ -121,47 +121,51 @@ module _ (kinds : List ℕ) (i w : ℕ) (before after : List ℕ) (g : Grown kin
               rw (e, getD-set-same after w 0 0 (omega (arith, g .long)))
               (matched-none A t r i (omega arith) w (omega arith) (λ a q. omega arith))
 
--- The most that a repeat covers, one width more taken in; the last width has no match.
-pub topped-none : (same : List ℕ) → Topped 1 same 0
-topped-none same = record { covers = λ v a l h. absurd (omega arith); one-of = inl refl }
+-- The width at which the most siblings match: none is found yet, or one below w.
+pub record Farthest (w : ℕ) (same : List ℕ) (most far : ℕ) : Type 0 where
+  pub pos : 0 < most
+  pub within : most ≤ w
+  pub is-far : far ≤ getD same most 0
+  pub all : (v : ℕ) → 0 < v → v < w → getD same v 0 ≤ far
+  pub found : (far ≡ 0) ⊎ (most < w)
 
-module _ (w : ℕ) (same : List ℕ) (top : ℕ) (t : Topped w same top) where
-  -- What stands at other places does not matter.
-  kept : (k v : ℕ) → v < w → getD (set same w k) v 0 ≡ getD same v 0
-  kept k v l = getD-set-other same w v k 0 (λ e. omega arith)
+pub farthest-none : (same : List ℕ) → Farthest 1 same 1 0
+farthest-none same = record { pos = omega arith; within = omega arith; is-far = omega arith; all = λ v a l. absurd (omega arith); found = inl refl }
 
-  below : (k c : ℕ) → top ≤ c → (v : ℕ) → 0 < v → v < w → v ≤ getD (set same w k) v 0 → v + getD (set same w k) v 0 ≤ c
-  below k c h v a l s = let e = kept k v l in omega (arith, t .covers v a l (omega arith))
+module _ (w : ℕ) (same : List ℕ) (most far : ℕ) (t : Farthest w same most far) (k : ℕ) (short : w < length same) where
+  -- What is known of the widths below stays, and of w it is k.
+  upto : (far′ : ℕ) → far ≤ far′ → k ≤ far′ → (v : ℕ) → 0 < v → v < w + 1 → getD (set same w k) v 0 ≤ far′
+  upto far′ a b v p l =
+      entry-more (λ u y. 0 < u → y ≤ far′) same w k short (λ u m q. omega (arith, t .all u q m)) (λ q. b) v l p
 
-  pub topped-less : (k : ℕ) → Topped w (set same w k) top
-  topped-less k =
+  is-still : far ≤ getD (set same w k) most 0
+  is-still = ⊎-elim
+      (λ e. omega arith)
+      (λ l. omega (arith, getD-set-other same w most k 0 (λ e. omega arith), t .is-far))
+      (t .found)
+
+  pub farthest-raised : 0 < w → far < k → Farthest (w + 1) (set same w k) w k
+  farthest-raised p h =
       record {
-        covers = below k top (omega arith);
-        one-of = ⊎-elim inl (λ x. inr (x .0, x .1, x .2, rw (kept k (x .0) (x .2)) (x .3))) (t .one-of);
+        pos = p;
+        within = omega arith;
+        is-far = rw (getD-set-same same w k 0 short) (omega arith);
+        all = upto k (omega arith) (omega arith);
+        found = inr (omega arith);
       }
 
-  module _ (k c : ℕ) (short : w < length same) (far : w ≤ k → c ≡ w + k) (near : k < w → c ≡ 0) where
-    at : (v : ℕ) → v ≡ w → getD (set same w k) v 0 ≡ k
-    at v e = rw e (getD-set-same same w k 0 short)
+  pub farthest-kept : k ≤ far → Farthest (w + 1) (set same w k) most far
+  farthest-kept h =
+      record {
+        pos = t .pos;
+        within = omega (arith, t .within);
+        is-far = is-still;
+        all = upto far (omega arith) h;
+        found = ⊎-elim inl (λ l. inr (omega arith)) (t .found);
+      }
 
-    pub topped-raised : 0 < w → top < c → Topped (w + 1) (set same w k) c
-    topped-raised pos h =
-        let f : c ≡ w + k = elim (decLt k w) [ yes l ↦ absurd (omega (arith, near l)) | no l ↦ far (omega arith) ] in
-        record {
-          covers = λ v a l s. elim (decLt v w) [ yes m ↦ below k c (omega arith) v a m s | no m ↦ omega (arith, at v (omega arith)) ];
-          one-of = inr (w, pos, omega arith, rw (at w refl) f);
-        }
-
-    pub topped-kept : c ≤ top → Topped (w + 1) (set same w k) top
-    topped-kept h =
-        let s = topped-less k in
-        record {
-          covers = λ v a l s. elim (decLt v w) [
-            | yes m ↦ below k top (omega arith) v a m s
-            | no m ↦ let e = at v (omega arith) in omega (arith, far (omega arith))
-          ];
-          one-of = ⊎-elim inl (λ x. inr (x .0, x .1, omega arith, x .3)) (s .one-of);
-        }
+  pub farthest-most : k ≡ 0 → (v : ℕ) → 0 < v → v < w + 1 → getD (set same w k) v 0 ≤ getD (set same w k) most 0
+  farthest-most z v p l = omega (arith, upto far (omega arith) (omega arith) v p l, is-still)
 
 -- The cost of sibling i by itself, by its first byte c and its label l.
 module _ (s : List ℕ) (i c l : ℕ) (x : Sibling (tree-of s) i c l) where

@@ -9,7 +9,7 @@ use Rattle.format.specs.Tree.{tree-of}
 use Rattle.optimum.specs.Cheapest.{Run, back}
 use Rattle.optimum.proofs.Cut.{siblings-le-nodes, siblings-back}
 use Rattle.folder.specs.Table.{Entered, Below, Filled, Kept, KeptOthers, Placed, Numbered, Classed, at-most, prices-of, cells}
-use Rattle.folder.specs.Rows.{Falling, Stored, Single, Matches, Growing, RowReady, RowSolved, KeysReady, LevelReady, RowGround, Scratch, Topped}
+use Rattle.folder.specs.Rows.{Falling, Stored, Single, Matches, Growing, RowReady, RowSolved, KeysReady, LevelReady, RowGround, Scratch}
 use Rattle.folder.proofs.Tables.{number-last, falling-numbered, stored-entered, stored-kept, entered-none}
 use Rattle.folder.proofs.Solving.{solved-entry}
 use Rattle.folder.proofs.Tables.{kept-others-none, kept-others-then, kept-of-others, below-others}
@@ -148,16 +148,16 @@ module _ {s : List ℕ} {b limit : ℕ} {table prices costs₀ choices₀ : List
           matched = matched-again;
         }
 
-    pub row-asks : {offsets keys : List ℕ} {w top : ℕ} → (length offsets ≡ 1025) × Placed s offsets → length numbers ≡ 1025
-        → KeysReady keys → (0 < w) × (j + w ≤ m) → Topped (m - j) matches′ top → Below (at-most limit) (prices-of table prices) b (tree-of s) costs₀ choices₀
+    pub row-asks : {offsets keys : List ℕ} {w : ℕ} → (length offsets ≡ 1025) × Placed s offsets → length numbers ≡ 1025
+        → KeysReady keys → (0 < w) × (j + w ≤ m) → ((v : ℕ) → 0 < v → j + v ≤ m → getD matches′ v 0 ≤ getD matches′ w 0) → Below (at-most limit) (prices-of table prices) b (tree-of s) costs₀ choices₀
         → LevelReady s (getD numbers m 0) limit table prices costs choices
         × (RowGround s offsets numbers j m matches′
-        × ((KeysReady keys × (0 < w) × (j + w ≤ m) × Topped (m - j) matches′ top)
+        × ((KeysReady keys × (0 < w) × (j + w ≤ m) × ((v : ℕ) → 0 < v → j + v ≤ m → getD matches′ v 0 ≤ getD matches′ w 0))
         × (Entered (at-most limit) (prices-of table prices) (getD numbers m 0) (tree-of s) (j + 1) costs choices
         × Below (at-most limit) (prices-of table prices) (getD numbers m 0) (tree-of s) costs choices)))
-    row-asks placed long keys width top below =
+    row-asks placed long keys width most below =
         let kept = below-others _ _ _ run _ _ _ _ _ (d .kept-costs) (d .kept-choices) below in
-        (level-again, (row-ground (placed .0) (placed .1) long, ((keys, width .0, width .1, top), (rw (last, next) (d .entered), rw last kept))))
+        (level-again, (row-ground (placed .0) (placed .1) long, ((keys, width .0, width .1, most), (rw (last, next) (d .entered), rw last kept))))
 
     pub descended-more : {costs′ choices′ : List ℕ} → Entered (at-most limit) (prices-of table prices) (getD numbers m 0) (tree-of s) j costs′ choices′
         → KeptOthers (getD numbers m 0) (tree-of s) costs costs′ → KeptOthers (getD numbers m 0) (tree-of s) choices choices′

@@ -16,7 +16,7 @@ use Rattle.optimum.proofs.Rank.{rank-usual}
 use Rattle.optimum.proofs.Least.{least-unique}
 use Rattle.folder.specs.Table.{Entry, stretch}
 use Rattle.folder.specs.Rows.{RowReady, Rowed, RowSolved, KeysReady, Advanced, Started, Settled, Pushed, push, pass, Widened, offer, too-wide, unlike}
-use Rattle.folder.specs.Rows.{Matched, Topped, BestKey, Keyed, Came, pair-key, offer-key, cost-at}
+use Rattle.folder.specs.Rows.{Matched, BestKey, Keyed, Came, pair-key, offer-key, cost-at}
 use Rattle.folder.proofs.Offers.{copy-more, near-power, power-near}
 use Rattle.folder.proofs.Stretches.{Modest, fitting, entry-best, best-entry, best-covers, best-low, cost-low, whole-price, whole-candidate, whole-power}
 use Rattle.folder.proofs.Stretches.{first-candidate, first-price, first-key, best-is, keyed-best, best-keyed, best-one, keyed-plain}
@@ -255,19 +255,21 @@ module _ {costs choices numbers : List ℕ} {i m own limit : ℕ} {prices same :
     pub settled-rowed : Rowed z span d after
     settled-rowed = record { final = final; keyed = λ n p h. keyed n p h (decLt span n) }
 
-  -- Stretches longer than any repeat covers have nothing to offer.
-  module _ (top : ℕ) (o : Topped (m - i) same top) where
+  -- Where no more than `span` siblings match at any width, no repeat covers more than twice as many; so longer stretches have
+  -- nothing to offer.
+  module _ (span top : ℕ) (most : (w : ℕ) → 0 < w → i + w ≤ m → getD same w 0 ≤ span) (high : (c : ℕ) → c ≤ 2 * span → c ≤ m - i → c ≤ top) where
     within : (h w : ℕ) → Power (z .allowed) (back i (z .tree)) h w → h * w ≤ top
     within h w q =
         let y = reach q in
         let twice = q .repeats .twice in
-        let near = power-near h w (getD same w 0) (run-back i (z .run)) (matched w (y .some) (omega (arith, from-here))) q in
+        let fits : i + w ≤ m = omega (arith, from-here) in
+        let near = power-near h w (getD same w 0) (run-back i (z .run)) (matched w (y .some) fits) q in
         let u : 1 ≤ h - 1 = omega arith in
         let more = copy-more (h - 1) h w (omega arith) in
-        omega (arith, mul-le-mul-right w u, o .covers w (y .some) (omega (arith, from-here)) (omega (arith, mul-le-mul-right w u)))
+        high (h * w) (omega (arith, mul-le-mul-right w u, most w (y .some) fits)) (omega (arith, from-here))
 
-    pub rowed-past : (span s : ℕ) (keys : List ℕ) → Rowed z span top keys → Rowed z span s keys
-    rowed-past span s keys r =
+    pub rowed-past : (s : ℕ) (keys : List ℕ) → Rowed z span top keys → Rowed z span s keys
+    rowed-past s keys r =
         record {
           final = r .final;
           keyed = λ n p h.
@@ -283,12 +285,6 @@ module _ {costs choices numbers : List ℕ} {i m own limit : ℕ} {prices same :
                     x .first j c c′ g w u v a b f (omega (arith, within g w (whole-power modest i c g w f a (d .candidate)))) d;
               };
         }
-
-    pub top-low : i + top ≤ m
-    top-low = ⊎-elim
-        (λ e. omega (arith, z .some))
-        (λ (x : (w : ℕ) × (0 < w) × (w < m - i) × (top ≡ w + getD same w 0)). omega (arith, x .3, match-low (x .0) (x .1) (omega (arith, x .2))))
-        (o .one-of)
 
   -- All stretches done.
   pub row-solved : (span : ℕ) (keys : List ℕ) → Rowed z span (m - i) keys → RowSolved z keys
@@ -313,10 +309,11 @@ module _ {costs numbers : List ℕ} {i m limit : ℕ} {prices same : List ℕ} {
   pub advanced-none : KeysReady before → Advanced costs numbers i m limit prices same span 0 before before
   advanced-none k = record { ready = k; rowed = λ choices own z r. r }
 
-  pub advanced-past : (top s : ℕ) (now : List ℕ) → Topped (m - i) same top → Advanced costs numbers i m limit prices same span top before now
+  pub advanced-past : (top s : ℕ) (now : List ℕ) → ((w : ℕ) → 0 < w → i + w ≤ m → getD same w 0 ≤ span)
+      → ((c : ℕ) → c ≤ 2 * span → c ≤ m - i → c ≤ top) → Advanced costs numbers i m limit prices same span top before now
       → Advanced costs numbers i m limit prices same span s before now
-  advanced-past top s now o a =
-      record { ready = a .ready; rowed = λ choices own z r. rowed-past z top o span s now (a .rowed choices own z r) }
+  advanced-past top s now most high a =
+      record { ready = a .ready; rowed = λ choices own z r. rowed-past z span top most high s now (a .rowed choices own z r) }
 
   pub advanced-more : (e d : ℕ) (now after : List ℕ) → suc e ≡ d → i + d ≤ m → Advanced costs numbers i m limit prices same span e before now → KeysReady after
       → Settled costs numbers i (m - i) limit prices d (getD same d 0) span now after → Advanced costs numbers i m limit prices same span d before after

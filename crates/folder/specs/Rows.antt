@@ -192,11 +192,6 @@ pub record Growing (kinds : List ℕ) (i m : ℕ) (before after : List ℕ) : Ty
   pub low : (w : ℕ) → 0 < w → i + w ≤ m → getD after w 0 + i ≤ 1024
   pub matches : (A : Allowed) (t : Forest) → Run A t → siblings t ≡ m → Classed t m kinds → Matches (back (i + 1) t) before → Matches (back i t) after
 
--- No repeat of a width below `end` covers more than `top` siblings, and one covers that many, if any does.
-pub record Topped (end : ℕ) (same : List ℕ) (top : ℕ) : Type 0 where
-  pub covers : (w : ℕ) → 0 < w → w < end → w ≤ getD same w 0 → w + getD same w 0 ≤ top
-  pub one-of : (top ≡ 0) ⊎ ((w : ℕ) × (0 < w) × (w < end) × (top ≡ w + getD same w 0))
-
 -- The cost of sibling i by itself, where the sequences inside the groups are entered.
 pub record Single (s table costs numbers : List ℕ) (i r : ℕ) : Type 0 where
   pub costs-it : (A : Allowed) (P : Prices) (choices : List ℕ) → ((l : ℕ) → P .of-step l ≡ getD table l 0) → ((l : ℕ) → P .of-group l ≡ getD table l 0)

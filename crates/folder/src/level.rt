@@ -9,12 +9,12 @@ use crate::row::start_row;
 use crate::table::store_row;
 use format::Format;
 use reader::node_at;
-ghost use Prim.Native.Nat.{_+_, _-_, _<_, _≤_};
+ghost use Prim.Native.Nat.{ℕ, _+_, _<_, _≤_};
 ghost use lib.ListN.{getD};
 ghost use Rattle.format.specs.Forest.{nodes};
 ghost use Rattle.format.specs.Tree.{tree-of};
 ghost use Rattle.folder.specs.Table.{Below, Entered, Filled, Kept, KeptOthers, at-most, prices-of};
-ghost use Rattle.folder.specs.Rows.{KeysReady, LevelReady, RowGround, Scratch, Topped};
+ghost use Rattle.folder.specs.Rows.{KeysReady, LevelReady, RowGround, Scratch};
 
 // Solves and enters the row of sibling i, whose siblings are those of sibling i + w as far as they match.
 pub fn enter_row(
@@ -28,14 +28,13 @@ pub fn enter_row(
     m: usize,
     matches: &[usize],
     w: usize,
-    top: usize,
     keys: &mut [u64],
     costs: &mut [u32],
     choices: &mut [u32],
 )
     requires { ⌜ LevelReady (now s) (getD (now numbers) m 0) limit (now table) (now prices) (now costs) (now choices) ⌝ }
     requires { ⌜ RowGround (now s) (now offsets) (now numbers) i m (now matches) ⌝ }
-    requires { ⌜ KeysReady (now keys) × (0 < w) × (i + w ≤ m) × Topped (m - i) (now matches) top ⌝ }
+    requires { ⌜ KeysReady (now keys) × (0 < w) × (i + w ≤ m) × ((v : ℕ) → 0 < v → i + v ≤ m → getD (now matches) v 0 ≤ getD (now matches) w 0) ⌝ }
     requires { ⌜ Entered (at-most limit) (prices-of (now table) (now prices)) (getD (now numbers) m 0) (tree-of (now s)) (i + 1) (now costs) (now choices) ⌝ }
     requires { ⌜ Below (at-most limit) (prices-of (now table) (now prices)) (getD (now numbers) m 0) (tree-of (now s)) (now costs) (now choices) ⌝ }
     ensures keys { λ _. ⌜ KeysReady (now (keys .exit)) ⌝ }
@@ -45,18 +44,7 @@ pub fn enter_row(
     let span = matches[w];
     let own = own_cost(s, table, costs, offsets, numbers, i);
     start_row(costs, choices, numbers, i, m, own, w, span, keys);
-    solve(
-        costs,
-        numbers,
-        i,
-        m,
-        limit,
-        prices,
-        matches,
-        span,
-        top,
-        keys,
-    );
+    solve(costs, numbers, i, m, limit, prices, matches, span, keys);
     store_row(costs, choices, numbers, i, m - i, keys);
 }
 
@@ -88,7 +76,7 @@ pub fn enter_level(
     let mut i = m;
     while i > 0 {
         i -= 1;
-        let ahead = grow(kinds, i, m, matches);
+        let w = grow(kinds, i, m, matches);
         enter_row(
             s,
             table,
@@ -99,8 +87,7 @@ pub fn enter_level(
             i,
             m,
             matches,
-            ahead.width,
-            ahead.top,
+            w,
             keys,
             costs,
             choices,

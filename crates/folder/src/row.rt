@@ -14,7 +14,7 @@ ghost use lib.ListN.{length, getD};
 ghost use Rattle.format.specs.Forest.{siblings};
 ghost use Rattle.format.specs.Tree.{tree-of};
 ghost use Rattle.folder.specs.Table.{Spelled, Placed, Numbered};
-ghost use Rattle.folder.specs.Rows.{Growing, Topped, Falling, Single, KeysReady, Started, Settled, Advanced};
+ghost use Rattle.folder.specs.Rows.{Growing, Falling, Single, KeysReady, Started, Settled, Advanced};
 
 // One more than k where two siblings are equal, else none.
 fn longer(a: usize, b: usize, k: usize) -> usize
@@ -27,35 +27,18 @@ fn longer(a: usize, b: usize, k: usize) -> usize
     0
 }
 
-// How many siblings the repeats of width w cover at most, where k siblings match the one w further; 0 if there is none.
-fn cover(w: usize, k: usize) -> usize
-    requires { ⌜ (w ≤ 1024) × (k ≤ 1024) ⌝ }
-    ensures { λ r. ⌜ ((w ≤ k → r ≡ w + k)) × ((k < w → r ≡ 0)) ⌝ }
-{
-    if w <= k {
-        return w + k;
-    }
-    0
-}
-
-// What the matches of a row say at once: a width at which the most siblings match, and how many siblings a repeat covers at most.
-pub struct Ahead {
-    pub width: usize,
-    pub top: usize,
-}
-
-// Grows the matches from sibling i + 1 to sibling i: how many siblings from i on equal the one w further, for each width w.
-pub fn grow(kinds: &[usize], i: usize, m: usize, matches: &mut [usize]) -> Ahead
+// Grows the matches from sibling i + 1 to sibling i: how many siblings from i on equal the one w further, for each width w. Answers
+// a width at which the most do.
+pub fn grow(kinds: &[usize], i: usize, m: usize, matches: &mut [usize]) -> usize
     requires { ⌜ (length (now kinds) ≡ 1025) × (length (now matches) ≡ 1025) × (m ≤ 1024) × (i < m) ⌝ }
     requires { ⌜ ((w : ℕ) → 0 < w → i + w < m → getD (now matches) w 0 + i < 1024) ⌝ }
     ensures grown { λ _. ⌜ Growing (now (kinds .entry)) i m (now (matches .entry)) (now (matches .exit)) ⌝ }
-    ensures width { λ r. ⌜ (0 < r .width) × (i + r .width ≤ m) ⌝ }
-    ensures top { λ r. ⌜ Topped (m - i) (now (matches .exit)) (r .top) ⌝ }
+    ensures width { λ r. ⌜ (0 < r) × (i + r ≤ m) ⌝ }
+    ensures most { λ r. ⌜ ((w : ℕ) → 0 < w → i + w ≤ m → getD (now (matches .exit)) w 0 ≤ getD (now (matches .exit)) r 0) ⌝ }
 {
     let kind = kinds[i];
     let mut most = 1;
     let mut far = 0;
-    let mut top = 0;
     let mut w = 1;
     while i + w < m {
         let k = longer(kind, kinds[i + w], matches[w]);
@@ -64,14 +47,10 @@ pub fn grow(kinds: &[usize], i: usize, m: usize, matches: &mut [usize]) -> Ahead
             far = k;
             most = w;
         }
-        let c = cover(w, k);
-        if top < c {
-            top = c;
-        }
         w += 1;
     }
     matches[w] = 0;
-    Ahead { width: most, top }
+    most
 }
 
 // The cost of one sibling by itself: its label, and for a group the cheapest fold of what it holds.
@@ -177,8 +156,17 @@ fn settle(
     }
 }
 
-// Solves the row of sibling i, stretch by stretch. No repeat covers more than `top` siblings, so longer stretches have nothing to
-// offer.
+fn smaller(a: usize, b: usize) -> usize
+    ensures { λ r. ⌜ (r ≤ a) × (r ≤ b) × ((c : ℕ) → c ≤ a → c ≤ b → c ≤ r) ⌝ }
+{
+    if a < b {
+        return a;
+    }
+    b
+}
+
+// Solves the row of sibling i, stretch by stretch. At no width do more than `span` siblings match, so no repeat covers more than
+// twice as many, and longer stretches have nothing to offer.
 pub fn solve(
     costs: &[u32],
     numbers: &[usize],
@@ -188,15 +176,16 @@ pub fn solve(
     prices: &[u64],
     matches: &[usize],
     span: usize,
-    top: usize,
     keys: &mut [u64],
 )
     requires { ⌜ Falling (now numbers) m (length (now costs)) ⌝ }
     requires { ⌜ KeysReady (now keys) × (length (now prices) ≡ 1025) × ((h : ℕ) → getD (now prices) h 0 ≤ 4294836225) ⌝ }
-    requires { ⌜ (m ≤ 1024) × (i < m) × (length (now matches) ≡ 1025) × (span ≤ 1024) × (i + top ≤ m) × Topped (m - i) (now matches) top ⌝ }
+    requires { ⌜ (m ≤ 1024) × (i < m) × (length (now matches) ≡ 1025) × (span ≤ 1024) ⌝ }
+    requires { ⌜ ((w : ℕ) → 0 < w → i + w ≤ m → getD (now matches) w 0 ≤ span) ⌝ }
     requires { ⌜ ((w : ℕ) → 0 < w → i + w ≤ m → i + w + getD (now matches) w 0 ≤ m) ⌝ }
     ensures { λ _. ⌜ Advanced (now (costs .entry)) (now (numbers .entry)) i m limit (now (prices .entry)) (now (matches .entry)) span (m - i) (now (keys .entry)) (now (keys .exit)) ⌝ }
 {
+    let top = smaller(2 * span, m - i);
     let mut d = 1;
     while d <= top {
         settle(

@@ -86,8 +86,8 @@ loop-again c =
     let next : L .i - 1 + 1 ≡ L .i = omega (arith, I .loop-test .taken) in (
       omega arith,
       descended-more (p .0) (sym (l .0)) next near (l .1 .1 .1) (L .inv .1) (classed I .classify .ensures .1) (G .grow .ensures .0)
-          {costs′ = E .last .1 .1 .1 .1 .1 .1 .1 .1 .1 .1 .1 .1 .0}
-          {choices′ = E .last .1 .1 .1 .1 .1 .1 .1 .1 .1 .1 .1 .1 .1 .0}
+          {costs′ = E .last .1 .1 .1 .1 .1 .1 .1 .1 .1 .1 .1 .0}
+          {choices′ = E .last .1 .1 .1 .1 .1 .1 .1 .1 .1 .1 .1 .1 .0}
           (r .1 .0) (r .1 .1 .0) (r .1 .1 .1),
       r .0,
     )

@@ -2,7 +2,7 @@
 -- spell; stored, it enters one sibling more.
 use native.Mathlib.Omega.{arith}
 use Rattle.folder.specs.Rows.{RowReady, RowSolved}
-use Rattle.folder.proofs.Solving.{few, match-low, top-low, own-low, started-rowed, row-solved, solved-low}
+use Rattle.folder.proofs.Solving.{few, match-low, own-low, started-rowed, row-solved, solved-low}
 use Rattle.folder.proofs.Levels.{siblings-few, level-falling, row-ready, row-entered, row-kept}
 use borrow.Author.Needs.{needs}
 use Rattle.folder.proofs.level.enter_row.Statement.{statement}
@@ -21,7 +21,7 @@ row : (c : tie.After-own-cost)
     RowReady (a .costs .now) (a .choices .now) (a .numbers .now) (a .i) (a .m) (c .own-cost .result) (a .limit) (a .prices .now) (a .matches .now))
 row c = let p = start c .pre in row-ready (p .0) (p .1 .0) (c .own-cost .ensures) (p .1 .1 .1 .0) (p .1 .1 .1 .1)
 
-solved : (c : tie.After-solve) → RowSolved (row (own c)) (c .solve .last .1 .1 .1 .1 .1 .1 .1 .1 .1 .0)
+solved : (c : tie.After-solve) → RowSolved (row (own c)) (c .solve .last .1 .1 .1 .1 .1 .1 .1 .1 .0)
 solved c =
     let a = start (own c) .args in
     let p = start (own c) .pre in
@@ -75,10 +75,8 @@ solve-requires c κs =
             p .1 .0 .some,
             p .1 .0 .long-matches,
             omega (arith, few z, match-low z (start O .args .w) (w .1) (w .2)),
-            top-low z (start O .args .top) (w .3),
-            w .3,
           ),
-          match-low z,
+          (w .3, match-low z),
         ),
       ),
     )

@@ -9,31 +9,41 @@ use Rattle.folder.proofs.row.solve.Statement.{statement}
 use Rattle.folder.proofs.row.solve.Tie as tie
 
 abbrev Inv-loop : tie.InvT-loop
-Inv-loop costs numbers i m limit prices matches span top keys₀ d₀ keys d =
+Inv-loop costs numbers i m limit prices matches span keys₀ top d₀ keys d =
     (1 ≤ d) × (d ≤ top + 1) × Advanced costs numbers i m limit prices matches span (d - 1) keys₀ keys
 
 abbrev μ-loop : tie.MeasureT-loop
-μ-loop costs numbers i m limit prices matches span top keys₀ d₀ keys d = top + 1 - d
+μ-loop costs numbers i m limit prices matches span keys₀ top d₀ keys d = top + 1 - d
+
+mul-smaller : tie.Need-mul-smaller Inv-loop μ-loop
+mul-smaller c = omega arith
+
+sub-smaller : tie.Need-sub-smaller Inv-loop μ-loop
+sub-smaller c = omega arith
+
+smaller-requires : tie.Need-smaller-requires Inv-loop μ-loop
+smaller-requires c κs = tt
 
 loop-holds : tie.Need-loop-holds Inv-loop μ-loop
-loop-holds c = (omega arith, omega arith, advanced-none (c .before .before .before .before .before .pre .1 .0 .0))
+loop-holds c = (omega arith, omega arith, advanced-none (c .before .before .before .before .before .before .pre .1 .0 .0))
 
 mul-settle : tie.Need-mul-settle Inv-loop μ-loop
-mul-settle c = omega arith
+mul-settle c = omega (arith, c .before .before .smaller .ensures)
 
 shared-slice-read-settle : tie.Need-shared-slice-read-settle Inv-loop μ-loop
-shared-slice-read-settle c = omega arith
+shared-slice-read-settle c = omega (arith, c .before .before .before .smaller .ensures)
 
 settle-requires : tie.Need-settle-requires Inv-loop μ-loop
 settle-requires c κs =
-    let p = c .before .before .before .before .before .before .before .before .before .pre in
+    let p = c .before .before .before .before .before .before .before .before .before .before .pre in
+    let few = c .before .before .before .before .smaller .ensures in
     let L = c .before .before .before .loop in (
       p .0,
-      ((L .inv .2 .ready, p .1 .0 .1, p .1 .0 .2), (omega arith, omega arith, p .1 .1 .1 (L .d) (omega arith) (omega arith), omega arith)),
+      ((L .inv .2 .ready, p .1 .0 .1, p .1 .0 .2), (omega arith, omega arith, p .1 .1 .1 .1 (L .d) (omega arith) (omega arith), omega arith)),
     )
 
 add-d : tie.Need-add-d Inv-loop μ-loop
-add-d c = omega arith
+add-d c = omega (arith, c .before .before .before .before .before .before .before .smaller .ensures)
 
 loop-less : tie.Need-loop-less Inv-loop μ-loop
 loop-less c = omega arith
@@ -42,6 +52,7 @@ loop-again : tie.Need-loop-again Inv-loop μ-loop
 loop-again c =
     let L = c .before .before .before .before .before .before .loop in
     let s = c .before .before .settle .ensures in
+    let few = c .before .before .before .before .before .before .before .smaller .ensures in
     let e : L .d + 1 - 1 ≡ L .d = omega arith in (
       omega arith,
       omega arith,
@@ -50,12 +61,13 @@ loop-again c =
 
 returns : tie.Need-returns Inv-loop μ-loop
 returns c =
-    let S = c .before .before .before .before .before .before .before in
-    let e : c .before .loop .d - 1 ≡ S .args .top = omega arith in
-    advanced-past (S .args .top) (S .args .m - S .args .i) _ (S .pre .1 .1 .0 .5) (rw e at (c .before .loop .inv .2))
+    let S = c .before .before .before .before .before .before .before .before in
+    let top = c .before .before .smaller in
+    let e : c .before .loop .d - 1 ≡ top .result = omega arith in
+    advanced-past (top .result) (S .args .m - S .args .i) _ (S .pre .1 .1 .1 .0) (top .ensures .2) (rw e at (c .before .loop .inv .2))
 
 same-length : tie.Need-same-length Inv-loop μ-loop
-same-length c = c .before .loop .inv .2 .ready .long ∙ sym (c .before .before .before .before .before .before .before .pre .1 .0 .0 .long)
+same-length c = c .before .loop .inv .2 .ready .long ∙ sym (c .before .before .before .before .before .before .before .before .pre .1 .0 .0 .long)
 
 pub solve-spec : {M : Type 1} → statement M
 solve-spec =
@@ -63,6 +75,9 @@ solve-spec =
     (tie.spec
     Inv-loop
     μ-loop
+    mul-smaller
+    sub-smaller
+    smaller-requires
     loop-holds
     mul-settle
     shared-slice-read-settle
