@@ -7,7 +7,7 @@ ghost use mathlib.Core.Bool.{true};
 ghost use mathlib.Core.List.{List, _∷_};
 ghost use Prim.Native.Nat.{ℕ, suc, _+_, _*_, _<_, _≤_};
 ghost use lib.ListN.{length, getD, drop};
-ghost use Rattle.format.specs.Machine.{Open, a-group, a-repeat};
+ghost use Rattle.format.specs.Machine.{Open, a-group, a-repeat, after-repeat};
 ghost use Rattle.reader.specs.Walk.{At, Room, Grown, Halted, Sane, Item, Entered, Left, in-group-of, in-repeat-of, rules-of, word-at, repeat-at};
 
 // What the reader was asked: whether repeats may stand in the input, the width limit, and the repeat prices.
@@ -62,6 +62,17 @@ pub fn operand(s: &[u8], at: usize) -> usize
     wide(s[at]) * 256 + wide(s[at + 1])
 }
 
+// A walk that is refused with this number at this place.
+pub fn refused(number: u8, at: usize, t: Tally) -> Walk
+    ensures { λ r. ⌜ r ≡ record { refusal = number; at = at; tally = t } ⌝ }
+{
+    Walk {
+        refusal: number,
+        at,
+        tally: t,
+    }
+}
+
 // A step: refusals 3 and 10.
 pub fn step(s: &[u8], costs: &[u16], a: Terms, at: usize, d: Depth, t: Tally) -> Walk
     requires { ⌜ At (now s) at 0x10 ⌝ }
@@ -69,18 +80,10 @@ pub fn step(s: &[u8], costs: &[u16], a: Terms, at: usize, d: Depth, t: Tally) ->
     ensures { λ r. ⌜ Item (rules-of a (now (costs .entry))) (now (s .entry)) d at t r ⌝ }
 {
     if s.len() - at < 2 {
-        return Walk {
-            refusal: 3,
-            at: s.len(),
-            tally: t,
-        };
+        return refused(3, s.len(), t);
     }
     if Format::NODES <= t.nodes {
-        return Walk {
-            refusal: 10,
-            at,
-            tally: t,
-        };
+        return refused(10, at, t);
     }
     let p = price(costs, s[at + 1]);
     Walk {
@@ -102,25 +105,13 @@ pub fn enter_group(s: &[u8], costs: &[u16], a: Terms, at: usize, d: Depth, t: Ta
     ensures { λ r. ⌜ Entered (rules-of a (now (costs .entry))) (now (s .entry)) d (in-group-of d) at t (a-group t) 2 1 65535 r ⌝ }
 {
     if s.len() - at < 2 {
-        return Walk {
-            refusal: 3,
-            at: s.len(),
-            tally: t,
-        };
+        return refused(3, s.len(), t);
     }
     if Format::GROUPS <= d.groups {
-        return Walk {
-            refusal: 8,
-            at,
-            tally: t,
-        };
+        return refused(8, at, t);
     }
     if Format::NODES <= t.nodes {
-        return Walk {
-            refusal: 10,
-            at,
-            tally: t,
-        };
+        return refused(10, at, t);
     }
     let p = price(costs, s[at + 1]);
     Walk {
@@ -153,19 +144,11 @@ pub fn leave_group(
     ensures { λ r. ⌜ Left (rules-of a (now (costs .entry))) (now (s .entry)) d at t i (a-group t) r ⌝ }
 {
     if at == s.len() {
-        return Walk {
-            refusal: 3,
-            at,
-            tally: t,
-        };
+        return refused(3, at, t);
     }
     if s[at] == Format::GROUP_END {
         if i.siblings == 0 {
-            return Walk {
-                refusal: 5,
-                at,
-                tally: t,
-            };
+            return refused(5, at, t);
         }
         return Walk {
             refusal: 0,
@@ -179,17 +162,9 @@ pub fn leave_group(
         };
     }
     if a.folds {
-        return Walk {
-            refusal: 4,
-            at,
-            tally: t,
-        };
+        return refused(4, at, t);
     }
-    Walk {
-        refusal: 2,
-        at,
-        tally: t,
-    }
+    refused(2, at, t)
 }
 
 // The open of a repeat: refusals 2, 3, 6, 7 and 8.
@@ -201,41 +176,21 @@ pub fn enter_repeat(s: &[u8], costs: &[u16], a: Terms, at: usize, d: Depth, t: T
     ensures { λ r. ⌜ (r .refusal ≡ 0 → (a .folds ≡ true) × (2 ≤ word-at (now (s .entry)) (at + 1)) × (at + 5 ≤ length (now (s .entry)))) ⌝ }
 {
     if !a.folds {
-        return Walk {
-            refusal: 2,
-            at,
-            tally: t,
-        };
+        return refused(2, at, t);
     }
     if s.len() - at < 5 {
-        return Walk {
-            refusal: 3,
-            at: s.len(),
-            tally: t,
-        };
+        return refused(3, s.len(), t);
     }
     let count = operand(s, at + 1);
     if count < 2 {
-        return Walk {
-            refusal: 6,
-            at,
-            tally: t,
-        };
+        return refused(6, at, t);
     }
     let width = operand(s, at + 3);
     if a.widest < width {
-        return Walk {
-            refusal: 7,
-            at,
-            tally: t,
-        };
+        return refused(7, at, t);
     }
     if Format::REPEATS <= d.repeats {
-        return Walk {
-            refusal: 8,
-            at,
-            tally: t,
-        };
+        return refused(8, at, t);
     }
     let p = a.first + a.each * ((count - 2) as u64);
     Walk {
@@ -247,6 +202,23 @@ pub fn enter_repeat(s: &[u8], costs: &[u16], a: Terms, at: usize, d: Depth, t: T
             size: t.size,
             cost: t.cost + p,
         },
+    }
+}
+
+// The counts behind a repeat whose outer counts are t and inner counts i: all but the cost are those of every pass.
+fn after_passes(count: usize, t: Tally, i: Tally) -> Tally
+    requires { ⌜ (1 ≤ count) × (count < 65536) ⌝ }
+    requires { ⌜ (t .siblings ≤ 1024) × (i .siblings ≤ 1024) ⌝ }
+    requires { ⌜ (t .nodes ≤ i .nodes) × (i .nodes ≤ 1024) ⌝ }
+    requires { ⌜ (t .size ≤ i .size) × (i .size ≤ 3072) ⌝ }
+    ensures { λ r. ⌜ r ≡ after-repeat count t i ⌝ }
+{
+    let more = count - 1;
+    Tally {
+        siblings: t.siblings + count * i.siblings,
+        nodes: i.nodes + more * (i.nodes - t.nodes),
+        size: i.size + more * (i.size - t.size),
+        cost: i.cost,
     }
 }
 
@@ -270,49 +242,24 @@ pub fn leave_repeat(
     ensures { λ r. ⌜ Left (rules-of a (now (costs .entry))) (now (s .entry)) d at t i (a-repeat count width t) r ⌝ }
 {
     if at == s.len() {
-        return Walk {
-            refusal: 3,
-            at,
-            tally: t,
-        };
+        return refused(3, at, t);
     }
     if s[at] == Format::GROUP_END {
-        return Walk {
-            refusal: 4,
-            at,
-            tally: t,
-        };
+        return refused(4, at, t);
     }
     if i.siblings == 0 {
-        return Walk {
-            refusal: 5,
-            at,
-            tally: t,
-        };
+        return refused(5, at, t);
     }
     if i.siblings != width {
-        return Walk {
-            refusal: 9,
-            at,
-            tally: t,
-        };
+        return refused(9, at, t);
     }
-    let more = count - 1;
-    if Format::NODES < i.nodes + more * (i.nodes - t.nodes) {
-        return Walk {
-            refusal: 10,
-            at,
-            tally: t,
-        };
+    let passed = after_passes(count, t, i);
+    if Format::NODES < passed.nodes {
+        return refused(10, at, t);
     }
     Walk {
         refusal: 0,
         at: at + 1,
-        tally: Tally {
-            siblings: t.siblings + count * i.siblings,
-            nodes: i.nodes + more * (i.nodes - t.nodes),
-            size: i.size + more * (i.size - t.size),
-            cost: i.cost,
-        },
+        tally: passed,
     }
 }

@@ -8,6 +8,7 @@ use command::Depth;
 use command::Terms;
 use command::Walk;
 pub use command::price;
+use command::refused;
 pub use command::wide_cost;
 use format::FoldReading;
 use format::Format;
@@ -48,24 +49,12 @@ fn whole(s: &[u8], costs: &[u16], a: Terms) -> Walk
         return w;
     }
     if s[at] == Format::GROUP_END {
-        return Walk {
-            refusal: 4,
-            at,
-            tally: none,
-        };
+        return refused(4, at, none);
     }
     if a.folds {
-        return Walk {
-            refusal: 4,
-            at,
-            tally: none,
-        };
+        return refused(4, at, none);
     }
-    Walk {
-        refusal: 2,
-        at,
-        tally: none,
-    }
+    refused(2, at, none)
 }
 
 // The run reader: refusals 1 to 10, or the number of nodes.

@@ -8,6 +8,7 @@ use crate::command::enter_repeat;
 use crate::command::leave_group;
 use crate::command::leave_repeat;
 use crate::command::operand;
+use crate::command::refused;
 use crate::command::step;
 use format::Format;
 use format::Tally;
@@ -71,11 +72,7 @@ fn item(s: &[u8], costs: &[u16], a: Terms, at: usize, d: Depth, t: Tally) -> Wal
     if c == Format::REPEAT {
         return repeat(s, costs, a, at, d, t);
     }
-    Walk {
-        refusal: 1,
-        at,
-        tally: t,
-    }
+    refused(1, at, t)
 }
 
 // The group at `at`.

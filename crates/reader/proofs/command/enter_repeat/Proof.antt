@@ -8,16 +8,22 @@ use Rattle.reader.proofs.Commands.{repeat-in-run, repeat-short, repeat-
 use Rattle.reader.proofs.command.enter_repeat.Statement.{statement}
 use Rattle.reader.proofs.command.enter_repeat.Tie as tie
 
+refused-requires : tie.Need-refused-requires
+refused-requires c κs = search needs
+
 returns : tie.Need-returns
 returns c =
-    let S = c .before .before .before .before in (repeat-in-run (S .args .a) (S .args .costs .now) (S .args .s .now) (S .args .d) (S .args .at) (S .args .t) (S .pre .0) (S .pre .1 .0) (not-true _ (c .if1 .taken)) _ _, λ z. absurd (omega arith))
+    let S = c .before .before .before .before .before in rw (c .refused .ensures) (repeat-in-run (S .args .a) (S .args .costs .now) (S .args .s .now) (S .args .d) (S .args .at) (S .args .t) (S .pre .0) (S .pre .1 .0) (not-true _ (c .before .if1 .taken)) _ _, λ z. absurd (omega arith))
 
 sub-if2 : tie.Need-sub-if2
 sub-if2 c = search needs
 
+refused-requires-2 : tie.Need-refused-requires-2
+refused-requires-2 c κs = search needs
+
 returns-2 : tie.Need-returns-2
 returns-2 c =
-    let S = c .before .before .before .before .before in (repeat-short (S .args .a) (S .args .costs .now) (S .args .s .now) (S .args .d) (S .args .at) (S .args .t) (S .pre .0) (S .pre .1 .0) (not-false _ (c .before .if1 .left)) (omega (arith, S .pre .0 .below)) _ _, λ z. absurd (omega arith))
+    let S = c .before .before .before .before .before .before in rw (c .refused2 .ensures) (repeat-short (S .args .a) (S .args .costs .now) (S .args .s .now) (S .args .d) (S .args .at) (S .args .t) (S .pre .0) (S .pre .1 .0) (not-false _ (c .before .before .if1 .left)) (omega (arith, S .pre .0 .below)) _ _, λ z. absurd (omega arith))
 
 add-operand : tie.Need-add-operand
 add-operand c = search needs
@@ -25,9 +31,12 @@ add-operand c = search needs
 operand-requires : tie.Need-operand-requires
 operand-requires c κs = search needs
 
+refused-requires-3 : tie.Need-refused-requires-3
+refused-requires-3 c κs = search needs
+
 returns-3 : tie.Need-returns-3
 returns-3 c =
-    let S = c .before .before .before .before .before .before .before in (repeat-few (S .args .a) (S .args .costs .now) (S .args .s .now) (S .args .d) (S .args .at) (S .args .t) (S .pre .0) (S .pre .1 .0) (not-false _ (c .before .before .before .if1 .left)) (omega (arith, S .pre .0 .below)) (omega arith) _ _, λ z. absurd (omega arith))
+    let S = c .before .before .before .before .before .before .before .before in rw (c .refused3 .ensures) (repeat-few (S .args .a) (S .args .costs .now) (S .args .s .now) (S .args .d) (S .args .at) (S .args .t) (S .pre .0) (S .pre .1 .0) (not-false _ (c .before .before .before .before .if1 .left)) (omega (arith, S .pre .0 .below)) (omega arith) _ _, λ z. absurd (omega arith))
 
 add-operand-2 : tie.Need-add-operand-2
 add-operand-2 c = search needs
@@ -35,13 +44,19 @@ add-operand-2 c = search needs
 operand-requires-2 : tie.Need-operand-requires-2
 operand-requires-2 c κs = search needs
 
+refused-requires-4 : tie.Need-refused-requires-4
+refused-requires-4 c κs = search needs
+
 returns-4 : tie.Need-returns-4
 returns-4 c =
-    let S = c .before .before .before .before .before .before .before .before .before .before in (repeat-wide (S .args .a) (S .args .costs .now) (S .args .s .now) (S .args .d) (S .args .at) (S .args .t) (S .pre .0) (S .pre .1 .0) (not-false _ (c .before .before .before .before .before .before .if1 .left)) (omega (arith, S .pre .0 .below)) (omega arith) (omega arith) _ _, λ z. absurd (omega arith))
+    let S = c .before .before .before .before .before .before .before .before .before .before .before in rw (c .refused4 .ensures) (repeat-wide (S .args .a) (S .args .costs .now) (S .args .s .now) (S .args .d) (S .args .at) (S .args .t) (S .pre .0) (S .pre .1 .0) (not-false _ (c .before .before .before .before .before .before .before .if1 .left)) (omega (arith, S .pre .0 .below)) (omega arith) (omega arith) _ _, λ z. absurd (omega arith))
+
+refused-requires-5 : tie.Need-refused-requires-5
+refused-requires-5 c κs = search needs
 
 returns-5 : tie.Need-returns-5
 returns-5 c =
-    let S = c .before .before .before .before .before .before .before .before .before .before .before .before in (repeat-deep (S .args .a) (S .args .costs .now) (S .args .s .now) (S .args .d) (S .args .at) (S .args .t) (S .pre .0) (S .pre .1 .0) (not-false _ (c .before .before .before .before .before .before .before .before .if1 .left)) (omega (arith, S .pre .0 .below)) (omega arith) (omega arith) (omega arith) _ _, λ z. absurd (omega arith))
+    let S = c .before .before .before .before .before .before .before .before .before .before .before .before .before in rw (c .refused5 .ensures) (repeat-deep (S .args .a) (S .args .costs .now) (S .args .s .now) (S .args .d) (S .args .at) (S .args .t) (S .pre .0) (S .pre .1 .0) (not-false _ (c .before .before .before .before .before .before .before .before .before .if1 .left)) (omega (arith, S .pre .0 .below)) (omega arith) (omega arith) (omega arith) _ _, λ z. absurd (omega arith))
 
 mul-p : tie.Need-mul-p
 mul-p c =
@@ -66,15 +81,20 @@ pub enter-repeat-spec : {M : Type 1} → statement M
 enter-repeat-spec =
     tie.close
     (tie.spec
+    refused-requires
     returns
     sub-if2
+    refused-requires-2
     returns-2
     add-operand
     operand-requires
+    refused-requires-3
     returns-3
     add-operand-2
     operand-requires-2
+    refused-requires-4
     returns-4
+    refused-requires-5
     returns-5
     mul-p
     add-p

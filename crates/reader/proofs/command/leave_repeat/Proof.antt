@@ -1,105 +1,74 @@
 -- `leave_repeat` meets its contract.
 use borrow.Author.Needs.{needs}
 use native.Mathlib.Omega.{arith}
-use Rattle.reader.proofs.Commands.{left-open, repeat-crossed, repeat-empty, repeat-untrue, repeat-full, repeat-left, repeat-grown, bounded}
-use Prim.Native.Nat.{_-_}
+use Rattle.reader.proofs.Commands.{left-open, repeat-crossed, repeat-empty, repeat-untrue, repeat-full, repeat-left, repeat-grown}
 use Rattle.reader.proofs.command.leave_repeat.Statement.{statement}
 use Rattle.reader.proofs.command.leave_repeat.Tie as tie
 
+refused-requires : tie.Need-refused-requires
+refused-requires c κs = search needs
+
 returns : tie.Need-returns
-returns c = search (left-open, arith)
+returns c =
+    let S = c .before .before .before .before in rw (c .refused .ensures) (left-open (S .args .a) (S .args .costs .now) (S .args .s .now) (S .args .d) (S .args .at) (S .args .t) (S .args .i) (S .pre .0) (S .pre .1 .1 .1 .0 .1) (c .before .if1 .taken) _ _)
 
 shared-slice-read-if2 : tie.Need-shared-slice-read-if2
 shared-slice-read-if2 c = search needs
 
+refused-requires-2 : tie.Need-refused-requires-2
+refused-requires-2 c κs = search needs
+
 returns-2 : tie.Need-returns-2
 returns-2 c =
-    let S = c .before .before .before in repeat-crossed (S .args .a) (S .args .costs .now) (S .args .s .now) (S .args .d) (S .args .at) (S .args .t) (S .args .i) (S .pre .0) (S .pre .1 .1 .1 .0 .1) (c .before .before .if1 .left) (S .pre .1 .1 .0 .0) (S .args .count) (S .args .width) (c .if2 .taken) _
+    let S = c .before .before .before .before .before .before in rw (c .refused2 .ensures) (repeat-crossed (S .args .a) (S .args .costs .now) (S .args .s .now) (S .args .d) (S .args .at) (S .args .t) (S .args .i) (S .pre .0) (S .pre .1 .1 .1 .0 .1) (c .before .before .before .if1 .left) (S .pre .1 .1 .0 .0) (S .args .count) (S .args .width) (c .before .if2 .taken) _)
+
+refused-requires-3 : tie.Need-refused-requires-3
+refused-requires-3 c κs = search needs
 
 returns-3 : tie.Need-returns-3
 returns-3 c =
-    let S = c .before .before .before .before .before in repeat-empty (S .args .a) (S .args .costs .now) (S .args .s .now) (S .args .d) (S .args .at) (S .args .t) (S .args .i) (S .pre .0) (S .pre .1 .1 .1 .0 .1) (c .before .before .before .before .if1 .left) (S .pre .1 .1 .0 .0) (S .args .count) (S .args .width) (S .pre .0 .close (c .before .before .before .before .if1 .left) (c .before .before .if2 .left)) (c .if3 .taken) _
+    let S = c .before .before .before .before .before .before .before .before in rw (c .refused3 .ensures) (repeat-empty (S .args .a) (S .args .costs .now) (S .args .s .now) (S .args .d) (S .args .at) (S .args .t) (S .args .i) (S .pre .0) (S .pre .1 .1 .1 .0 .1) (c .before .before .before .before .before .if1 .left) (S .pre .1 .1 .0 .0) (S .args .count) (S .args .width) (S .pre .0 .close (c .before .before .before .before .before .if1 .left) (c .before .before .before .if2 .left)) (c .before .if3 .taken) _)
+
+refused-requires-4 : tie.Need-refused-requires-4
+refused-requires-4 c κs = search needs
 
 returns-4 : tie.Need-returns-4
 returns-4 c =
-    let S = c .before .before .before .before .before .before .before in repeat-untrue (S .args .a) (S .args .costs .now) (S .args .s .now) (S .args .d) (S .args .at) (S .args .t) (S .args .i) (S .pre .0) (S .pre .1 .1 .1 .0 .1) (c .before .before .before .before .before .before .if1 .left) (S .pre .1 .1 .0 .0) (S .args .count) (S .args .width) (S .pre .0 .close (c .before .before .before .before .before .before .if1 .left) (c .before .before .before .before .if2 .left)) (c .before .before .if3 .left) (c .if4 .taken) _
+    let S = c .before .before .before .before .before .before .before .before .before .before in rw (c .refused4 .ensures) (repeat-untrue (S .args .a) (S .args .costs .now) (S .args .s .now) (S .args .d) (S .args .at) (S .args .t) (S .args .i) (S .pre .0) (S .pre .1 .1 .1 .0 .1) (c .before .before .before .before .before .before .before .if1 .left) (S .pre .1 .1 .0 .0) (S .args .count) (S .args .width) (S .pre .0 .close (c .before .before .before .before .before .before .before .if1 .left) (c .before .before .before .before .before .if2 .left)) (c .before .before .before .if3 .left) (c .before .if4 .taken) _)
 
-sub-more : tie.Need-sub-more
-sub-more c = search needs
+after-passes-requires : tie.Need-after-passes-requires
+after-passes-requires c κs =
+    let S = c .before .before .before .before .before .before .before .before .before in omega (arith, S .pre .1)
 
-sub-if5 : tie.Need-sub-if5
-sub-if5 c = search needs
-
-mul-if5 : tie.Need-mul-if5
-mul-if5 c =
-    let S = c .before .before .before .before .before .before .before .before .before in omega (arith, bounded (S .args .count - 1) (S .args .i .nodes - S .args .t .nodes) 65534 1024 (omega (arith, S .pre .1 .1 .0 .2)) (omega (arith, S .pre .1 .1 .1 .0 .1)))
-
-add-if5 : tie.Need-add-if5
-add-if5 c =
-    let S = c .before .before .before .before .before .before .before .before .before .before in omega (arith, bounded (S .args .count - 1) (S .args .i .nodes - S .args .t .nodes) 65534 1024 (omega (arith, S .pre .1 .1 .0 .2)) (omega (arith, S .pre .1 .1 .1 .0 .1)), S .pre .1 .1 .1 .0 .1)
+refused-requires-5 : tie.Need-refused-requires-5
+refused-requires-5 c κs = search needs
 
 returns-5 : tie.Need-returns-5
 returns-5 c =
-    let S = c .before .before .before .before .before .before .before .before .before .before .before in repeat-full (S .args .a) (S .args .costs .now) (S .args .s .now) (S .args .d) (S .args .at) (S .args .t) (S .args .i) (S .pre .0) (S .pre .1 .1 .1 .0 .1) (c .before .before .before .before .before .before .before .before .before .before .if1 .left) (S .pre .1 .1 .0 .0) (S .args .count) (S .args .width) (S .pre .0 .close (c .before .before .before .before .before .before .before .before .before .before .if1 .left) (c .before .before .before .before .before .before .before .before .if2 .left)) (c .before .before .before .before .before .before .if3 .left) (c .before .before .before .before .if4 .left) (c .if5 .taken) _
+    let S = c .before .before .before .before .before .before .before .before .before .before .before .before .before in rw (c .refused5 .ensures) (repeat-full (S .args .a) (S .args .costs .now) (S .args .s .now) (S .args .d) (S .args .at) (S .args .t) (S .args .i) (S .pre .0) (S .pre .1 .1 .1 .0 .1) (c .before .before .before .before .before .before .before .before .before .before .if1 .left) (S .pre .1 .1 .0 .0) (S .args .count) (S .args .width) (S .pre .0 .close (c .before .before .before .before .before .before .before .before .before .before .if1 .left) (c .before .before .before .before .before .before .before .before .if2 .left)) (c .before .before .before .before .before .before .if3 .left) (c .before .before .before .before .if4 .left) (rw (c .before .before .before .after-passes .ensures) at (c .before .if5 .taken)) _)
 
 add-t11 : tie.Need-add-t11
 add-t11 c = search needs
 
-mul-t15 : tie.Need-mul-t15
-mul-t15 c =
-    let S = c .before .before .before .before .before .before .before .before .before .before .before .before in let g = repeat-grown (S .args .count) (S .args .t) (S .args .i) (S .pre .1 .1 .0 .1) (S .pre .1 .1 .1 .0 .0) (omega (arith, c .before .before .before .before .before .before .before .if3 .left)) (S .pre .1 .1 .1 .1 .0) (S .pre .1 .1 .1 .1 .1) (S .pre .1 .1 .1 .1 .2) (c .before .if5 .left) in omega (arith, g, S .pre .1 .0)
-
-add-t16 : tie.Need-add-t16
-add-t16 c =
-    let S = c .before .before .before .before .before .before .before .before .before .before .before .before .before in let g = repeat-grown (S .args .count) (S .args .t) (S .args .i) (S .pre .1 .1 .0 .1) (S .pre .1 .1 .1 .0 .0) (omega (arith, c .before .before .before .before .before .before .before .before .if3 .left)) (S .pre .1 .1 .1 .1 .0) (S .pre .1 .1 .1 .1 .1) (S .pre .1 .1 .1 .1 .2) (c .before .before .if5 .left) in omega (arith, g, S .pre .1 .0)
-
-sub-t17 : tie.Need-sub-t17
-sub-t17 c =
-    let S = c .before .before .before .before .before .before .before .before .before .before .before .before .before .before .before in omega (arith, S .pre .1 .1 .1 .0)
-
-mul-t18 : tie.Need-mul-t18
-mul-t18 c = search needs
-
-add-t19 : tie.Need-add-t19
-add-t19 c = search needs
-
-sub-t20 : tie.Need-sub-t20
-sub-t20 c =
-    let S = c .before .before .before .before .before .before .before .before .before .before .before .before .before .before .before .before .before .before in omega (arith, S .pre .1 .1 .1 .1)
-
-mul-t21 : tie.Need-mul-t21
-mul-t21 c =
-    let S = c .before .before .before .before .before .before .before .before .before .before .before .before .before .before .before .before .before .before in let g = repeat-grown (S .args .count) (S .args .t) (S .args .i) (S .pre .1 .1 .0 .1) (S .pre .1 .1 .1 .0 .0) (omega (arith, c .before .before .before .before .before .before .before .before .before .before .before .before .before .if3 .left)) (S .pre .1 .1 .1 .1 .0) (S .pre .1 .1 .1 .1 .1) (S .pre .1 .1 .1 .1 .2) (c .before .before .before .before .before .before .before .if5 .left) in omega (arith, g, S .pre .1 .0)
-
-add-t22 : tie.Need-add-t22
-add-t22 c =
-    let S = c .before .before .before .before .before .before .before .before .before .before .before .before .before .before .before .before .before .before .before in let g = repeat-grown (S .args .count) (S .args .t) (S .args .i) (S .pre .1 .1 .0 .1) (S .pre .1 .1 .1 .0 .0) (omega (arith, c .before .before .before .before .before .before .before .before .before .before .before .before .before .before .if3 .left)) (S .pre .1 .1 .1 .1 .0) (S .pre .1 .1 .1 .1 .1) (S .pre .1 .1 .1 .1 .2) (c .before .before .before .before .before .before .before .before .if5 .left) in omega (arith, g, S .pre .1 .0)
-
 returns-6 : tie.Need-returns-6
 returns-6 c =
-    let S = c .before .before .before .before .before .before .before .before .before .before .before .before .before .before .before .before .before .before .before in let g = repeat-grown (S .args .count) (S .args .t) (S .args .i) (S .pre .1 .1 .0 .1) (S .pre .1 .1 .1 .0 .0) (omega (arith, c .before .before .before .before .before .before .before .before .before .before .before .before .before .before .if3 .left)) (S .pre .1 .1 .1 .1 .0) (S .pre .1 .1 .1 .1 .1) (S .pre .1 .1 .1 .1 .2) (c .before .before .before .before .before .before .before .before .if5 .left) in repeat-left (S .args .a) (S .args .costs .now) (S .args .s .now) (S .args .d) (S .args .at) (S .args .t) (S .args .i) (S .pre .0) (S .pre .1 .1 .1 .0 .1) (c .before .before .before .before .before .before .before .before .before .before .before .before .before .before .before .before .before .before .if1 .left) (S .pre .1 .1 .0 .0) (S .args .count) (S .args .width) (S .pre .0 .close (c .before .before .before .before .before .before .before .before .before .before .before .before .before .before .before .before .before .before .if1 .left) (c .before .before .before .before .before .before .before .before .before .before .before .before .before .before .before .before .if2 .left)) (c .before .before .before .before .before .before .before .before .before .before .before .before .before .before .if3 .left) (c .before .before .before .before .before .before .before .before .before .before .before .before .if4 .left) (c .before .before .before .before .before .before .before .before .if5 .left) g
+    let S = c .before .before .before .before .before .before .before .before .before .before .before .before in let p = c .before .before .after-passes in let e = rw (p .ensures) at (c .if5 .left) in let g = repeat-grown (S .args .count) (S .args .t) (S .args .i) (S .pre .1 .1 .0 .1) (S .pre .1 .1 .1 .0 .0) (omega (arith, c .before .before .before .before .before .if3 .left)) (S .pre .1 .1 .1 .1 .0) (S .pre .1 .1 .1 .1 .1) (S .pre .1 .1 .1 .1 .2) e in rw (p .ensures) (repeat-left (S .args .a) (S .args .costs .now) (S .args .s .now) (S .args .d) (S .args .at) (S .args .t) (S .args .i) (S .pre .0) (S .pre .1 .1 .1 .0 .1) (c .before .before .before .before .before .before .before .before .before .if1 .left) (S .pre .1 .1 .0 .0) (S .args .count) (S .args .width) (S .pre .0 .close (c .before .before .before .before .before .before .before .before .before .if1 .left) (c .before .before .before .before .before .before .before .if2 .left)) (c .before .before .before .before .before .if3 .left) (c .before .before .before .if4 .left) e g)
 
 pub leave-repeat-spec : {M : Type 1} → statement M
 leave-repeat-spec =
     tie.close
     (tie.spec
+    refused-requires
     returns
     shared-slice-read-if2
+    refused-requires-2
     returns-2
+    refused-requires-3
     returns-3
+    refused-requires-4
     returns-4
-    sub-more
-    sub-if5
-    mul-if5
-    add-if5
+    after-passes-requires
+    refused-requires-5
     returns-5
     add-t11
-    mul-t15
-    add-t16
-    sub-t17
-    mul-t18
-    add-t19
-    sub-t20
-    mul-t21
-    add-t22
     returns-6)

@@ -8,13 +8,19 @@ use Rattle.reader.proofs.command.step.Tie as tie
 sub-if1 : tie.Need-sub-if1
 sub-if1 c = search needs
 
+refused-requires : tie.Need-refused-requires
+refused-requires c κs = search needs
+
 returns : tie.Need-returns
 returns c =
-    let S = c .before .before .before in step-short (S .args .a) (S .args .costs .now) (S .args .s .now) (S .args .d) (S .args .at) (S .args .t) (S .pre .0) (omega (arith, S .pre .0 .below)) _
+    let S = c .before .before .before .before in rw (c .refused .ensures) (step-short (S .args .a) (S .args .costs .now) (S .args .s .now) (S .args .d) (S .args .at) (S .args .t) (S .pre .0) (omega (arith, S .pre .0 .below)) _)
+
+refused-requires-2 : tie.Need-refused-requires-2
+refused-requires-2 c κs = search needs
 
 returns-2 : tie.Need-returns-2
 returns-2 c =
-    let S = c .before .before .before .before .before in step-full (S .args .a) (S .args .costs .now) (S .args .s .now) (S .args .d) (S .args .at) (S .args .t) (S .pre .0) (omega (arith, S .pre .0 .below)) (omega arith) _
+    let S = c .before .before .before .before .before .before in rw (c .refused2 .ensures) (step-full (S .args .a) (S .args .costs .now) (S .args .s .now) (S .args .d) (S .args .at) (S .args .t) (S .pre .0) (omega (arith, S .pre .0 .below)) (omega arith) _)
 
 add-price : tie.Need-add-price
 add-price c = search needs
@@ -49,7 +55,9 @@ step-spec =
     tie.close
     (tie.spec
     sub-if1
+    refused-requires
     returns
+    refused-requires-2
     returns-2
     add-price
     shared-slice-read-price

@@ -22,6 +22,7 @@ use Rattle.reader.proofs.command.enter_repeat.Reads as enter-repeat-rea
 use Rattle.reader.proofs.command.leave_group.Reads as leave-group-reads
 use Rattle.reader.proofs.command.leave_repeat.Reads as leave-repeat-reads
 use Rattle.reader.proofs.command.operand.Reads as operand-reads
+use Rattle.reader.proofs.command.refused.Reads as refused-reads
 use Rattle.reader.proofs.command.step.Reads as step-reads
 use Rattle.reader.proofs.walk.+group+item+repeat+sequence.{statement}
 use Rattle.reader.proofs.walk.+group+item+repeat+sequence.Tie.{close}
@@ -69,7 +70,7 @@ abbrev group-calls : ℕ → group-lts.Claims
 group-calls t = (enter-group-reads.Asked, enter-group-reads.Learnt, sequence-below t, sequence.Post, leave-group-reads.Asked, leave-group-reads.Learnt)
 
 abbrev item-calls : ℕ → item-lts.Claims
-item-calls t = (step-reads.Asked, step-reads.Learnt, group-below t, group.Post, repeat-below t, repeat.Post)
+item-calls t = (step-reads.Asked, step-reads.Learnt, group-below t, group.Post, repeat-below t, repeat.Post, refused-reads.Asked, refused-reads.Learnt)
 
 abbrev repeat-calls : ℕ → repeat-lts.Claims
 repeat-calls t = (enter-repeat-reads.Asked, enter-repeat-reads.Learnt, operand-reads.Asked, operand-reads.Learnt, sequence-below t, sequence.Post, leave-repeat-reads.Asked, leave-repeat-reads.Learnt)
@@ -177,12 +178,15 @@ item-repeat-requires t c κs =
 item-returns-3 : (t : ℕ) → item-lts.Need-returns-3 (item-calls t) (item-start t) item.Post
 item-returns-3 t c = c .repeat .ensures
 
+item-refused-requires : (t : ℕ) → item-lts.Need-refused-requires (item-calls t) (item-start t) item.Post
+item-refused-requires t c κs = tt
+
 item-returns-4 : (t : ℕ) → item-lts.Need-returns-4 (item-calls t) (item-start t) item.Post
 item-returns-4 t c =
-    let S = c .before .before .before .before .before .before in
+    let S = c .before .before .before .before .before .before .before in
     let R = rules-of (S .args .a) (S .args .costs .now) in
     let s = S .args .s .now in
-    item-unknown R s (S .args .d) (S .args .at) (S .args .t) _ (S .pre .1 .0) (c .before .before .if1 .left) (c .before .if2 .left) (c .if3 .left)
+    rw (c .refused .ensures) (item-unknown R s (S .args .d) (S .args .at) (S .args .t) _ (S .pre .1 .0) (c .before .before .before .if1 .left) (c .before .before .if2 .left) (c .before .if3 .left))
 
 repeat-enter-repeat-requires : (t : ℕ) → repeat-lts.Need-enter-repeat-requires (repeat-calls t) (repeat-start t) repeat.Post
 repeat-enter-repeat-requires t c κs =
@@ -341,6 +345,6 @@ pub +group+item+repeat+sequence-spec : {M : Type 1} → statement M
 +group+item+repeat+sequence-spec =
     close μ-group μ-item μ-repeat μ-sequence
     (λ t. group-lts.spec (group-calls t) (group-start t) group.Post (group-enter-group-requires t) (group-returns t) (group-add-t15 t) (group-sequence-requires t) (group-returns-2 t) (group-leave-group-requires t) (group-returns-3 t))
-    (λ t. item-lts.spec (item-calls t) (item-start t) item.Post (item-shared-slice-read-c t) (item-step-requires t) (item-returns t) (item-group-requires t) (item-returns-2 t) (item-repeat-requires t) (item-returns-3 t) (item-returns-4 t))
+    (λ t. item-lts.spec (item-calls t) (item-start t) item.Post (item-shared-slice-read-c t) (item-step-requires t) (item-returns t) (item-group-requires t) (item-returns-2 t) (item-repeat-requires t) (item-returns-3 t) (item-refused-requires t) (item-returns-4 t))
     (λ t. repeat-lts.spec (repeat-calls t) (repeat-start t) repeat.Post (repeat-enter-repeat-requires t) (repeat-returns t) (repeat-add-operand t) (repeat-operand-requires t) (repeat-add-operand-2 t) (repeat-operand-requires-2 t) (repeat-add-t17 t) (repeat-sequence-requires t) (repeat-returns-2 t) (repeat-leave-repeat-requires t) (repeat-returns-3 t))
     (λ t. sequence-lts.spec (sequence-calls t) (sequence-start t) sequence.Post sequence-Inv sequence-μ (sequence-loop-holds t) (sequence-shared-slice-read-c t) (sequence-returns t) (sequence-returns-2 t) (sequence-item-requires t) (sequence-returns-3 t) (sequence-loop-less t) (sequence-loop-again t) (sequence-returns-4 t))
