@@ -5,6 +5,7 @@ use format::FoldReading;
 use reader::part;
 use reader::read_fold;
 use reader::read_run;
+use reader::wide;
 use unroller::unroll;
 ghost use mathlib.Core.Path.{_≡_};
 ghost use mathlib.Core.List.{_∷_};
@@ -23,18 +24,12 @@ const ENTRIES: usize = 5;
 // The status where the lent answer is shorter: nothing was read or written. No refusal has this number.
 const SHORT: u8 = 255;
 
-fn wide(x: u8) -> u64
-    ensures { λ r. ⌜ r ≡ x ⌝ }
-{
-    x as u64
-}
-
 // Puts an answer into the first five entries.
 fn store(answer: &mut [u64], a: FoldReading)
     requires { ⌜ 5 ≤ length (now answer) ⌝ }
     ensures { λ _. ⌜ now (answer .exit) ≡ (a .refusal) ∷ (a .place) ∷ (a .nodes) ∷ (a .length) ∷ (a .cost) ∷ drop 5 (now (answer .entry)) ⌝ }
 {
-    answer[0] = wide(a.refusal);
+    answer[0] = wide(a.refusal) as u64;
     answer[1] = a.place as u64;
     answer[2] = a.nodes as u64;
     answer[3] = a.length as u64;

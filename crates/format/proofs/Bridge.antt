@@ -58,12 +58,13 @@ one-pass : (h n : ℕ) → 1 ≤ h → n ≤ h * n
 one-pass zero n some = absurd (omega arith)
 one-pass (suc h) n some = omega arith
 
-length-times : (h : ℕ) (s : List ℕ) → length (times h s) ≡ h * length s
+-- Copies of a list: their length, and one more of them in front.
+pub length-times : (h : ℕ) (s : List ℕ) → length (times h s) ≡ h * length s
 unfolding times
 length-times zero s = omega arith
 length-times (suc h) s = omega (arith, length-append s (times h s), length-times h s)
 
-times-more : (h : ℕ) (s : List ℕ) → 1 ≤ h → s ++ times (h - 1) s ≡ times h s
+pub times-more : (h : ℕ) (s : List ℕ) → 1 ≤ h → s ++ times (h - 1) s ≡ times h s
 unfolding times
 times-more zero s some = absurd (omega arith)
 times-more (suc k) s some = let e : suc k - 1 ≡ k = omega arith in rw e
@@ -139,7 +140,8 @@ pub record Fits (R : Rules) (st : State) (f : Forest) : Type 0 where
   pub plain : R .folds ≡ false → Plain f
   pub room : Room R st f
 
-word-again : (n : ℕ) → n / 256 * 256 + n % 256 ≡ n
+-- Two bytes put together again.
+pub word-again : (n : ℕ) → n / 256 * 256 + n % 256 ≡ n
 word-again n = omega arith
 
 -- Where a repeat is allowed, folds are read.

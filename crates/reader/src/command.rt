@@ -31,7 +31,8 @@ pub struct Walk {
     pub tally: Tally,
 }
 
-fn wide(x: u8) -> usize
+// A byte as a number to count with.
+pub fn wide(x: u8) -> usize
     ensures { λ r. ⌜ (r ≡ x) × (r < 256) ⌝ }
 {
     x as usize

@@ -17,7 +17,7 @@ use Rattle.format.specs.declared.FoldReading.{FoldReading}
 use Rattle.format.specs.declared.Tally.{Tally}
 use Rattle.format.specs.declared.Unrolled.{Unrolled}
 use Rattle.format.proofs.Bridge.{parses}
-use Rattle.format.proofs.Refusals.{refused-exactly, Because, at-command, left-open}
+use Rattle.format.proofs.Refusals.{refused-some}
 use Rattle.unroller.specs.Unrolling.{unrolling, unroll-answer, unroll-output}
 use Rattle.unroller.specs.Writing.{Sequence, Put}
 use Rattle.unroller.specs.declared.write.Place.{Place}
@@ -26,14 +26,6 @@ use Rattle.unroller.specs.declared.write.Place.{Place}
 abbrev pub Promised : List ℕ → (limit : ℕ) → (before after : List ℕ) → Unrolled → Type 0
 Promised s k before after r =
     (r ≡ unroll-answer (unrolling s k) (length before)) × (after ≡ unroll-output (unrolling s k) before)
-
--- A refusal has a number.
-refused-some : (s : List ℕ) (k n p : ℕ) → read (fold-rules k free) s ≡ refused n p → n ≢ 0
-refused-some s k n p e = go (refused-exactly (fold-rules k free) s n p .0 e)
-  where
-    go : Because (fold-rules k free) s n p → n ≢ 0
-    go (at-command q st r lt f some w) = some
-    go (left-open st r some m w) = omega arith
 
 -- A fold that was measured and not refused: it is the byte form of a tree, and n is the length of its run.
 pub record Measured (s : List ℕ) (k n : ℕ) : Type 0 where
@@ -51,7 +43,7 @@ fold-measured s k m measured e small = go (read (fold-rules k free) s) refl
     go : (o : Outcome) → read (fold-rules k free) s ≡ o → Measured s k (m .length)
     go (refused n p) q =
         let same : m ≡ fold-answer (refused n p) = measured ∙ ap fold-answer q in
-        absurd (refused-some s k n p q (rw same at e))
+        absurd (refused-some (fold-rules k free) s n p q (rw same at e))
     go (accepted t x) q =
         let same : m ≡ fold-answer (accepted t x) = measured ∙ ap fold-answer q in
         let tree = parses (fold-rules k free) s small t x q in

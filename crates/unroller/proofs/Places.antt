@@ -2,22 +2,16 @@
 use mathlib.Core.Path.{_≡_, refl, sym, ap, _∙_}
 use mathlib.Core.List.{List, [], _∷_, _++_, append-assoc}
 use mathlib.Core.Logic.{inl, inr, _≢_}
-use Prim.Native.Nat.{ℕ, zero, suc, _+_, _*_, _-_, _/_, _%_, _≤_, _<_}
+use Prim.Native.Nat.{ℕ, _+_, _*_, _-_, _≤_, _<_}
 use native.Mathlib.Omega.{arith}
 use lib.ListN.{length, length-append, length-drop, getD, drop}
 use lib.Seq.{getD-drop, drop-drop, drop-append-seam}
-use Rattle.format.specs.Forest.{Forest, end, step, group, repeat, join, copies, unroll, bytes, Allowed, Sound}
+use Rattle.format.specs.Forest.{Forest, end, step, group, repeat, join, copies, unroll, bytes}
 use Rattle.format.specs.Machine.{times}
-use Rattle.format.proofs.Forests.{join-end, bytes-join, bytes-copies, unroll-join}
+use Rattle.format.proofs.Bridge.{length-times, times-more, word-again}
+use Rattle.format.proofs.Forests.{join-end, bytes-join, bytes-copies, unroll-join, sound-parts}
 use Rattle.unroller.specs.Writing.{Ends, One, one-step, one-group, one-repeat, Stands, Sequence, Item}
 use Rattle.unroller.specs.declared.write.Place.{Place}
-use Rattle.unroller.proofs.Stores.{length-times}
-
--- One more copy in front.
-times-more : (h : ℕ) (s : List ℕ) → 1 ≤ h → s ++ times (h - 1) s ≡ times h s
-unfolding times
-times-more zero s some = absurd (omega arith)
-times-more (suc k) s some = let e : suc k - 1 ≡ k = omega arith in rw e
 
 -- What each kind of item unrolls to, and how long that is.
 pub unrolled-step : (l : ℕ) → bytes (unroll (step l end)) ≡ 0x10 ∷ l ∷ []
@@ -90,9 +84,6 @@ pub record GroupAt (s : List ℕ) (room : ℕ) (w : Place) (f : Forest) : Type 0
   pub there : w .at + 2 + length (bytes body) < length s
   pub inside : (n : ℕ) → n ≡ room → Sequence s n (record { at = w .at + 2; to = w .to + 2 }) body
   pub fits : w .to + 3 + length (bytes (unroll body)) ≤ room
-
-word-again : (n : ℕ) → n / 256 * 256 + n % 256 ≡ n
-word-again n = omega arith
 
 -- Which kind of item stands at a place is seen by its first byte.
 module _ {s : List ℕ} {room : ℕ} {w : Place} where
@@ -176,14 +167,6 @@ module _ {s : List ℕ} {room : ℕ} {w : Place} where
 
     pub item-group : getD s (w .at) 0 ≢ 0x20 → getD s (w .at) 0 ≢ 0x10 → GroupAt s room w f
     item-group e g = group-stands (i .one) (i .stands) e g
-
--- The parts of a sound sequence are sound.
-sound-parts : (A : Allowed) (f g : Forest) → Sound A (join f g) → Sound A f × Sound A g
-unfolding join
-sound-parts A end g z = (tt, z)
-sound-parts A (step l f) g z = sound-parts A f g z
-sound-parts A (group l b f) g z = let y = sound-parts A f g (z .2) in ((z .0, z .1, y .0), y .1)
-sound-parts A (repeat h w b f) g z = let y = sound-parts A f g (z .2) in ((z .0, z .1, y .0), y .1)
 
 -- A sequence that stands at a place stands there part by part.
 module _ {s : List ℕ} {room : ℕ} {w : Place} (f g : Forest) {rest : List ℕ} (z : Stands s room w (join f g) rest) where

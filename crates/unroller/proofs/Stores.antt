@@ -7,6 +7,7 @@ use native.Mathlib.Omega.{arith}
 use lib.ListN.{length, length-append, length-drop, getD, List·getD-append, set, length-set, take, drop}
 use lib.Seq.{sets, sets-eq, take-at, drop-at, length-take-le, take-all, take-suc, getD-set-same, getD-set-other, getD-take, getD-drop, getD-append-add}
 use Rattle.format.specs.Machine.{times}
+use Rattle.format.proofs.Bridge.{length-times}
 
 -- One list stored behind another.
 pub sets-append : (vs ws l : List ℕ) (i j : ℕ) → i + length vs ≡ j → sets l i (vs ++ ws) ≡ sets (sets l i vs) j ws
@@ -35,12 +36,6 @@ sets-part vs l i j fits e =
     let both : length (take i l ++ vs) ≡ j = length-append (take i l) vs ∙ omega (arith, front) in
     rw (sets-eq vs l i fits, take-at (take i l ++ vs) (drop (i + length vs) l) j both)
     (drop-at (take i l) vs i front)
-
--- The length of copies.
-pub length-times : (n : ℕ) (x : List ℕ) → length (times n x) ≡ n * length x
-unfolding times
-length-times zero x = omega arith
-length-times (suc n) x = omega (arith, length-append x (times n x), length-times n x)
 
 -- A copy may be taken off at either end, so copies repeat themselves.
 times-last : (n : ℕ) (x : List ℕ) → x ++ times n x ≡ times n x ++ x

@@ -2,9 +2,10 @@
 // sequence is a loop over its items, and a group or a repeat holds a sequence; the functions call each other, remaining
 // bytes falling.
 use format::Format;
+use reader::operand;
 ghost use mathlib.Core.Path.{_≡_};
-ghost use Prim.Native.Nat.{_+_, _*_, _-_, _≤_, _<_};
-ghost use lib.ListN.{length, getD, take, drop};
+ghost use Prim.Native.Nat.{_+_, _*_, _-_, _≤_};
+ghost use lib.ListN.{length, take, drop};
 ghost use lib.Seq.{sets};
 ghost use Rattle.format.specs.Forest.{Forest};
 ghost use Rattle.format.specs.Machine.{times};
@@ -14,21 +15,6 @@ ghost use Rattle.unroller.specs.Writing.{Sequence, Item, Put};
 pub struct Place {
     pub at: usize,
     pub to: usize,
-}
-
-// A byte as a number to count with.
-fn wide(x: u8) -> usize
-    ensures { λ r. ⌜ (r ≡ x) × (r < 256) ⌝ }
-{
-    x as usize
-}
-
-// The operand of two bytes at an offset, the high byte first.
-fn operand(s: &[u8], at: usize) -> usize
-    requires { ⌜ at + 1 < length (now s) ⌝ }
-    ensures { λ r. ⌜ (r ≡ getD (now (s .entry)) at 0 * 256 + getD (now (s .entry)) (at + 1) 0) × (r < 65536) ⌝ }
-{
-    wide(s[at]) * 256 + wide(s[at + 1])
 }
 
 // Writes `more` further copies of the bytes from `start` to `to` behind them, and gives the place behind the last. One loop

@@ -34,7 +34,7 @@ returns : tie.Need-returns
 returns c =
     let a = c .before .before .args in
     five-set (a .answer .now) (c .wide .result) (a .a .place) (a .a .nodes) (a .a .length) (a .a .cost) (c .before .before .pre)
-    ∙ ap (λ (n : ℕ). n ∷ (a .a .place) ∷ (a .a .nodes) ∷ (a .a .length) ∷ (a .a .cost) ∷ drop 5 (a .answer .now)) (c .wide .ensures)
+    ∙ ap (λ (n : ℕ). n ∷ (a .a .place) ∷ (a .a .nodes) ∷ (a .a .length) ∷ (a .a .cost) ∷ drop 5 (a .answer .now)) (c .wide .ensures .0)
 
 pub store-spec : {M : Type 1} → statement M
 store-spec =
