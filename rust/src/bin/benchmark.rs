@@ -246,6 +246,24 @@ impl Bench {
         self.checked += 1;
     }
 
+    /// What clearing both work slices takes by itself, in the state that the other methods leave the caches in.
+    fn clearing(&mut self) -> f64 {
+        let run = bytes_of(&family(FAMILIES.len() - 1, NODES, 0));
+        let prices = &price_sets()[0].1;
+        let mut least = f64::INFINITY;
+        for _ in 0..20 {
+            for method in &mut self.methods[1..] {
+                method.minimum(&run, prices, &mut Vec::new());
+            }
+            let start = seconds();
+            self.costs.fill(0);
+            self.choices.fill(0);
+            std::hint::black_box((&mut self.costs, &mut self.choices));
+            least = least.min(seconds() - start);
+        }
+        least
+    }
+
     /// The mean over the runs of a family.
     fn measure(&mut self, which: usize, nodes: usize, prices: &Prices) -> Times {
         let mut sum = [0.0; 4];
@@ -423,12 +441,22 @@ fn main() {
     }
     println!("\nthe folder's part of each method's time, lowest to highest over the prices\n{summary}");
     println!("{} folds read back, all costs agree", bench.checked);
-    let text = page_text(date, compiler, &full, &small, &summary, bench.checked);
+    let clearing = bench.clearing() * 1e3;
+    println!("clearing both work slices takes {clearing:.3} ms");
+    let text = page_text(date, compiler, &full, &small, &summary, bench.checked, clearing);
     std::fs::write(page, text).expect("the page is written");
     std::fs::write(plot, plot_text(&growth)).expect("the plot is written");
 }
 
-fn page_text(date: &str, compiler: &str, full: &str, small: &str, summary: &str, checked: usize) -> String {
+fn page_text(
+    date: &str,
+    compiler: &str,
+    full: &str,
+    small: &str,
+    summary: &str,
+    checked: usize,
+    clearing: f64,
+) -> String {
     let processor = std::fs::read_to_string("/proc/cpuinfo").unwrap_or_default();
     let processor = processor
         .lines()
@@ -467,6 +495,9 @@ prices are up to 1,000 a label, first up to 2,000 and each up to 100.
 The folder's part of each method's time, lowest to highest over the four prices:
 
 {summary}
+Document 01 has the folder leave both work slices cleared. For 1,024 nodes that takes {clearing:.2} ms by itself (the same stores, timed
+in the same run), whatever the run is; the other methods need nothing of the kind.
+
 All times:
 
 {full}
