@@ -106,7 +106,7 @@ pub record Started (costs choices numbers : List ℕ) (i n own w span : ℕ) (ke
   pub copied : (c : ℕ) → 1 < c → c ≤ span → getD keys c 0 ≡ cost-at costs numbers (i + w) (i + w + c) * 2097152 + cost-at choices numbers (i + w) (i + w + c)
   pub plain : (c : ℕ) → 1 < c → span < c → c ≤ n → getD keys c 0 ≡ (own + cost-at costs numbers (i + 1) (i + c)) * 2097152
 
--- The first entries are copied, the others as they were.
+-- The first n keys are those of another row.
 pub record Copied (costs choices numbers : List ℕ) (j n : ℕ) (before after : List ℕ) : Type 0 where
   pub long : length after ≡ length before
   pub low : (c : ℕ) → getD after c 0 ≤ top-key
