@@ -1,10 +1,10 @@
 // The parts of nodes, and siblings compared by them.
 use reader::part;
 use reader::same_node;
+use reader::wide;
 use trying::above;
 use trying::difference;
 use trying::number;
-use trying::wide;
 use trying::word;
 
 // Whether the part at an offset is that many bytes of the run.

@@ -84,6 +84,13 @@ fn by_roomy_folder(run: &[u8], limit: usize, table: &[u16], e: Expected) {
     by_folder(run, limit, table, &mut costs, &mut choices, &mut out, e);
 }
 
+// The folder with an output of 1 byte, and as much work as is lent.
+fn by_cramped_folder(run: &[u8], costs: &mut [u32], choices: &mut [u32], e: Expected) {
+    let table = [1u16; 256];
+    let mut out = [0u8; 1];
+    by_folder(run, 1024, &table, costs, choices, &mut out, e);
+}
+
 // A row's example among runs, and among folds at a limit.
 fn run_row(row: u8, run: &[u8], place: usize) {
     let table = [1u16; 256];
@@ -163,59 +170,18 @@ pub fn settings() {
 
 // Rows 13 and 14: work of 2 entries and of 3, output of 1 byte. A refused run comes before 13, and 13 before 14.
 pub fn room() {
-    let table = [1u16; 256];
     let mut two = [0u32; 2];
     let mut three = [0u32; 3];
     let mut other = [0u32; 3];
     let mut one = [0u8; 1];
     word(b"row 1");
-    by_folder(
-        b"\x13",
-        1024,
-        &table,
-        &mut two,
-        &mut three,
-        &mut one,
-        row(1),
-    );
+    by_cramped_folder(b"\x13", &mut two, &mut three, row(1));
     word(b"\nrow 13");
-    by_folder(
-        b"\x10\x01\x10\x01",
-        1024,
-        &table,
-        &mut two,
-        &mut three,
-        &mut one,
-        row(13),
-    );
-    by_folder(
-        b"\x10\x01\x10\x01",
-        1024,
-        &table,
-        &mut three,
-        &mut two,
-        &mut one,
-        row(13),
-    );
+    by_cramped_folder(b"\x10\x01\x10\x01", &mut two, &mut three, row(13));
+    by_cramped_folder(b"\x10\x01\x10\x01", &mut three, &mut two, row(13));
     word(b"\nrow 14");
-    by_folder(
-        b"\x10\x01\x10\x01",
-        1024,
-        &table,
-        &mut three,
-        &mut other,
-        &mut one,
-        row(14),
-    );
-    by_folder(
-        b"\x10\x01",
-        1024,
-        &table,
-        &mut three,
-        &mut two,
-        &mut one,
-        row(14),
-    );
+    by_cramped_folder(b"\x10\x01\x10\x01", &mut three, &mut other, row(14));
+    by_cramped_folder(b"\x10\x01", &mut three, &mut two, row(14));
     by_unroller(b"\x10\x01", 1024, &mut one, row(14));
     word(b"\n");
 }

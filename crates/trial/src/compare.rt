@@ -155,9 +155,20 @@ pub fn nothing() -> Sums {
     }
 }
 
+// The sums with one comparison more, of a fold of this cost and length.
+fn compared(mut sums: Sums, right: bool, cost: u64, length: usize) -> Sums {
+    sums.compared = wrapping_add_u64(sums.compared, 1);
+    sums.cost = wrapping_add_u64(sums.cost, cost);
+    sums.length = wrapping_add_u64(sums.length, length as u64);
+    if !right {
+        sums.right = false;
+    }
+    sums
+}
+
 // The folder's fold at one setting of prices and limit, against the best of the pool.
 fn compare(
-    mut sums: Sums,
+    sums: Sums,
     setting: usize,
     run: &[u8],
     found: usize,
@@ -185,17 +196,11 @@ fn compare(
     let r = c.answer;
     let n = r.length;
     let best = best_of(found, pool, lengths, limit, &table, p.first, p.each);
-    let right = agree(c.right, r.refusal, r.cost, best);
-    sums.compared = wrapping_add_u64(sums.compared, 1);
-    sums.cost = wrapping_add_u64(sums.cost, r.cost);
-    sums.length = wrapping_add_u64(sums.length, n as u64);
-    if !right {
-        sums.right = false;
-    }
+    let mut right = agree(c.right, r.refusal, r.cost, best);
     if !begins(&out, n, fold_at(pool, lengths, best.number)) {
-        sums.right = false;
+        right = false;
     }
-    sums
+    compared(sums, right, r.cost, n)
 }
 
 // Whether the folder's answer is that of the best fold.

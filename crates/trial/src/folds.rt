@@ -14,10 +14,10 @@ use crate::command::spent;
 use crate::command::start;
 use format::Format;
 use reader::read_fold;
+use reader::wide;
 use trying::product;
 use trying::put_byte;
 use trying::unrolls;
-use trying::wide;
 
 // What the last command of a string leads to: whether the string still follows the run, the place reached in the run, the
 // place that what is open may reach, and the number of the command that opened it, 0 for none.

@@ -49,30 +49,11 @@ struct Progress {
     sums: Sums,
 }
 
-// One turn: a string that the run reader accepts is tried, and is gone on from as is one with something open.
-fn turn(
-    p: Progress,
-    at: Settings,
-    groups: bool,
-    most: usize,
-    text: &mut [u8],
-    starts: &mut [usize],
-    counts: &mut [usize],
-) -> Progress {
+// A string that the run reader accepts is tried, and is gone on from as is one with something open.
+fn attempt(p: Progress, at: Settings, text: &mut [u8], starts: &mut [usize]) -> Progress {
     let s = p.search;
     let sums = p.sums;
-    if s.back {
-        let search = retry(s, 0, text, starts);
-        return Progress { search, sums };
-    }
-    let depth = s.depth;
-    let nodes = count(text, depth, groups, most, starts, counts);
-    let n = number_at(starts, depth);
-    put_number(counts, depth, nodes);
-    if most < nodes {
-        let search = spent(s);
-        return Progress { search, sums };
-    }
+    let n = number_at(starts, s.depth);
     if text.len() < n {
         let search = spent(s);
         return Progress { search, sums };
@@ -92,6 +73,32 @@ fn turn(
     }
     let search = spent(s);
     Progress { search, sums }
+}
+
+// One turn: another string where the search goes back, or else an attempt at this one, unless it has too many nodes.
+fn turn(
+    p: Progress,
+    at: Settings,
+    groups: bool,
+    most: usize,
+    text: &mut [u8],
+    starts: &mut [usize],
+    counts: &mut [usize],
+) -> Progress {
+    let s = p.search;
+    let sums = p.sums;
+    if s.back {
+        let search = retry(s, 0, text, starts);
+        return Progress { search, sums };
+    }
+    let depth = s.depth;
+    let nodes = count(text, depth, groups, most, starts, counts);
+    put_number(counts, depth, nodes);
+    if most < nodes {
+        let search = spent(s);
+        return Progress { search, sums };
+    }
+    attempt(p, at, text, starts)
 }
 
 // Whether all runs were tried, or one showed a difference.

@@ -16,4 +16,3 @@ pub use print::word;
 pub use small::above;
 pub use small::product;
 pub use small::put_byte;
-pub use small::wide;

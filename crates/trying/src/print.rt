@@ -1,5 +1,6 @@
 // What the programs print: words, numbers, bytes in hexadecimal, and the loud line of a difference.
 use libc::STDOUT_FILENO;
+use reader::wide;
 
 // A word as it stands.
 pub fn word(text: &[u8]) {
@@ -16,13 +17,9 @@ pub fn number(text: &[u8], n: u64) {
 fn hexadecimal(bytes: &[u8]) {
     let mut i = 0;
     while i < bytes.len() {
-        io::print_hex(STDOUT_FILENO, wide(bytes[i]), 2);
+        io::print_hex(STDOUT_FILENO, wide(bytes[i]) as u64, 2);
         i += 1;
     }
-}
-
-fn wide(x: u8) -> u64 {
-    x as u64
 }
 
 // A difference: what it is about, and the bytes that show it.

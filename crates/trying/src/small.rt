@@ -1,13 +1,4 @@
 // Small helpers that answer for any arguments.
-ghost use mathlib.Core.Path.{_≡_};
-ghost use Prim.Native.Nat.{_<_};
-
-// A byte as a number to count with.
-pub fn wide(x: u8) -> usize
-    ensures { λ r. ⌜ (r ≡ x) × (r < 256) ⌝ }
-{
-    x as usize
-}
 
 // One more, up to 1,000.
 pub fn above(n: usize) -> usize {
