@@ -6,12 +6,8 @@ use native.Mathlib.Omega.{arith}
 use native.Mathlib.Numerals.{add-one}
 use lib.ListN.{length, length-append, getD, set, take}
 use lib.Seq.{sets, length-sets, take-suc, take-length}
+use Rattle.format.proofs.Lists.{sets-append}
 use Rattle.fold.specs.Put.{Put}
-
--- One list stored behind another.
-sets-append : (vs ws l : List ℕ) (i j : ℕ) → j ≡ i + length vs → sets (sets l i vs) j ws ≡ sets l i (vs ++ ws)
-sets-append [] ws l i j e = let z : j ≡ i = omega arith in rw z
-sets-append (v ∷ vs) ws l i j e = sets-append vs ws (set l i v) (suc i) j (omega arith)
 
 -- The length stays.
 pub put-length : {x y : List ℕ} {i j : ℕ} {s : List ℕ} → Put x y i s j → length y ≡ length x
@@ -32,7 +28,7 @@ put-both {x} {i = i} {j = j} {s = s} {t = t} p q =
     record {
       reached = omega (arith, length-append s t, p .reached, q .reached);
       within = omega (arith, put-length p);
-      written = q .written ∙ ap (λ (y : List ℕ). sets y j t) (p .written) ∙ sets-append s t x i j (p .reached);
+      written = q .written ∙ ap (λ (y : List ℕ). sets y j t) (p .written) ∙ sym (sets-append s t x i j (sym (p .reached)));
     }
 
 -- A text that is the same, by another name.

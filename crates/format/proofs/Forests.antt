@@ -132,6 +132,20 @@ sound-join A (step l f) g p q = sound-join A f g p q
 sound-join A (group l b f) g p q = (p .0, p .1, sound-join A f g (p .2) q)
 sound-join A (repeat h w b f) g p q = (p .0, p .1, sound-join A f g (p .2) q)
 
+-- So copies of a sound fold are sound, and so is what a sound fold unrolls to.
+pub sound-copies : (A : Allowed) (h : ℕ) (f : Forest) → Sound A f → Sound A (copies h f)
+unfolding copies
+sound-copies A zero f s = tt
+sound-copies A (suc h) f s = sound-join A f (copies h f) s (sound-copies A h f s)
+
+pub sound-unroll : (A : Allowed) (f : Forest) → Sound A f → Sound A (unroll f)
+unfolding unroll
+sound-unroll A end s = tt
+sound-unroll A (step l f) s = sound-unroll A f s
+sound-unroll A (group l b f) s = (rw (siblings-unroll b) (s .0), sound-unroll A b (s .1), sound-unroll A f (s .2))
+sound-unroll A (repeat h w b f) s =
+    sound-join A (copies h (unroll b)) (unroll f) (sound-copies A h (unroll b) (sound-unroll A b (s .1))) (sound-unroll A f (s .2))
+
 -- The parts of a sound fold are sound, and folds of one run have as many siblings.
 pub sound-parts : (A : Allowed) (f g : Forest) → Sound A (join f g) → Sound A f × Sound A g
 unfolding join

@@ -1,4 +1,5 @@
 -- The theorems about the format's definitions.
+pub mod Lists
 pub mod Forests
 pub mod Machine
 pub mod Bridge

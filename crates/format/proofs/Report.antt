@@ -17,7 +17,7 @@ use Rattle.format.specs.Shape.{Reads, tally-of}
 use Rattle.format.specs.Report.{RRT, empty, letter, repetition, count, Valid, append, row, Represents, Width, WidthAtMost, size}
 use Rattle.format.specs.Meaning.{report, TrueWidths, Means}
 use Rattle.format.specs.declared.Tally.{Tally}
-use Rattle.format.proofs.Forests.{siblings-unroll, plain-unroll, sound-join}
+use Rattle.format.proofs.Forests.{siblings-unroll, plain-unroll, sound-unroll}
 use Rattle.format.proofs.Bridge.{parses}
 use Rattle.format.proofs.Tree.{tree-of-bytes}
 use Rattle.format.proofs.Expansion.{expand, represents, width}
@@ -159,23 +159,10 @@ module _ (A : Allowed) where
       )
 
   -- Unrolling keeps a fold sound.
-  sound-copies : (h : ℕ) (f : Forest) → Sound A f → Sound A (copies h f)
-  unfolding copies
-  sound-copies zero f s = tt
-  sound-copies (suc h) f s = sound-join A f (copies h f) s (sound-copies h f s)
-
-  sound-unroll : (f : Forest) → Sound A f → Sound A (unroll f)
-  unfolding unroll
-  sound-unroll end s = tt
-  sound-unroll (step l f) s = sound-unroll f s
-  sound-unroll (group l b f) s = (rw (siblings-unroll b) (s .0), sound-unroll b (s .1), sound-unroll f (s .2))
-  sound-unroll (repeat h w b f) s =
-      sound-join A (copies h (unroll b)) (unroll f) (sound-copies h (unroll b) (sound-unroll b (s .1))) (sound-unroll f (s .2))
-
   -- The tree of a fold represents the tree of a run exactly when the fold unrolls to the run.
   pub represents-run : (f t : Forest) → Sound A f → Sound A t → Represents (report f) (report t) ↔ unroll f ≡ t
   represents-run f t p q = (
-    λ r. report-injective (unroll f) t (sound-unroll f p) q (sym (represents (report f) (report t) .0 r ∙ expand-report f)),
+    λ r. report-injective (unroll f) t (sound-unroll A f p) q (sym (represents (report f) (report t) .0 r ∙ expand-report f)),
     λ e. rw (← e) (represents-unroll f),
   )
 

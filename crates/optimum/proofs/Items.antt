@@ -5,7 +5,7 @@ use native.Mathlib.Nat.{mul-le-mul}
 use native.Mathlib.Omega.{arith}
 use Rattle.format.specs.Forest.{Forest, end, step, group, repeat, join, copies, unroll, siblings, nodes, bytes, Plain, Allowed, Repeats, Sound}
 use Rattle.format.specs.Order.{Before, here, there}
-use Rattle.format.proofs.Forests.{join-assoc, siblings-unroll, unroll-plain, plain-unroll, plain-copies, sound-join, siblings-copies}
+use Rattle.format.proofs.Forests.{join-assoc, siblings-unroll, unroll-plain, plain-unroll, plain-copies, siblings-copies, sound-unroll}
 use Rattle.optimum.specs.Optimal.{FoldOf}
 use Rattle.optimum.specs.Cheapest.{Run, front, back, Power, Candidate, plain, power, build}
 use Rattle.optimum.proofs.Cut.{join-cut, front-join, back-join, siblings-back, siblings-front, nodes-cut, siblings-le-nodes}
@@ -139,19 +139,6 @@ width-build go t h w plain = width-plain go t
 width-build go t h w (power p) = width-power go h w p
 
 -- What has a fold is a run, and a run is a fold of itself.
-sound-copies : (A : Allowed) (h : ℕ) (f : Forest) → Sound A f → Sound A (copies h f)
-unfolding copies
-sound-copies A zero f s = tt
-sound-copies A (suc h) f s = sound-join A f (copies h f) s (sound-copies A h f s)
-
-sound-unroll : (A : Allowed) (f : Forest) → Sound A f → Sound A (unroll f)
-unfolding unroll
-sound-unroll A end s = tt
-sound-unroll A (step l f) s = sound-unroll A f s
-sound-unroll A (group l b f) s = (rw (siblings-unroll b) (s .0), sound-unroll A b (s .1), sound-unroll A f (s .2))
-sound-unroll A (repeat h w b f) s =
-    sound-join A (copies h (unroll b)) (unroll f) (sound-copies A h (unroll b) (sound-unroll A b (s .1))) (sound-unroll A f (s .2))
-
 pub run-of : {A : Allowed} {t f : Forest} → FoldOf A t f → Run A t
 run-of {A} {f = f} q =
     let r : Run A (unroll f) = record { plain = plain-unroll f; sound = sound-unroll A f (q .sound) } in

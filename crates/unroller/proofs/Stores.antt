@@ -8,11 +8,7 @@ use lib.ListN.{length, length-append, length-drop, getD, List·getD-append, set,
 use lib.Seq.{sets, sets-eq, take-at, drop-at, length-take-le, take-all, take-suc, getD-set-same, getD-set-other, getD-take, getD-drop, getD-append-add}
 use Rattle.format.specs.Machine.{times}
 use Rattle.format.proofs.Bridge.{length-times}
-
--- One list stored behind another.
-pub sets-append : (vs ws l : List ℕ) (i j : ℕ) → i + length vs ≡ j → sets l i (vs ++ ws) ≡ sets (sets l i vs) j ws
-sets-append [] ws l i j e = let z : i ≡ j = omega arith in rw z
-sets-append (v ∷ vs) ws l i j e = sets-append vs ws (set l i v) (suc i) j (omega arith)
+use Rattle.format.proofs.Lists.{sets-append}
 
 -- What stands before the stores, and what stands where they went.
 pub sets-below : (vs l : List ℕ) (i k : ℕ) → k < i → getD (sets l i vs) k 0 ≡ getD l k 0

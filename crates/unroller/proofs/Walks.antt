@@ -11,7 +11,8 @@ use Rattle.format.specs.Machine.{times}
 use Rattle.format.proofs.Forests.{join-end, join-assoc, bytes-join, unroll-join}
 use Rattle.unroller.specs.Writing.{Stands, Sequence, Item, Put}
 use Rattle.unroller.specs.declared.write.Place.{Place}
-use Rattle.unroller.proofs.Stores.{sets-append, sets-part}
+use Rattle.format.proofs.Lists.{sets-append}
+use Rattle.unroller.proofs.Stores.{sets-part}
 use Rattle.unroller.proofs.Places.{unrolled-step, unrolled-group, unrolled-repeat, size-step, size-group, size-repeat, one-some, RepeatAt, GroupAt, item-step, front-stands, back-stands, Cut, sequence-cut, NoItem, sequence-ended}
 
 -- Writing keeps the length of the output.
