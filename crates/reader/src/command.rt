@@ -4,11 +4,10 @@ use format::Format;
 use format::Tally;
 ghost use mathlib.Core.Path.{_≡_};
 ghost use mathlib.Core.Bool.{true};
-ghost use mathlib.Core.List.{List, _∷_};
-ghost use Prim.Native.Nat.{ℕ, suc, _+_, _*_, _<_, _≤_};
-ghost use lib.ListN.{length, getD, drop};
-ghost use Rattle.format.specs.Machine.{Open, a-group, a-repeat, after-repeat};
-ghost use Rattle.reader.specs.Walk.{At, Room, Grown, Halted, Sane, Item, Entered, Left, in-group-of, in-repeat-of, rules-of, word-at, repeat-at};
+ghost use Prim.Native.Nat.{_+_, _*_, _<_, _≤_};
+ghost use lib.ListN.{length, getD};
+ghost use Rattle.format.specs.Machine.{a-group, a-repeat, after-repeat};
+ghost use Rattle.reader.specs.Walk.{At, Room, Halted, Sane, Item, Entered, Left, in-group-of, in-repeat-of, rules-of, word-at, repeat-at};
 
 // What the reader was asked: whether repeats may stand in the input, the width limit, and the repeat prices.
 pub struct Terms {
@@ -55,12 +54,24 @@ pub fn price(costs: &[u16], label: u8) -> u64
     0
 }
 
-// The operand of two bytes at an offset, the high byte first.
+// The byte at an offset as a number; 0 past the end.
+fn byte_at(s: &[u8], at: usize) -> usize
+    ensures { λ r. ⌜ (r ≡ getD (now (s .entry)) at 0) × (r < 256) ⌝ }
+{
+    if at < s.len() {
+        return wide(s[at]);
+    }
+    0
+}
+
+// The operand of two bytes at an offset, the high byte first; bytes past the end count as 0.
 pub fn operand(s: &[u8], at: usize) -> usize
-    requires { ⌜ at + 1 < length (now s) ⌝ }
     ensures { λ r. ⌜ (r ≡ word-at (now (s .entry)) at) × (r < 65536) ⌝ }
 {
-    wide(s[at]) * 256 + wide(s[at + 1])
+    if at < s.len() {
+        return wide(s[at]) * 256 + byte_at(s, at + 1);
+    }
+    0
 }
 
 // A walk that is refused with this number at this place.

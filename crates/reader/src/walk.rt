@@ -12,7 +12,7 @@ use crate::command::refused;
 use crate::command::step;
 use format::Format;
 use format::Tally;
-ghost use Prim.Native.Nat.{ℕ, _≤_, _<_};
+ghost use Prim.Native.Nat.{_≤_, _<_};
 ghost use lib.ListN.{length};
 ghost use Rattle.reader.specs.Walk.{At, NoClose, Room, Sane, Item, Sequence, rules-of};
 

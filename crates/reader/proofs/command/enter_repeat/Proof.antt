@@ -29,7 +29,7 @@ add-operand : tie.Need-add-operand
 add-operand c = search needs
 
 operand-requires : tie.Need-operand-requires
-operand-requires c κs = search needs
+operand-requires c κs = tt
 
 refused-requires-3 : tie.Need-refused-requires-3
 refused-requires-3 c κs = search needs
@@ -42,7 +42,7 @@ add-operand-2 : tie.Need-add-operand-2
 add-operand-2 c = search needs
 
 operand-requires-2 : tie.Need-operand-requires-2
-operand-requires-2 c κs = search needs
+operand-requires-2 c κs = tt
 
 refused-requires-4 : tie.Need-refused-requires-4
 refused-requires-4 c κs = search needs

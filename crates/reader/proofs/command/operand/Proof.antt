@@ -1,6 +1,8 @@
 -- `operand` meets its contract.
-use borrow.Author.Needs.{needs}
 use native.Mathlib.Omega.{arith}
+use Prim.Native.Nat.{_+_}
+use lib.ListN.{List·getD-eq-default}
+use borrow.Author.Needs.{needs}
 use Rattle.reader.proofs.command.operand.Statement.{statement}
 use Rattle.reader.proofs.command.operand.Tie as tie
 
@@ -11,22 +13,27 @@ wide-requires : tie.Need-wide-requires
 wide-requires c κs = search needs
 
 mul-result : tie.Need-mul-result
-mul-result c = omega arith
+mul-result c = search needs
 
-add-wide : tie.Need-add-wide
-add-wide c = search needs
+add-byte-at : tie.Need-add-byte-at
+add-byte-at c = search needs
 
-shared-slice-read-wide-2 : tie.Need-shared-slice-read-wide-2
-shared-slice-read-wide-2 c = search needs
-
-wide-requires-2 : tie.Need-wide-requires-2
-wide-requires-2 c κs = search needs
+byte-at-requires : tie.Need-byte-at-requires
+byte-at-requires c κs = search needs
 
 add-result : tie.Need-add-result
-add-result c = omega arith
+add-result c = search needs
 
 returns : tie.Need-returns
-returns c = (cc, omega arith)
+returns c = search needs
+
+returns-2 : tie.Need-returns-2
+returns-2 c =
+    let S = c .before .before in
+    let s = S .args .s .now in
+    let first = List·getD-eq-default s 0 {n = S .args .at} (omega arith) in
+    let second = List·getD-eq-default s 0 {n = S .args .at + 1} (omega arith) in
+    (omega arith, omega arith)
 
 pub operand-spec : {M : Type 1} → statement M
 operand-spec =
@@ -35,8 +42,8 @@ operand-spec =
     shared-slice-read-wide
     wide-requires
     mul-result
-    add-wide
-    shared-slice-read-wide-2
-    wide-requires-2
+    add-byte-at
+    byte-at-requires
     add-result
-    returns)
+    returns
+    returns-2)

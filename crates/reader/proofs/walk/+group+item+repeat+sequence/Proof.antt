@@ -210,11 +210,7 @@ repeat-add-operand t c =
     omega (arith, c .before .before .enter-repeat .ensures .1 (c .if1 .left))
 
 repeat-operand-requires : (t : ℕ) → repeat-lts.Need-operand-requires (repeat-calls t) (repeat-start t) repeat.Post
-repeat-operand-requires t c κs =
-    let S = c .before .before .before .before .before in
-    let R = rules-of (S .args .a) (S .args .costs .now) in
-    let s = S .args .s .now in
-    omega (arith, c .before .before .enter-repeat .ensures .1 (c .if1 .left))
+repeat-operand-requires t c κs = tt
 
 repeat-add-operand-2 : (t : ℕ) → repeat-lts.Need-add-operand-2 (repeat-calls t) (repeat-start t) repeat.Post
 repeat-add-operand-2 t c =
@@ -224,11 +220,7 @@ repeat-add-operand-2 t c =
     omega (arith, c .before .before .before .enter-repeat .ensures .1 (c .before .if1 .left))
 
 repeat-operand-requires-2 : (t : ℕ) → repeat-lts.Need-operand-requires-2 (repeat-calls t) (repeat-start t) repeat.Post
-repeat-operand-requires-2 t c κs =
-    let S = c .before .before .before .before .before .before in
-    let R = rules-of (S .args .a) (S .args .costs .now) in
-    let s = S .args .s .now in
-    omega (arith, c .before .before .before .enter-repeat .ensures .1 (c .before .if1 .left))
+repeat-operand-requires-2 t c κs = tt
 
 repeat-add-t17 : (t : ℕ) → repeat-lts.Need-add-t17 (repeat-calls t) (repeat-start t) repeat.Post
 repeat-add-t17 t c =

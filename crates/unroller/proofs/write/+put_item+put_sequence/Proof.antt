@@ -72,7 +72,7 @@ module _ (t : ℕ) where
   item-add-operand c = omega (arith, its-repeat c .there)
 
   item-operand-requires : item-lts.Need-operand-requires (item-calls t) (item-start t) put-item.Post
-  item-operand-requires c κs = omega (arith, its-repeat c .there)
+  item-operand-requires c κs = tt
 
   item-add-copy-on : item-lts.Need-add-copy-on (item-calls t) (item-start t) put-item.Post
   item-add-copy-on c = omega (arith, its-repeat (c .before .before) .there)
