@@ -1,5 +1,5 @@
 -- What a refusal means: the first command that cannot be passed, refused by the first row of the table that applies to it,
--- or something left open at the end.
+-- or something left open at the end. What acceptance means: every command is passed and nothing is left open.
 use mathlib.Core.Path.{_≡_, refl, sym, _∙_}
 use mathlib.Core.Bool.{true, false}
 use mathlib.Core.List.{List, [], _∷_, _++_}
@@ -9,7 +9,8 @@ use native.Mathlib.Decide.{decLe}
 use native.Mathlib.Omega.{arith}
 use lib.ListN.{length, getD, drop, length-drop}
 use lib.Seq.{drop-cons, drop-drop, drop-length}
-use Rattle.format.specs.Machine.{Rules, State, Open, Row, _when_, first-of, rows, refusal, scan, read, start, advance, operands, place-of, at-end, refused, accepted}
+use Rattle.format.specs.Machine.{Rules, State, Open, Row, _when_, first-of, rows, refusal, scan, read, start, advance, operands, place-of, at-end, Outcome, refused, accepted}
+use Rattle.format.specs.declared.Tally.{Tally}
 use Rattle.format.proofs.Machine.{None, scan-end, scan-past, scan-refuse, operands-there}
 
 -- The first row that applies is this one.
@@ -30,6 +31,14 @@ pub data Because (R : Rules) (s : List ℕ) (n e : ℕ) : Type 0 where
   at-command : (p : ℕ) (st : State) → Reached R s p st → p < length s → refusal R st (getD s p 0) (drop (suc p) s) ≡ n
       → n ≢ 0 → e ≡ place-of n p (length s) → Because R s n e
   left-open : (st : State) → Reached R s (length s) st → 0 < length (st .opens) → n ≡ 3 → e ≡ length s → Because R s n e
+
+-- All commands are passed, and nothing is open at the end: the counts are t and the unrolled bytes x.
+pub record Finished (R : Rules) (s : List ℕ) (t : Tally) (x : List ℕ) : Type 0 where
+  pub state : State
+  pub reached : Reached R s (length s) state
+  pub closed : state .opens ≡ []
+  pub counts : state .tally ≡ t
+  pub unrolled : state .text ≡ x
 
 first-found : (rs : List Row) (n : ℕ) → n ≢ 0 → first-of rs ≡ n → First rs n
 first-found [] n some e = absurd (some (sym e))
@@ -89,49 +98,60 @@ module _ (R : Rules) (s : List ℕ) where
       ∙ rw (place p lt, w)
   because-refused n e (left-open st r some m w) = at-last r ∙ open-end (length s) (st .opens) st some ∙ rw (m, w)
 
-  module _ (n e : ℕ) (out : read R s ≡ refused n e) where
-    ended : (p : ℕ) (st : State) → Reached R s p st → p ≡ length s → Because R s n e
-    ended p st r last = go (st .opens) refl (at-last (rw last at r))
-      where
-        go : (os : List Open) → st .opens ≡ os → read R s ≡ at-end (length s) (st .opens) st → Because R s n e
-        go [] top f =
-            let g : accepted (st .tally) (st .text) ≡ refused n e = sym (rw top at f) ∙ out in
-            let z : _≡_ {A = ℕ} 0 1 = cc in
-            absurd (omega arith)
-        go (o ∷ os) top f =
-            let g : refused 3 (length s) ≡ refused n e = sym (rw top at f) ∙ out in
-            left-open st (rw last at r) (rw top (omega arith)) (cc) (cc)
+  finished-accepted : (t : Tally) (x : List ℕ) → Finished R s t x → read R s ≡ accepted t x
+  finished-accepted t x f = at-last (f .reached) ∙ rw (f .closed, f .counts, f .unrolled)
 
-    -- From a point that is reached, with at most m bytes to go.
-    abbrev Finds : ℕ → Type 0
-    Finds m = (p : ℕ) (st : State) → Reached R s p st → length s ≤ p + m → Because R s n e
+  -- Every reading ends in one of the two ways.
+  abbrev Ends : Outcome → Type 0
+  Ends (refused n e) = Because R s n e
+  Ends (accepted t x) = Finished R s t x
 
-    grow : (m : ℕ) → Finds m → Finds (suc m)
-    grow m ih p st r short = go (decLe (suc p) (length s))
-      where
-        at : (k : ℕ) → p < length s → refusal R st (getD s p 0) (drop (suc p) s) ≡ k → Because R s n e
-        at zero lt f =
-            ih (suc p + operands (getD s p 0)) (advance (R .prices) (getD s p 0) (drop (suc p) s) st) (passed r lt f)
-            (omega arith)
-        at (suc k) lt f =
-            let w : ℕ = place-of (suc k) p (length s) in
-            let b : Because R s (suc k) w = at-command p st r lt f (omega arith) refl in
-            let g : refused (suc k) w ≡ refused n e = sym (because-refused (suc k) w b) ∙ out in
-            let i : suc k ≡ n = cc in
-            let j : w ≡ e = cc in
-            rw (← i, ← j) b
+  ended : (p : ℕ) (st : State) → Reached R s p st → p ≡ length s → Ends (read R s)
+  ended p st r last = go (st .opens) refl (rw last at r)
+    where
+      go : (os : List Open) → st .opens ≡ os → Reached R s (length s) st → Ends (read R s)
+      go [] top r =
+          let f : Finished R s (st .tally) (st .text) =
+          record { state = st; reached = r; closed = top; counts = refl; unrolled = refl } in
+          rw (finished-accepted (st .tally) (st .text) f) f
+      go (o ∷ os) top r =
+          let b : Because R s 3 (length s) = left-open st r (rw top (omega arith)) refl refl in
+          rw (because-refused 3 (length s) b) b
 
-        go : Dec (p < length s) → Because R s n e
-        go (yes lt) = at (refusal R st (getD s p 0) (drop (suc p) s)) lt refl
-        go (no h) = ended p st r (omega (arith, reached-read r .0))
+  -- From a point that is reached, with at most m bytes to go.
+  abbrev Finds : ℕ → Type 0
+  Finds m = (p : ℕ) (st : State) → Reached R s p st → length s ≤ p + m → Ends (read R s)
 
-    find : (m : ℕ) → Finds m
-    find zero p st r short = ended p st r (omega (arith, reached-read r .0))
-    find (suc m) p st r short = grow m (λ p st r short. find m p st r short) p st r short
+  grow : (m : ℕ) → Finds m → Finds (suc m)
+  grow m ih p st r short = go (decLe (suc p) (length s))
+    where
+      at : (k : ℕ) → p < length s → refusal R st (getD s p 0) (drop (suc p) s) ≡ k → Ends (read R s)
+      at zero lt f =
+          ih (suc p + operands (getD s p 0)) (advance (R .prices) (getD s p 0) (drop (suc p) s) st) (passed r lt f)
+          (omega arith)
+      at (suc k) lt f =
+          let w : ℕ = place-of (suc k) p (length s) in
+          let b : Because R s (suc k) w = at-command p st r lt f (omega arith) refl in
+          rw (because-refused (suc k) w b) b
+
+      go : Dec (p < length s) → Ends (read R s)
+      go (yes lt) = at (refusal R st (getD s p 0) (drop (suc p) s)) lt refl
+      go (no h) = ended p st r (omega (arith, reached-read r .0))
+
+  find : (m : ℕ) → Finds m
+  find zero p st r short = ended p st r (omega (arith, reached-read r .0))
+  find (suc m) p st r short = grow m (λ p st r short. find m p st r short) p st r short
+
+  ends : Ends (read R s)
+  ends = find (length s) 0 start at-start (omega arith)
 
   -- Bytes are refused exactly for such a reason.
   pub refused-exactly : (n e : ℕ) → (read R s ≡ refused n e) ↔ Because R s n e
-  refused-exactly n e = (λ out. find n e out (length s) 0 start at-start (omega arith), because-refused n e)
+  refused-exactly n e = (λ out. rw out at ends, because-refused n e)
+
+  -- They are accepted exactly where every command is passed and nothing is left open.
+  pub accepted-exactly : (t : Tally) (x : List ℕ) → (read R s ≡ accepted t x) ↔ Finished R s t x
+  accepted-exactly t x = (λ out. rw out at ends, finished-accepted t x)
 
 -- A refusal has a number.
 pub refused-some : (R : Rules) (s : List ℕ) (n e : ℕ) → read R s ≡ refused n e → n ≢ 0
