@@ -3,3 +3,4 @@ pub mod Puts
 pub mod Digits
 pub mod Room
 pub mod Answers
+pub mod More

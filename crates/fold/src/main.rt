@@ -41,7 +41,7 @@ fn answer(run: &[u8], text: &mut [u8]) -> usize
     put_report(nodes as u64, r.cost, &out[..length], text)
 }
 
-// At most 4,096 bytes are read: more cannot alter the answer.
+// At most 4,096 bytes are read: more cannot alter the answer (`more-input` in proofs/More.antt).
 fn main() {
     let mut input = [0u8; 4096];
     let n = io::read_full(STDIN_FILENO, &mut input);
