@@ -23,11 +23,12 @@ run-rules = record { limits = limits; folds = false; widest = 0; prices = free }
 abbrev pub fold-rules : ℕ → Prices → Rules
 fold-rules k P = record { limits = limits; folds = true; widest = k; prices = P }
 
--- A fold is well formed when none of refusals 1 and 3 to 10 applies to it at limit 1,024.
-pub record WellFormed (s : List ℕ) : Type 0 where
+-- A fold is well formed when none of refusals 1 and 3 to 10 applies to it at limit 1,024. The prices decide nothing but the
+-- cost that is counted.
+pub record WellFormed (P : Prices) (s : List ℕ) : Type 0 where
   pub tally : Tally
   pub text : List ℕ
-  pub reading : read (fold-rules (limits .width) free) s ≡ accepted tally text
+  pub reading : read (fold-rules (limits .width) P) s ≡ accepted tally text
 
 -- The run reader.
 abbrev pub run-answer : Outcome → RunReading
