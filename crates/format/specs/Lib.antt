@@ -4,6 +4,7 @@ pub mod Order
 pub mod Forest
 pub mod Machine
 pub mod Readings
+pub mod Difference
 pub mod Shape
 pub mod Parts
 pub mod Tree
