@@ -7,6 +7,7 @@ pub mod Depth
 pub mod Refusals
 pub mod More
 pub mod Order
+pub mod Folds
 pub mod Expansion
 pub mod Report
 pub mod Parts
