@@ -6,6 +6,7 @@ pub mod Bridge
 pub mod Depth
 pub mod Refusals
 pub mod More
+pub mod CloseAfterOpen
 pub mod Order
 pub mod Folds
 pub mod Expansion

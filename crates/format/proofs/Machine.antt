@@ -10,7 +10,7 @@ use lib.Dec.{ltb, leb, eqb}
 use lib.ListN.{length, drop, length-append}
 use lib.Seq.{drop-append-seam}
 use borrow.Author.Tests.{le-ltb, eq-eqb, ne-eqb, ltb-false, eqb-true, eqb-false, leb-false, lt-leb, not-false}
-use Rattle.format.specs.Machine.{Rules, State, Row, _when_, first-of, rows, refusal, scan, advance, operands, count, width, is-known, place-of, unless, at-end, open-groups, open-repeats, in-group, in-repeat, claimed, total-of, refused, accepted, put-step, enter-group, leave-group, enter-repeat, leave-repeat}
+use Rattle.format.specs.Machine.{Rules, State, Row, _when_, first-of, rows, refusal, scan, advance, operands, count, width, is-known, place-of, unless, at-end, open-groups, open-repeats, in-group, in-repeat, claimed, total-of, node-total, refused, accepted, put-step, enter-group, leave-group, enter-repeat, leave-repeat}
 use Rattle.format.specs.declared.Tally.{Tally}
 
 -- Rows of which none applies, and rows whose numbers are not 0.
@@ -95,6 +95,11 @@ module _ (R : Rules) (st : State) (rest : List ℕ) where
   pub operands-there : (c : ℕ) → refusal R st c rest ≡ 0 → operands c ≤ length rest
   unfolding refusal
   operands-there c e = ltb-false _ _ (first-none (rows R st c rest) (omega arith) e .1 .1 .0)
+
+  -- And the node total that it makes is within the limit.
+  pub total-within : (c : ℕ) → refusal R st c rest ≡ 0 → node-total c (st .opens) (st .tally .nodes) ≤ R .limits .nodes
+  unfolding refusal
+  total-within c e = ltb-false _ _ (first-none (rows R st c rest) (omega arith) e .1 .1 .1 .1 .1 .1 .1 .1 .1 .0)
 
 -- When each command is passed.
 pub record StepPasses (R : Rules) (st : State) (rest : List ℕ) : Type 0 where
