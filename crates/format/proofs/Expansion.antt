@@ -173,9 +173,9 @@ nested = repetition 2 (a (b (repetition 2 (a empty) (b empty)))) empty
 abbrev beside : RRT ℕ
 beside = repetition 2 (a (b (a empty))) (b (repetition 2 (a empty) (b empty)))
 
-abbrev length : RRT ℕ → ℕ
-length r = size (λ l. 1) (λ h. 1) r
+abbrev unit-size : RRT ℕ → ℕ
+unit-size r = size (λ l. 1) (λ h. 1) r
 
-pub examples : Represents nested plain × Represents beside plain × (length plain ≡ 10) × (length nested ≡ 6) × (length beside ≡ 8)
+pub examples : Represents nested plain × Represents beside plain × (unit-size plain ≡ 10) × (unit-size nested ≡ 6) × (unit-size beside ≡ 8)
 unfolding expand append row size
 examples = (represents-expand nested, represents-expand beside, refl, refl, refl)
