@@ -113,7 +113,7 @@ order =
     ∷ run (0x21 ∷ []) gives a-refusal 2 0
     -- 3 before 6, 7 and 8; before 8 and 10
     ∷ fold-within 1 (times 10 (repeat-start 2 1) ++ 0x20 ∷ 0x00 ∷ 0x01 ∷ 0x09 ∷ []) gives a-refusal 3 54
-    ∷ run (times 1016 one-step ++ times 8 group-start ++ 0x11 ∷ []) gives a-refusal 3 2049
+    ∷ fold (repeating 1016 1 one-step ++ times 8 group-start ++ 0x11 ∷ []) gives a-refusal 3 25
     -- 4 before 5; before 9
     ∷ fold (group-start ++ 0x21 ∷ []) gives a-refusal 4 2
     ∷ fold (group-start ++ one-step ++ 0x21 ∷ []) gives a-refusal 4 4
@@ -123,7 +123,7 @@ order =
     ∷ fold-within 1 (times 10 (repeat-start 2 1) ++ repeat-start 1 2) gives a-refusal 6 50
     ∷ fold-within 1 (times 10 (repeat-start 2 1) ++ repeat-start 2 2) gives a-refusal 7 50
     -- 8 and 9 before 10
-    ∷ run (times 1016 one-step ++ times 9 group-start) gives a-refusal 8 2048
+    ∷ fold (repeating 1016 1 one-step ++ times 9 group-start) gives a-refusal 8 24
     ∷ fold (repeating 1025 2 one-step) gives a-refusal 9 7
     ∷ []
 

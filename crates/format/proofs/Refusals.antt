@@ -95,7 +95,7 @@ module _ (R : Rules) (s : List ℕ) where
       reached-read r .1
       ∙ at-offset p st lt
       ∙ scan-refuse R p st (getD s p 0) (drop (suc p) s) n some f
-      ∙ rw (place p lt, w)
+      ∙ cc (place p lt)
   because-refused n e (left-open st r some m w) = at-last r ∙ open-end (length s) (st .opens) st some ∙ rw (m, w)
 
   finished-accepted : (t : Tally) (x : List ℕ) → Finished R s t x → read R s ≡ accepted t x
