@@ -186,7 +186,7 @@ module _ (R : Rules) (st : State) (h w : ℕ) (b f : Forest) (z : Fits R st (rep
         folds = true-fold (R .folds) (z .plain);
         operand = omega arith;
         twice = rw (word-again h) (z .sound .0 .twice);
-        narrow = rw (word-again w) (z .sound .0 .within);
+        narrow = rw (word-again w) (omega arith);
         room = omega arith;
       })
 

@@ -22,7 +22,7 @@ irreflexive (a ∷ s) (here h) = omega arith
 irreflexive (a ∷ s) (there h) = irreflexive s h
 
 pub transitive : {s t u : List ℕ} → Before s t → Before t u → Before s u
-transitive (here {a} {b} h) (here {b = c} k) = let l : a < c = omega arith in here l
+transitive (here {a} h) (here {b = c} k) = here {a = a} {b = c} (omega arith)
 transitive (here h) (there k) = here h
 transitive (there h) (here k) = here k
 transitive (there h) (there k) = there (transitive h k)
