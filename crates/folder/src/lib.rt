@@ -27,6 +27,7 @@ ghost use Rattle.folder.specs.Table.{cells, cell, prices-of};
 ghost use Rattle.format.specs.Forest.{nodes};
 ghost use Rattle.format.specs.Tree.{tree-of};
 ghost use Rattle.folder.specs.Rows.{LevelReady};
+ghost use Rattle.folder.specs.Writing.{FoldRoom, FoldWritten};
 ghost use Rattle.folder.specs.Folding.{folding, fold-answer, fold-output, fold-work};
 ghost use Rattle.folder.specs.Run.{RunFolded, PriceList};
 
@@ -52,6 +53,14 @@ fn whole_cost(costs: &[u32], n: usize) -> u64
         return 0;
     }
     widen(costs[entry(0, n)])
+}
+
+// Writes the fold of the whole run, behind which nothing follows, and answers its length.
+fn write_run(run: &[u8], choices: &[u32], out: &mut [u8]) -> usize
+    requires { ⌜ FoldRoom (now run) 0 (now choices) (length (now out)) ⌝ }
+    ensures { λ r. ⌜ FoldWritten (now (run .entry)) 0 (now (choices .entry)) (now (out .entry)) (now (out .exit)) r ⌝ }
+{
+    put_fold(run, 0, choices, out)
 }
 
 // Folds an accepted run of n nodes: enters the table, writes the fold where it fits, and clears the table.
@@ -101,7 +110,7 @@ fn fold_run(
             cost: 0,
         };
     }
-    put_fold(run, 0, choices, out);
+    write_run(run, choices, out);
     clear(costs, used);
     clear(choices, used);
     Folded {

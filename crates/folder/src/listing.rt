@@ -3,6 +3,7 @@ use check::same;
 use reader::node_at;
 use reader::opens_node;
 ghost use mathlib.Core.Path.{_≡_};
+ghost use mathlib.Core.Bool.{true};
 ghost use Prim.Native.Nat.{_+_, _<_, _≤_};
 ghost use lib.ListN.{length};
 ghost use Rattle.format.specs.Forest.{siblings, nodes, bytes};
@@ -69,7 +70,14 @@ pub fn sibling<'a>(s: &'a [u8], offsets: &[usize], i: usize) -> &'a [u8]
     &s[a..e]
 }
 
-// The first sibling that equals sibling i, label and children together: the parts of two siblings are compared.
+// Whether two siblings with these parts are equal, label and children together.
+fn equal(a: &[u8], b: &[u8]) -> bool
+    ensures { λ r. ⌜ (r ≡ true → now (a .entry) ≡ now (b .entry)) × (now (a .entry) ≡ now (b .entry) → r ≡ true) ⌝ }
+{
+    same(a, b)
+}
+
+// The first sibling that equals sibling i: the parts of two siblings are compared.
 fn first_equal(s: &[u8], offsets: &[usize], kinds: &[usize], i: usize) -> usize
     requires { ⌜ Spelled (now s) ⌝ }
     requires { ⌜ (length (now offsets) ≡ 1025) × Placed (now s) (now offsets) ⌝ }
@@ -80,7 +88,7 @@ fn first_equal(s: &[u8], offsets: &[usize], kinds: &[usize], i: usize) -> usize
     let mut j = 0;
     while j < i {
         if kinds[j] == j {
-            if same(sibling(s, offsets, j), sibling(s, offsets, i)) {
+            if equal(sibling(s, offsets, j), sibling(s, offsets, i)) {
                 return j;
             }
         }

@@ -125,6 +125,16 @@ fn count_past(d: usize, span: usize) -> usize
     span / d + 1
 }
 
+// How many siblings match for a repeat of width d: none where the limit forbids that width.
+fn matched_within(d: usize, limit: usize, matched: usize) -> usize
+    ensures { λ r. ⌜ ((d ≤ limit → r ≡ matched)) × ((limit < d → r ≡ 0)) ⌝ }
+{
+    if limit < d {
+        return 0;
+    }
+    matched
+}
+
 // The stretch of d siblings is solved: what is left is put behind it where it is cheapest as one repeat, and it is repeated as far
 // as siblings match. The keys of up to `span` siblings are final and need neither.
 fn settle(
@@ -149,10 +159,8 @@ fn settle(
     if covered(key) == d as u64 {
         push(costs, numbers, i, m - i, d, key, past(d, span), keys);
     }
-    if d <= limit {
-        if d <= matched {
-            offer(prices, key / 2097152, d, matched, count_past(d, span), keys);
-        }
+    if d <= matched_within(d, limit, matched) {
+        offer(prices, key / 2097152, d, matched, count_past(d, span), keys);
     }
 }
 

@@ -63,8 +63,8 @@ returns : tie.Need-returns
 returns c =
     let S = c .before .before .before .before .before .before .before .before .before .before .before .before .before .before .before .before .before .before .before .before .before .before .before .before .before .before .before .before .before .before .before .before .before .before .before .before .before in folded-short (worked (c .before .before .before .before .before .before .before .before .before .before .before .before .before .before .before .before .before .before .before .before .before .before .before)) (c .before .before .before .before .before .before .before .before .before .before .before .before .fold-length .result) (c .before .before .before .before .before .before .before .before .before .before .before .before .fold-length .ensures) (c .before .before .before .before .before .before .before .before .before .entries .result) (c .before .before .before .before .before .before .before .before .before .entries .ensures) (S .args .out .now) (c .before .before .before .before .before .before .clear .last .0) (c .before .before .clear2 .last .0) (c .before .before .before .before .before .before .clear .ensures) (c .before .before .clear2 .ensures) (c .before .before .before .before .before .before .before .before .if1 .taken)
 
-put-fold-requires : tie.Need-put-fold-requires
-put-fold-requires c κs =
+write-run-requires : tie.Need-write-run-requires
+write-run-requires c κs =
     let S = c .before .before .before .before .before .before .before .before .before .before .before .before .before .before .before .before .before .before .before .before .before .before .before .before .before .before .before .before .before .before .before in fold-room (worked (c .before .before .before .before .before .before .before .before .before .before .before .before .before .before .before .before .before)) (c .before .before .before .before .before .before .fold-length .result) (c .before .before .before .before .before .before .fold-length .ensures) (S .args .out .now) (c .before .before .if1 .left)
 
 clear-requires-3 : tie.Need-clear-requires-3
@@ -86,7 +86,7 @@ same-length-5 c = search needs
 
 returns-2 : tie.Need-returns-2
 returns-2 c =
-    let S = c .before .before .before .before .before .before .before .before .before .before .before .before .before .before .before .before .before .before .before .before .before .before .before .before .before .before .before .before .before .before .before .before .before .before .before .before .before .before .before .before .before .before in folded-whole (worked (c .before .before .before .before .before .before .before .before .before .before .before .before .before .before .before .before .before .before .before .before .before .before .before .before .before .before .before .before)) (c .before .before .before .before .before .before .before .before .before .before .before .before .before .before .before .before .before .fold-length .result) (c .before .before .before .before .before .before .before .before .before .before .before .before .before .before .before .before .before .fold-length .ensures) (c .before .before .before .before .before .before .before .before .before .before .before .before .before .before .entries .result) (c .before .before .before .before .before .before .before .before .before .before .before .before .before .before .entries .ensures) (S .args .out .now) (c .before .before .before .before .before .before .clear3 .last .0) (c .before .before .clear4 .last .0) (c .before .before .before .before .before .before .clear3 .ensures) (c .before .before .clear4 .ensures) (c .before .before .before .before .before .before .before .before .before .before .before .before .before .if1 .left) (c .before .before .before .before .before .before .before .before .before .before .before .before .before .before .before .whole-cost .result) (whole-is (worked (c .before .before .before .before .before .before .before .before .before .before .before .before .before .before .before .before .before .before .before .before .before .before .before .before .before .before .before .before)) (c .before .before .before .before .before .before .before .before .before .before .before .before .before .before .before .whole-cost .result) (c .before .before .before .before .before .before .before .before .before .before .before .before .before .before .before .whole-cost .ensures .0) (c .before .before .before .before .before .before .before .before .before .before .before .before .before .before .before .whole-cost .ensures .1)) (c .before .before .before .before .before .before .before .before .before .before .put-fold .last .1 .1 .1 .0) (c .before .before .before .before .before .before .before .before .before .before .put-fold .result) (c .before .before .before .before .before .before .before .before .before .before .put-fold .ensures)
+    let S = c .before .before .before .before .before .before .before .before .before .before .before .before .before .before .before .before .before .before .before .before .before .before .before .before .before .before .before .before .before .before .before .before .before .before .before .before .before .before .before .before .before .before in folded-whole (worked (c .before .before .before .before .before .before .before .before .before .before .before .before .before .before .before .before .before .before .before .before .before .before .before .before .before .before .before .before)) (c .before .before .before .before .before .before .before .before .before .before .before .before .before .before .before .before .before .fold-length .result) (c .before .before .before .before .before .before .before .before .before .before .before .before .before .before .before .before .before .fold-length .ensures) (c .before .before .before .before .before .before .before .before .before .before .before .before .before .before .entries .result) (c .before .before .before .before .before .before .before .before .before .before .before .before .before .before .entries .ensures) (S .args .out .now) (c .before .before .before .before .before .before .clear3 .last .0) (c .before .before .clear4 .last .0) (c .before .before .before .before .before .before .clear3 .ensures) (c .before .before .clear4 .ensures) (c .before .before .before .before .before .before .before .before .before .before .before .before .before .if1 .left) (c .before .before .before .before .before .before .before .before .before .before .before .before .before .before .before .whole-cost .result) (whole-is (worked (c .before .before .before .before .before .before .before .before .before .before .before .before .before .before .before .before .before .before .before .before .before .before .before .before .before .before .before .before)) (c .before .before .before .before .before .before .before .before .before .before .before .before .before .before .before .whole-cost .result) (c .before .before .before .before .before .before .before .before .before .before .before .before .before .before .before .whole-cost .ensures .0) (c .before .before .before .before .before .before .before .before .before .before .before .before .before .before .before .whole-cost .ensures .1)) (c .before .before .before .before .before .before .before .before .before .before .write-run .last .1 .1 .0) (c .before .before .before .before .before .before .before .before .before .before .write-run .result) (c .before .before .before .before .before .before .before .before .before .before .write-run .ensures)
 
 pub fold-run-spec : {M : Type 1} → statement M
 fold-run-spec =
@@ -106,7 +106,7 @@ fold-run-spec =
     same-length
     same-length-2
     returns
-    put-fold-requires
+    write-run-requires
     clear-requires-3
     clear-requires-4
     same-length-3

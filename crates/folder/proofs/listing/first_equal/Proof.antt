@@ -37,14 +37,14 @@ sibling-requires-2 c κs =
     let S = c .before .before .before .before .before .before .before .before in
     (S .pre .0, (S .pre .1 .0, S .pre .1 .1 .0))
 
-same-requires : tie.Need-same-requires Inv-loop μ-loop
-same-requires c κs = search needs
+equal-requires : tie.Need-equal-requires Inv-loop μ-loop
+equal-requires c κs = search needs
 
 returns : tie.Need-returns Inv-loop μ-loop
 returns c =
     let L = c .before .before .before .before .before .before .before .loop in
     first-found _ _ _ _ _ (c .before .before .before .before .before .before .loop-test .taken)
-    (c .before .before .before .sibling .ensures) (c .before .before .sibling2 .ensures) (c .before .same .ensures .0 (c .if2 .taken)) (L .inv .1)
+    (c .before .before .before .sibling .ensures) (c .before .before .sibling2 .ensures) (c .before .equal .ensures .0 (c .if2 .taken)) (L .inv .1)
 
 add-j : tie.Need-add-j Inv-loop μ-loop
 add-j c = omega arith
@@ -80,7 +80,7 @@ first-equal-spec =
     shared-slice-read-if1
     sibling-requires
     sibling-requires-2
-    same-requires
+    equal-requires
     returns
     add-j
     loop-less

@@ -1,7 +1,8 @@
 -- `folder::row::settle` meets its contract: what the two branches did is what the contract names.
 use mathlib.Core.Path.{refl, sym, _∙_}
 use mathlib.Core.Logic.{⊎-elim}
-use Prim.Native.Nat.{_-_, _/_}
+use Prim.Native.Nat.{_-_, _/_, _≤_}
+use native.Mathlib.Decide.{decLe}
 use native.Mathlib.Omega.{arith}
 use lib.ListN.{getD}
 use borrow.Author.Needs.{needs}
@@ -57,6 +58,9 @@ push-requires c κs =
       (p .1 .0 .0 .long, omega arith, c .before .past .ensures .0, c .before .past .ensures .2, p .1 .0 .0 .low (S .args .d), omega arith),
     )
 
+matched-within-requires : tie.Need-matched-within-requires
+matched-within-requires c κs = search needs
+
 count-past-requires : tie.Need-count-past-requires
 count-past-requires c κs = search needs
 
@@ -69,26 +73,36 @@ offer-requires c κs =
       (p .1 .0 .2, (omega (arith, p .1 .0 .0 .low (start J .args .d)), omega arith, omega arith, k .0, k .1)),
     )
 
+-- Where siblings match for a repeat, the limit allows its width.
+not-too-wide : (c : tie.Then2) → (let a = start (c .before .before) .args in a .d ≤ a .limit)
+not-too-wide c =
+    let a = start (c .before .before) .args in
+    elim (decLe (a .d) (a .limit)) [
+      | yes l ↦ l
+      | no l ↦ absurd (omega (arith, c .before .matched-within .ensures .1 (omega arith)))
+    ]
+
 returns : tie.Need-returns
 returns c =
     let J = c .before .before .before .before .before .before .before in
     let k = c .before .before .before .before .count-past in
-    settled J _ (offer (k .result) (k .ensures .0) (k .ensures .2) (k .ensures .3) (omega arith) (c .before .before .offer .ensures))
+    settled J _ (offer (k .result) (k .ensures .0) (k .ensures .2) (k .ensures .3) (not-too-wide (c .before .before .before .before .before)) (c .before .before .offer .ensures))
 
 same-length : tie.Need-same-length
 same-length c = returns c .0 .long ∙ sym (c .before .before .before .before .before .before .before .before .before .before .before .before .before .before .pre .1 .0 .0 .long)
 
 returns-2 : tie.Need-returns-2
-returns-2 c = settled (c .before .before) _ (unlike (omega arith) refl)
+returns-2 c =
+    let a = start (c .before .before) .args in
+    let e = c .before .matched-within .ensures in
+    settled (c .before .before) _
+    (elim (decLe (a .d) (a .limit)) [
+      | yes l ↦ unlike (omega (arith, e .0 l)) refl
+      | no l ↦ too-wide (omega arith) refl
+    ])
 
 same-length-2 : tie.Need-same-length-2
 same-length-2 c = returns-2 c .0 .long ∙ sym (c .before .before .before .before .before .before .before .before .before .pre .1 .0 .0 .long)
-
-returns-3 : tie.Need-returns-3
-returns-3 c = settled (c .before) _ (too-wide (omega arith) refl)
-
-same-length-3 : tie.Need-same-length-3
-same-length-3 c = returns-3 c .0 .long ∙ sym (c .before .before .before .before .before .before .before .before .pre .1 .0 .0 .long)
 
 pub settle-spec : {M : Type 1} → statement M
 settle-spec =
@@ -100,11 +114,10 @@ settle-spec =
     sub-push
     past-requires
     push-requires
+    matched-within-requires
     count-past-requires
     offer-requires
     same-length
     returns
     same-length-2
-    returns-2
-    same-length-3
-    returns-3)
+    returns-2)
