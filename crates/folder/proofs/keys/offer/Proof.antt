@@ -85,8 +85,8 @@ loop-again c =
     let near = c .before .before .before .loop-test .taken in
     let fits : L .h * c .before .before .before .before .before .args .d < length (L .keys) = omega (arith, u .same-length) in
     ⊎-elim
-    (λ x. rw (x .1) (upto-set _ _ _ _ _ _ (L .keys) (L .h) u (w .1) near fits (x .0 .taken)))
-    (λ x. rw (x .1) (upto-kept _ _ _ _ _ _ (L .keys) (L .h) u (w .1) (x .0 .left)))
+    (λ x. rw (x .1) (upto-set _ _ _ _ _ _ (L .keys) (L .h) u (w .1) near fits (omega (arith, x .0 .taken))))
+    (λ x. rw (x .1) (upto-kept _ _ _ _ _ _ (L .keys) (L .h) u (w .1) (omega (arith, x .0 .left))))
     (c .if1 .came)
 
 same-length : tie.Need-same-length Inv-loop μ-loop
