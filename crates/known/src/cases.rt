@@ -1,15 +1,15 @@
 // The known folds of document 01, the marked ones too: what the folder writes, read and unrolled back.
+use crate::print::difference;
+use crate::print::number;
+use crate::print::word;
 use format::Folded;
 use format::Format;
 use reader::read_fold;
 use reader::read_run;
 use trying::begins;
-use trying::difference;
 use trying::fold_checked;
-use trying::number;
 use trying::put_byte;
 use trying::unrolls;
-use trying::word;
 
 // Whether a fold has these values by the fold reader.
 fn reads(

@@ -2,6 +2,7 @@
 // saw, and a line that begins with `difference` where that is not right.
 mod cases;
 mod parts;
+mod print;
 mod refusals;
 
 fn main() {

@@ -1,11 +1,11 @@
 // The parts of nodes, and siblings compared by them.
+use crate::print::difference;
+use crate::print::number;
+use crate::print::word;
 use reader::part;
 use reader::same_node;
 use reader::wide;
 use trying::above;
-use trying::difference;
-use trying::number;
-use trying::word;
 
 // Whether the part at an offset is that many bytes of the run.
 fn part_is(run: &[u8], at: usize, n: usize) -> bool {

@@ -1,13 +1,13 @@
 // The refusals: the example of every row of document 01, by every entry point that the row concerns.
 use crate::cases::steps;
+use crate::print::difference;
+use crate::print::number;
+use crate::print::word;
 use reader::read_fold;
 use reader::read_run;
-use trying::difference;
 use trying::fill_bytes;
 use trying::fold_checked;
-use trying::number;
 use trying::untouched;
-use trying::word;
 use unroller::unroll;
 
 // What is expected: the number and the place.

@@ -2,6 +2,7 @@
 // prices and limits.
 use crate::folds::fold_at;
 use crate::folds::gather;
+use libc::STDOUT_FILENO;
 use reader::read_fold;
 use reader::read_run;
 use std::num::wrapping_add_u64;
@@ -240,6 +241,13 @@ fn compare_all(
     sums
 }
 
+// The line that says on which run the folder and the trial of every fold do not agree. A run here has at most 128 bytes.
+fn differ(run: &[u8]) {
+    let mut line = [0u8; 320];
+    let n = difference(b"the folder and the trial of every fold", run, &mut line);
+    io::write_all(STDOUT_FILENO, &line[0..n]);
+}
+
 // One run, at some settings, against all its folds.
 pub fn try_run(mut sums: Sums, at: Settings, run: &[u8]) -> Sums {
     let mut text = [0u8; 128];
@@ -275,7 +283,7 @@ pub fn try_run(mut sums: Sums, at: Settings, run: &[u8]) -> Sums {
         sums.right = false;
     }
     if !sums.right {
-        difference(b"the folder and the trial of every fold", run);
+        differ(run);
     }
     sums
 }

@@ -7,19 +7,24 @@ mod runs;
 
 use compare::Settings;
 use compare::Sums;
+use libc::STDOUT_FILENO;
 use runs::try_runs;
-use trying::number;
-use trying::word;
+
+// A word and a number.
+fn number(text: &[u8], n: u64) {
+    io::write_all(STDOUT_FILENO, text);
+    io::print_decimal(STDOUT_FILENO, n);
+}
 
 // Prints what was tried.
 fn show(name: &[u8], s: Sums) {
-    word(name);
+    io::write_all(STDOUT_FILENO, name);
     number(b": runs ", s.runs);
     number(b", folds ", s.folds);
     number(b", compared ", s.compared);
     number(b", cost ", s.cost);
     number(b", length ", s.length);
-    word(b"\n");
+    io::write_all(STDOUT_FILENO, b"\n");
 }
 
 fn main() {

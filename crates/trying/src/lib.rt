@@ -1,7 +1,7 @@
-// What the programs that try the library share: the calls that look at every entry of the lent slices, what they print, and
-// small helpers.
+// What the programs that try the library share: the calls that look at every entry of the lent slices, the line that shows a
+// difference, and small helpers.
 mod lent;
-mod print;
+mod line;
 mod small;
 
 pub use lent::Checked;
@@ -10,9 +10,7 @@ pub use lent::fill_bytes;
 pub use lent::fold_checked;
 pub use lent::unrolls;
 pub use lent::untouched;
-pub use print::difference;
-pub use print::number;
-pub use print::word;
+pub use line::difference;
 pub use small::above;
 pub use small::product;
 pub use small::put_byte;

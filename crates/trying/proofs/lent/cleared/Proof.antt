@@ -1,51 +1,63 @@
--- `trying::lent::cleared` is safe and ends: an entry less is left with each turn.
-use Prim.Native.Nat.{_-_}
+-- `trying::lent::cleared` meets its contract: the two parts are looked at by themselves.
+use mathlib.Core.Path.{sym}
+use native.Mathlib.Omega.{arith}
+use lib.Seq.{length-take-le}
+use Rattle.trying.proofs.Says.{says-no, part-holds, part-fails}
+use Rattle.trying.proofs.Fillings.{cleared-parts, cleared-long, rest-whole}
 use borrow.Author.Needs.{needs}
-use lib.ListN.{length}
 use Rattle.trying.proofs.lent.cleared.Statement.{statement}
 use Rattle.trying.proofs.lent.cleared.Tie as tie
 
-abbrev Inv-loop : tie.InvT-loop
-Inv-loop s used i₀ i = Unit
+returns : tie.Need-returns
+returns c =
+    let a = c .before .before .args in says-no (λ e. omega (arith, cleared-long (a .s .now) (a .n) e))
 
-abbrev μ-loop : tie.MeasureT-loop
-μ-loop s used i₀ i = length s - i
+slice-aggregate-all-are : tie.Need-slice-aggregate-all-are
+slice-aggregate-all-are c =
+    let a = c .before .before .before .args in sym (length-take-le (a .n) (a .s .now) (omega arith))
 
-loop-holds : tie.Need-loop-holds Inv-loop μ-loop
-loop-holds c = search needs
+all-are-requires : tie.Need-all-are-requires
+all-are-requires c κs = search needs
 
-mul-if2 : tie.Need-mul-if2 Inv-loop μ-loop
-mul-if2 c = search needs
+returns-2 : tie.Need-returns-2
+returns-2 c =
+    let a = c .before .before .before .before .before .args in
+    part-fails (c .before .all-are .ensures) (c .if2 .taken) (λ e. cleared-parts (a .s .now) (a .n) (omega arith) .0 e .0)
 
-shared-slice-read-if2 : tie.Need-shared-slice-read-if2 Inv-loop μ-loop
-shared-slice-read-if2 c = search needs
+mul-all-are : tie.Need-mul-all-are
+mul-all-are c = search needs
 
-returns : tie.Need-returns Inv-loop μ-loop
-returns c = search needs
+sub-all-are : tie.Need-sub-all-are
+sub-all-are c = search needs
 
-add-i : tie.Need-add-i Inv-loop μ-loop
-add-i c = search needs
+part-all-are-start : tie.Need-part-all-are-start
+part-all-are-start c = search needs
 
-loop-less : tie.Need-loop-less Inv-loop μ-loop
-loop-less c = search needs
+part-all-are-end : tie.Need-part-all-are-end
+part-all-are-end c = search needs
 
-loop-again : tie.Need-loop-again Inv-loop μ-loop
-loop-again c = search needs
+all-are-requires-2 : tie.Need-all-are-requires-2
+all-are-requires-2 c κs = search needs
 
-returns-2 : tie.Need-returns-2 Inv-loop μ-loop
-returns-2 c = search needs
+returns-3 : tie.Need-returns-3
+returns-3 c =
+    let a = c .before .before .before .before .before .before .before .args in
+    let front = part-holds (c .before .before .before .all-are .ensures) (c .before .before .if2 .left) in
+    let parts = cleared-parts (a .s .now) (a .n) (omega arith) in
+    let rest = rw (rest-whole (a .s .now) (a .n)) at (c .all-are2 .ensures) in
+    (λ e. parts .1 (front, rest .0 e), λ e. rest .1 (parts .0 e .1))
 
 pub cleared-spec : {M : Type 1} → statement M
 cleared-spec =
     tie.close
     (tie.spec
-    Inv-loop
-    μ-loop
-    loop-holds
-    mul-if2
-    shared-slice-read-if2
     returns
-    add-i
-    loop-less
-    loop-again
-    returns-2)
+    slice-aggregate-all-are
+    all-are-requires
+    returns-2
+    mul-all-are
+    sub-all-are
+    part-all-are-start
+    part-all-are-end
+    all-are-requires-2
+    returns-3)

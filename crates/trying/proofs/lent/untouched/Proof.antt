@@ -1,36 +1,44 @@
--- `trying::lent::untouched` is safe and ends: a byte less is left with each turn.
+-- `trying::lent::untouched` meets its contract. The loop's invariant: what is asked comes to the same from entry i on.
+use mathlib.Core.Logic.{_↔_}
 use Prim.Native.Nat.{_-_}
-use borrow.Author.Needs.{needs}
+use native.Mathlib.Omega.{arith}
 use lib.ListN.{length}
+use Rattle.trying.proofs.Fillings.{From, from-more, from-other, from-none}
 use Rattle.trying.proofs.lent.untouched.Statement.{statement}
 use Rattle.trying.proofs.lent.untouched.Tie as tie
 
 abbrev Inv-loop : tie.InvT-loop
-Inv-loop s from i₀ i = Unit
+Inv-loop s from i₀ i = From s 0xee i ↔ From s 0xee from
 
 abbrev μ-loop : tie.MeasureT-loop
 μ-loop s from i₀ i = length s - i
 
 loop-holds : tie.Need-loop-holds Inv-loop μ-loop
-loop-holds c = search needs
+loop-holds c = ((λ e. e), (λ e. e))
 
 shared-slice-read-if1 : tie.Need-shared-slice-read-if1 Inv-loop μ-loop
-shared-slice-read-if1 c = search needs
+shared-slice-read-if1 c = omega arith
 
 returns : tie.Need-returns Inv-loop μ-loop
-returns c = search needs
+returns c =
+    let a = c .before .before .before .before .args in
+    from-other (a .s .now) 0xee (From (a .s .now) 0xee (a .from)) _ (omega arith) (c .if1 .taken) (c .before .before .before .loop .inv)
 
 add-i : tie.Need-add-i Inv-loop μ-loop
-add-i c = search needs
+add-i c = omega arith
 
 loop-less : tie.Need-loop-less Inv-loop μ-loop
-loop-less c = search needs
+loop-less c = omega arith
 
 loop-again : tie.Need-loop-again Inv-loop μ-loop
-loop-again c = search needs
+loop-again c =
+    let a = c .before .before .before .before .args in
+    from-more (a .s .now) 0xee (From (a .s .now) 0xee (a .from)) _ (omega arith) (c .if1 .left) (c .before .before .before .loop .inv)
 
 returns-2 : tie.Need-returns-2 Inv-loop μ-loop
-returns-2 c = search needs
+returns-2 c =
+    let a = c .before .before .args in
+    from-none (a .s .now) 0xee (From (a .s .now) 0xee (a .from)) _ (omega arith) (c .before .loop .inv)
 
 pub untouched-spec : {M : Type 1} → statement M
 untouched-spec =

@@ -1,0 +1,3 @@
+-- What the contracts of `trying` cite.
+pub mod Lent
+pub mod Line
