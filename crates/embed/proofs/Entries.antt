@@ -4,12 +4,10 @@ use mathlib.Core.Path.{_≡_, sym, ap, subst, _∙_}
 use mathlib.Core.Bool.{Bool, cond}
 use mathlib.Core.List.{List, [], _∷_}
 use Prim.Native.Nat.{ℕ, _<_, _≤_}
-use lib.ListN.{length, take, drop, set, getD}
+use lib.ListN.{length, drop, set, getD}
 use lib.Seq.{sets-eq}
 use borrow.Author.Tests.{lt-ltb, le-ltb}
 use Rattle.format.specs.declared.FoldReading.{FoldReading}
-use Rattle.format.specs.Limits.{Prices}
-use Rattle.optimum.specs.Demands.{CheapestWithin}
 use Rattle.embed.specs.Answers.{status, kept, entries}
 
 -- Five stores, one after the other.
@@ -50,10 +48,7 @@ module _ (a : List ℕ) (long : 5 ≤ length a) where
       subst (λ (x : FoldReading). (r .refusal ≡ status a (x .refusal)) × (b ≡ entries a x)) e
       (long-status (r .refusal), five ∙ long-kept a (r .refusal ∷ r .place ∷ r .nodes ∷ r .length ∷ r .cost ∷ drop 5 a))
 
--- Demand 3 about the numbers that were stored: the length is entry 3, the cost entry 4.
-pub cheapest-stored : (run : List ℕ) (limit : ℕ) (P : Prices) (out b : List ℕ) (r : FoldReading) (rest : List ℕ)
-    → b ≡ r .refusal ∷ r .place ∷ r .nodes ∷ r .length ∷ r .cost ∷ rest
-    → CheapestWithin run limit P (take (r .length) out) (r .cost)
-    → CheapestWithin run limit P (take (getD b 3 0) out) (getD b 4 0)
-cheapest-stored run limit P out b r rest five =
-    subst (λ (x : List ℕ). CheapestWithin run limit P (take (getD x 3 0) out) (getD x 4 0)) (sym five)
+-- What holds of an answer's length and cost holds of the numbers that were stored: entries 3 and 4.
+pub of-stored : (Q : (length cost : ℕ) → Type 0) (b : List ℕ) (r : FoldReading) (rest : List ℕ)
+    → b ≡ r .refusal ∷ r .place ∷ r .nodes ∷ r .length ∷ r .cost ∷ rest → Q (r .length) (r .cost) → Q (getD b 3 0) (getD b 4 0)
+of-stored Q b r rest five = subst (λ (x : List ℕ). Q (getD x 3 0) (getD x 4 0)) (sym five)

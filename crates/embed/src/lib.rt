@@ -12,10 +12,11 @@ ghost use mathlib.Core.List.{_∷_};
 ghost use Prim.Native.Nat.{_≤_};
 ghost use lib.ListN.{length, getD, take, drop};
 ghost use Rattle.format.specs.Limits.{priced};
-ghost use Rattle.format.specs.Readings.{run-reading, fold-reading};
+ghost use Rattle.format.specs.Readings.{run-reading, measured, fold-reading};
+ghost use Rattle.format.specs.Meaning.{Means, MeansAtCost};
 ghost use Rattle.format.specs.Parts.{part-of};
-ghost use Rattle.optimum.specs.Demands.{CheapestWithin};
-ghost use Rattle.unroller.specs.Unrolling.{unrolling, unroll-answer, unroll-output};
+ghost use Rattle.optimum.specs.Demands.{CheapestWithin, CheapestOver, MinimumTree};
+ghost use Rattle.unroller.specs.Unrolling.{unroll-answer, unroll-output};
 ghost use Rattle.folder.specs.Folding.{folding, fold-answer, fold-output, fold-work};
 ghost use Rattle.embed.specs.Answers.{status, kept, entries, of-run, of-unroll, of-fold};
 
@@ -81,6 +82,7 @@ pub extern "C" fn runfold_read_fold(
 ) -> u8
     ensures returned { λ r. ⌜ r ≡ status (now (answer .entry)) (fold-reading (now (fold .entry)) limit (now (costs .entry)) first each .refusal) ⌝ }
     ensures answered { λ _. ⌜ now (answer .exit) ≡ entries (now (answer .entry)) (fold-reading (now (fold .entry)) limit (now (costs .entry)) first each) ⌝ }
+    ensures meant { λ r. ⌜ (r ≡ 0 → MeansAtCost limit (now (costs .entry)) first each (now (fold .entry)) (getD (now (answer .exit)) 3 0) (getD (now (answer .exit)) 4 0)) ⌝ }
 {
     if answer.len() < ENTRIES {
         return SHORT;
@@ -98,9 +100,10 @@ pub extern "C" fn runfold_unroll(
     out: &mut [u8],
     answer: &mut [u64],
 ) -> u8
-    ensures returned { λ r. ⌜ r ≡ status (now (answer .entry)) (unroll-answer (unrolling (now (fold .entry)) limit) (length (now (out .entry))) .refusal) ⌝ }
-    ensures answered { λ _. ⌜ now (answer .exit) ≡ entries (now (answer .entry)) (of-unroll (unroll-answer (unrolling (now (fold .entry)) limit) (length (now (out .entry))))) ⌝ }
-    ensures written { λ _. ⌜ now (out .exit) ≡ kept (now (answer .entry)) (now (out .entry)) (unroll-output (unrolling (now (fold .entry)) limit) (now (out .entry))) ⌝ }
+    ensures returned { λ r. ⌜ r ≡ status (now (answer .entry)) (unroll-answer (measured (now (fold .entry)) limit) (length (now (out .entry))) .refusal) ⌝ }
+    ensures answered { λ _. ⌜ now (answer .exit) ≡ entries (now (answer .entry)) (of-unroll (unroll-answer (measured (now (fold .entry)) limit) (length (now (out .entry))))) ⌝ }
+    ensures written { λ _. ⌜ now (out .exit) ≡ kept (now (answer .entry)) (now (out .entry)) (unroll-output (measured (now (fold .entry)) limit) (now (out .entry))) ⌝ }
+    ensures meant { λ r. ⌜ (r ≡ 0 → Means limit (now (fold .entry)) (take (getD (now (answer .exit)) 3 0) (now (out .exit)))) ⌝ }
 {
     if answer.len() < ENTRIES {
         return SHORT;
@@ -138,6 +141,8 @@ pub extern "C" fn runfold_fold(
     ensures costs_cleared { λ _. ⌜ now (costs .exit) ≡ kept (now (answer .entry)) (now (costs .entry)) (fold-work (folding (now (run .entry)) limit (now (table .entry)) first each) (length (now (costs .entry))) (length (now (choices .entry))) (now (costs .entry))) ⌝ }
     ensures choices_cleared { λ _. ⌜ now (choices .exit) ≡ kept (now (answer .entry)) (now (choices .entry)) (fold-work (folding (now (run .entry)) limit (now (table .entry)) first each) (length (now (costs .entry))) (length (now (choices .entry))) (now (choices .entry))) ⌝ }
     ensures cheapest { λ r. ⌜ (r ≡ 0 → CheapestWithin (now (run .entry)) limit (priced (now (table .entry)) first each) (take (getD (now (answer .exit)) 3 0) (now (out .exit))) (getD (now (answer .exit)) 4 0)) ⌝ }
+    ensures minimum { λ r. ⌜ (r ≡ 0 → MinimumTree (now (run .entry)) limit (now (table .entry)) first each (take (getD (now (answer .exit)) 3 0) (now (out .exit)))) ⌝ }
+    ensures too_long { λ r. ⌜ (r ≡ 14 → CheapestOver (length (now (out .entry))) (now (run .entry)) limit (priced (now (table .entry)) first each)) ⌝ }
 {
     if answer.len() < ENTRIES {
         return SHORT;

@@ -9,7 +9,7 @@ use native.Mathlib.Omega.{arith}
 use lib.Dec.{ltb}
 use lib.ListN.{length, getD, take, drop, List·getD-eq-default}
 use lib.Seq.{take-at}
-use borrow.Author.Tests.{lt-ltb, le-ltb, eq-eqb, ne-eqb}
+use borrow.Author.Tests.{lt-ltb, ltb-true, le-ltb, eq-eqb, ne-eqb}
 use Rattle.format.specs.Limits.{limits, Prices, priced, of-repeat}
 use Rattle.format.specs.Order.{Bytes}
 use Rattle.format.specs.Forest.{nodes, bytes}
@@ -20,10 +20,11 @@ use Rattle.format.specs.declared.Tally.{Tally}
 use Rattle.format.specs.declared.RunReading.{RunReading}
 use Rattle.format.specs.declared.Folded.{Folded}
 use Rattle.format.proofs.Bridge.{sound-widest, sound-within}
-use Rattle.format.proofs.Refusals.{refused-some}
+use Rattle.format.proofs.Refusals.{refused-some, refused-small}
 use Rattle.optimum.specs.Cheapest.{cheapest, best-cost}
-use Rattle.optimum.specs.Demands.{CheapestWithin}
-use Rattle.optimum.proofs.Demands.{run-form, run-shape, run-nodes, cheapest-bytes}
+use Rattle.optimum.specs.Demands.{CheapestWithin, CheapestOver, MinimumTree}
+use Rattle.optimum.proofs.Demands.{run-form, run-shape, run-nodes, cheapest-small, cheapest-bytes}
+use Rattle.optimum.proofs.Minimum.{cheapest-minimum}
 use Rattle.folder.specs.Table.{Spelled, Prepared, cells, at-most, prices-of}
 use Rattle.folder.specs.Rows.{LevelReady}
 use Rattle.folder.specs.Folding.{Verdict, refuses, folds, of-run, folding, fold-answer, fold-output, fold-work}
@@ -86,6 +87,15 @@ module _ (s : List ℕ) (k : ℕ) (table : List ℕ) (first each : ℕ) where
           by-outcome (refused n p) e = let q = reading ∙ ap run-answer e in verdict-read (refused n p) e ∙ rw q
           by-outcome (accepted t x) e = let q = reading ∙ ap run-answer e in absurd (z (ap (λ (y : RunReading). y .refusal) q))
 
+      -- The run's own refusals are not the folder's.
+      pub run-number : r .refusal ≡ 14 → ⊥
+      unfolding run-reading
+      run-number z = by-outcome (read run-rules s) refl
+        where
+          by-outcome : (o : Outcome) → read run-rules s ≡ o → ⊥
+          by-outcome (refused n p) e = omega (arith, refused-small run-rules s n p e, ap (λ (y : RunReading). y .refusal) (reading ∙ ap run-answer e))
+          by-outcome (accepted t x) e = omega (arith, ap (λ (y : RunReading). y .refusal) (reading ∙ ap run-answer e))
+
       -- An accepted run: its tree, and the verdict.
       pub record Accepted : Type 0 where
         pub tally : Tally
@@ -137,52 +147,79 @@ module _ (s : List ℕ) (k : ℕ) (table : List ℕ) (first each : ℕ) where
                 prepared = p;
               }
 
-          pub demand : CheapestWithin s k (priced table first each) (bytes (cheapest (at-most k) (priced table first each) (tree-of s))) (best-cost (at-most k) (priced table first each) (tree-of s))
-          demand = cheapest-bytes s small (a .tally) (a .text) (a .accepts) k narrow (priced table first each)
+          -- Demand 3 and the report's problem, of the cheapest fold.
+          pub demands : CheapestWithin s k (priced table first each) (bytes (cheapest (at-most k) (priced table first each) (tree-of s))) (best-cost (at-most k) (priced table first each) (tree-of s))
+              × MinimumTree s k table first each (bytes (cheapest (at-most k) (priced table first each) (tree-of s)))
+          demands =
+              let P = priced table first each in
+              let best = cheapest-bytes s small (a .tally) (a .text) (a .accepts) k narrow P in
+              let coded = cheapest-small s small (a .tally) (a .text) (a .accepts) k narrow P in
+              (best, cheapest-minimum s small (a .tally) (a .text) (a .accepts) k narrow table first each _ _ coded best)
 
 -- All that the folder promises, at a verdict.
-module _ (run : List ℕ) (k : ℕ) (P : Prices) (v : Verdict) (costs choices out : List ℕ) where
+module _ (run : List ℕ) (k : ℕ) (table : List ℕ) (first each : ℕ) (v : Verdict) (costs choices out : List ℕ) where
+  abbrev P : Prices
+  P = priced table first each
+
+  -- What holds of the fold, whatever the verdict's words: on success and after 14.
+  abbrev Held : (out′ : List ℕ) → Folded → Type 0
+  Held out′ r =
+      (r .refusal ≡ 0 → CheapestWithin run k P (take (r .length) out′) (r .cost))
+      × ((r .refusal ≡ 0 → MinimumTree run k table first each (take (r .length) out′))
+      × (r .refusal ≡ 14 → CheapestOver (length out) run k P))
+
   abbrev pub Met : (costs′ choices′ out′ : List ℕ) → Folded → Type 0
   Met costs′ choices′ out′ r =
       (r ≡ fold-answer v (length costs) (length choices) (length out))
       × ((out′ ≡ fold-output v (length costs) (length choices) out)
       × ((costs′ ≡ fold-work v (length costs) (length choices) costs)
-      × ((choices′ ≡ fold-work v (length costs) (length choices) choices)
-      × (r .refusal ≡ 0 → CheapestWithin run k P (take (r .length) out′) (r .cost)))))
+      × ((choices′ ≡ fold-work v (length costs) (length choices) choices) × Held out′ r)))
 
-  pub met-refused : (n p : ℕ) → v ≡ refuses n p → (n ≡ 0 → ⊥) → (r : Folded) → r ≡ record { refusal = n; place = p; length = 0; cost = 0 } → Met costs choices out r
-  met-refused n p e z r q = (q ∙ rw e, (rw e, (rw e, (rw e, λ y. absurd (z (sym (ap (λ (x : Folded). x .refusal) q) ∙ y))))))
+  -- Other numbers say nothing of the fold.
+  unheld : (n : ℕ) → (n ≡ 0 → ⊥) → (n ≡ 14 → ⊥) → (out′ : List ℕ) (r : Folded) → r .refusal ≡ n → Held out′ r
+  unheld n z w out′ r q = (λ y. absurd (z (sym q ∙ y)), (λ y. absurd (z (sym q ∙ y)), λ y. absurd (w (sym q ∙ y))))
+
+  abbrev refused-as : (n p : ℕ) → Folded
+  refused-as n p = record { refusal = n; place = p; length = 0; cost = 0 }
+
+  number : (n p : ℕ) (r : Folded) → r ≡ refused-as n p → r .refusal ≡ n
+  number n p r q = ap (λ (x : Folded). x .refusal) q
+
+  pub met-refused : (n p : ℕ) → v ≡ refuses n p → (n ≡ 0 → ⊥) → (n ≡ 14 → ⊥) → (r : Folded) → r ≡ refused-as n p → Met costs choices out r
+  met-refused n p e z w r q = (q ∙ rw e, (rw e, (rw e, (rw e, unheld n z w out r (number n p r q)))))
 
   module _ (n : ℕ) (f : List ℕ) (c : ℕ) (e : v ≡ folds n f c) where
-    pub met-short-costs : length costs < cells n → (r : Folded) → r ≡ record { refusal = 13; place = 0; length = 0; cost = 0 } → Met costs choices out r
+    pub met-short-costs : length costs < cells n → (r : Folded) → r ≡ refused-as 13 0 → Met costs choices out r
     met-short-costs l r q =
         let x = lt-ltb (length costs) (cells n) l in
-        (q ∙ rw (e, x), (rw (e, x), (rw (e, x), (rw (e, x), λ y. let z = ap (λ (x : Folded). x .refusal) q in absurd (omega arith)))))
+        (q ∙ rw (e, x), (rw (e, x), (rw (e, x), (rw (e, x), unheld 13 (omega arith) (omega arith) out r (number 13 0 r q)))))
 
     module _ (long-costs : cells n ≤ length costs) where
-      pub met-short-choices : length choices < cells n → (r : Folded) → r ≡ record { refusal = 13; place = 0; length = 0; cost = 0 } → Met costs choices out r
+      pub met-short-choices : length choices < cells n → (r : Folded) → r ≡ refused-as 13 0 → Met costs choices out r
       met-short-choices l r q =
           let w = le-ltb (length costs) (cells n) long-costs in
           let x = lt-ltb (length choices) (cells n) l in
-          (q ∙ rw (e, w, x), (rw (e, w, x), (rw (e, w, x), (rw (e, w, x), λ y. let z = ap (λ (x : Folded). x .refusal) q in absurd (omega arith)))))
+          (q ∙ rw (e, w, x), (rw (e, w, x), (rw (e, w, x), (rw (e, w, x), unheld 13 (omega arith) (omega arith) out r (number 13 0 r q)))))
 
   -- The run is folded.
   module _ (n : ℕ) (e : v ≡ folds n (bytes (cheapest (at-most k) P (tree-of run))) (best-cost (at-most k) P (tree-of run)))
       (long-costs : cells n ≤ length costs) (long-choices : cells n ≤ length choices)
       (costs′ choices′ out′ : List ℕ) (r : Folded) (folded : RunFolded run n k P costs costs′ choices choices′ out out′ r)
-      (demand : CheapestWithin run k P (bytes (cheapest (at-most k) P (tree-of run))) (best-cost (at-most k) P (tree-of run))) where
+      (demands : CheapestWithin run k P (bytes (cheapest (at-most k) P (tree-of run))) (best-cost (at-most k) P (tree-of run))
+      × MinimumTree run k table first each (bytes (cheapest (at-most k) P (tree-of run)))) where
     abbrev f : List ℕ
     f = bytes (cheapest (at-most k) P (tree-of run))
 
-    fits : (b : Bool) → ltb (length out) (length f) ≡ b → r .refusal ≡ 0 → CheapestWithin run k P (take (r .length) out′) (r .cost)
-    fits true t z =
-        let q : r ≡ record { refusal = 14; place = 0; length = 0; cost = 0 } = folded .answered ∙ rw t in
-        let w = ap (λ (x : Folded). x .refusal) q in
-        absurd (omega arith)
-    fits false t z =
+    held : (b : Bool) → ltb (length out) (length f) ≡ b → Held out′ r
+    held true t =
+        let q = number 14 0 r (folded .answered ∙ rw t) in
+        let l = ltb-true _ _ t in
+        (λ y. absurd (omega arith), (λ y. absurd (omega arith), λ y. record { fold = f; cost = best-cost (at-most k) P (tree-of run); cheapest = demands .0; longer = l }))
+    held false t =
         let q : r ≡ record { refusal = 0; place = 0; length = length f; cost = best-cost (at-most k) P (tree-of run) } = folded .answered ∙ rw t in
         let w : out′ ≡ f ++ drop (length f) out = folded .written ∙ rw t in
-        rw (q, w, take-at f (drop (length f) out) (length f) refl) demand
+        let x = take-at f (drop (length f) out) (length f) refl in
+        (λ y. rw (q, w, x) (demands .0), (λ y. rw (q, w, x) (demands .1), λ y. let z = ap (λ (u : Folded). u .refusal) q in absurd (omega arith)))
 
     pub met-folded : Met costs′ choices′ out′ r
     met-folded =
@@ -191,12 +228,6 @@ module _ (run : List ℕ) (k : ℕ) (P : Prices) (v : Verdict) (costs choices ou
           folded .answered ∙ rw (e, x, y),
           (
             folded .written ∙ rw (e, x, y),
-            (
-              folded .costs-cleared ∙ rw (e, x, y),
-              (
-                folded .choices-cleared ∙ rw (e, x, y),
-                fits (ltb (length out) (length f)) refl,
-              ),
-            ),
+            (folded .costs-cleared ∙ rw (e, x, y), (folded .choices-cleared ∙ rw (e, x, y), held (ltb (length out) (length f)) refl)),
           ),
         )

@@ -4,23 +4,13 @@ use mathlib.Core.List.{List, _++_}
 use Prim.Native.Nat.{ℕ}
 use lib.Dec.{eqb, ltb}
 use lib.ListN.{length, drop, replicate}
-use Rattle.format.specs.Limits.{limits, Prices, priced}
-use Rattle.format.specs.Forest.{Allowed, bytes}
-use Rattle.format.specs.Machine.{Outcome, refused, accepted, read}
+use Rattle.format.specs.Limits.{limits, priced}
+use Rattle.format.specs.Forest.{at-most}
+use Rattle.format.specs.Machine.{read}
 use Rattle.format.specs.Readings.{run-rules}
-use Rattle.format.specs.Tree.{tree-of}
 use Rattle.format.specs.declared.Folded.{Folded}
-use Rattle.optimum.specs.Cheapest.{cheapest, best-cost}
-use Rattle.folder.specs.Table.{cells, at-most}
-
--- What follows from the run and the prices alone: a refusal, or the nodes, the bytes of the cheapest fold and its cost.
-pub data Verdict : Type 0 where
-  refuses : (number place : ℕ) → Verdict
-  folds : (nodes : ℕ) (fold : List ℕ) (cost : ℕ) → Verdict
-
-abbrev pub of-run : Allowed → Prices → List ℕ → Outcome → Verdict
-of-run A P s (refused n p) = refuses n p
-of-run A P s (accepted t x) = folds (t .nodes) (bytes (cheapest A P (tree-of s))) (best-cost A P (tree-of s))
+pub use Rattle.optimum.specs.Verdict.{Verdict, refuses, folds, of-run}
+use Rattle.folder.specs.Table.{cells}
 
 -- 11 for the table, then 12 for the limit, then the run's own refusals.
 unfoldable pub folding : List ℕ → (limit : ℕ) → (table : List ℕ) → (first each : ℕ) → Verdict

@@ -8,6 +8,7 @@ use Prim.Native.Nat.{ℕ, zero, suc, _+_, _-_, _*_, _/_, _<_, _≤_}
 use lib.ListN.{length, getD}
 use Rattle.format.specs.Limits.{Prices, of-repeat}
 use Rattle.format.specs.Forest.{Forest, end, step, group, repeat, Allowed, siblings, nodes, bytes}
+pub use Rattle.format.specs.Forest.{at-most}
 use Rattle.format.specs.Machine.{is-node}
 use Rattle.format.specs.Tree.{tree-of}
 use Rattle.optimum.specs.Cheapest.{Run, front, back, node, usual, Least, best-cost}
@@ -94,10 +95,7 @@ node-count [] k = 0
 node-count (c ∷ s) zero = cond (is-node c) (suc (node-count s 1)) (node-count s 0)
 node-count (c ∷ s) (suc k) = node-count s k
 
--- The limit as a condition on folds, and the prices that a table of labels and a list of repeat prices give.
-abbrev pub at-most : ℕ → Allowed
-at-most k = record { widest = k }
-
+-- The prices that a table of labels and a list of repeat prices give.
 abbrev pub prices-of : (table prices : List ℕ) → Prices
 prices-of table prices =
     record {

@@ -22,7 +22,7 @@ ghost use mathlib.Core.Path.{_≡_};
 ghost use Prim.Native.Nat.{_+_, _-_, _*_, _<_, _≤_};
 ghost use lib.ListN.{length, getD, take};
 ghost use Rattle.format.specs.Limits.{priced};
-ghost use Rattle.optimum.specs.Demands.{CheapestWithin};
+ghost use Rattle.optimum.specs.Demands.{CheapestWithin, CheapestOver, MinimumTree};
 ghost use Rattle.folder.specs.Table.{cells, cell, prices-of};
 ghost use Rattle.format.specs.Forest.{nodes};
 ghost use Rattle.format.specs.Tree.{tree-of};
@@ -121,7 +121,8 @@ fn fold_run(
     }
 }
 
-// The cheapest fold of a run under a width limit, ties by byte order: refusals 11, 12, the run's own, 13 and 14.
+// The cheapest fold of a run under a width limit, ties by byte order: refusals 11, 12, the run's own, 13 and 14. What it writes
+// is the cheapest of all bytes and a smallest tree by the report, and 14 says that the cheapest of all bytes has no room.
 pub fn fold(
     run: &[u8],
     limit: usize,
@@ -137,6 +138,8 @@ pub fn fold(
     ensures costs_cleared { λ _. ⌜ now (costs .exit) ≡ fold-work (folding (now (run .entry)) limit (now (table .entry)) first each) (length (now (costs .entry))) (length (now (choices .entry))) (now (costs .entry)) ⌝ }
     ensures choices_cleared { λ _. ⌜ now (choices .exit) ≡ fold-work (folding (now (run .entry)) limit (now (table .entry)) first each) (length (now (costs .entry))) (length (now (choices .entry))) (now (choices .entry)) ⌝ }
     ensures cheapest { λ r. ⌜ (r .refusal ≡ 0 → CheapestWithin (now (run .entry)) limit (priced (now (table .entry)) first each) (take (r .length) (now (out .exit))) (r .cost)) ⌝ }
+    ensures minimum { λ r. ⌜ (r .refusal ≡ 0 → MinimumTree (now (run .entry)) limit (now (table .entry)) first each (take (r .length) (now (out .exit)))) ⌝ }
+    ensures too_long { λ r. ⌜ (r .refusal ≡ 14 → CheapestOver (length (now (out .entry))) (now (run .entry)) limit (priced (now (table .entry)) first each)) ⌝ }
 {
     if table.len() != 256 {
         return refuse(11, 0);

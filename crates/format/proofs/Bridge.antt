@@ -15,7 +15,7 @@ use Rattle.format.specs.Forest.{Forest, end, step, group, repeat, join, 
 use Rattle.format.specs.Machine.{Rules, State, Open, a-group, a-repeat, open-groups, open-repeats, times, put-step, enter-group, leave-group, enter-repeat, leave-repeat, repeated, scan, read, start, refused, accepted, refusal}
 use Rattle.format.specs.Shape.{Shaped, tally-of, Reads}
 use Rattle.format.specs.declared.Tally.{Tally}
-use Rattle.format.proofs.Forests.{bytes-join, bytes-copies, siblings-join, nodes-join, cost-join, unroll-join, join-end, sound-join, plain-join}
+use Rattle.format.proofs.Forests.{bytes-join, bytes-copies, siblings-join, nodes-join, cost-join, unroll-join, join-end, sound-join, plain-join, coded-join, group-depth-join, repeat-depth-join}
 use Rattle.format.proofs.Machine.{scan-end, scan-passed, refusal-unknown, scan-step, scan-group, scan-group-end, scan-repeat, scan-repeat-end, step-passes, group-passes, group-end-passes, repeat-passes, repeat-end-passes, step-passed, group-passed, group-end-passed, repeat-passed, repeat-end-passed, Command, step-byte, group-byte, group-end-byte, repeat-byte, repeat-end-byte, other-byte, command, StepPasses, GroupPasses, GroupEndPasses, RepeatPasses, RepeatEndPasses}
 
 -- The state after a sequence is read.
@@ -280,27 +280,6 @@ record Begins (R : Rules) (st : State) (s : List ℕ) : Type 0 where
   form : bytes tree ++ rest ≡ s
   fits : Fits R st tree
   stops : Stops rest
-
-coded-join : (f g : Forest) → Coded f → Coded g → Coded (join f g)
-unfolding join
-coded-join end g p q = q
-coded-join (step l f) g p q = (p .0, coded-join f g (p .1) q)
-coded-join (group l b f) g p q = (p .0, p .1, coded-join f g (p .2) q)
-coded-join (repeat h w b f) g p q = (p .0, p .1, p .2, coded-join f g (p .3) q)
-
-group-depth-join : (f g : Forest) → group-depth (join f g) ≡ max (group-depth f) (group-depth g)
-unfolding join group-depth
-group-depth-join end g = omega arith
-group-depth-join (step l f) g = group-depth-join f g
-group-depth-join (group l b f) g = omega (arith, group-depth-join f g)
-group-depth-join (repeat h w b f) g = omega (arith, group-depth-join f g)
-
-repeat-depth-join : (f g : Forest) → repeat-depth (join f g) ≡ max (repeat-depth f) (repeat-depth g)
-unfolding join repeat-depth
-repeat-depth-join end g = omega arith
-repeat-depth-join (step l f) g = repeat-depth-join f g
-repeat-depth-join (group l b f) g = omega (arith, repeat-depth-join f g)
-repeat-depth-join (repeat h w b f) g = omega (arith, repeat-depth-join f g)
 
 fits-join : (R : Rules) (st : State) (f g : Forest) → Fits R st f → Fits R (after R f st) g → Fits R st (join f g)
 unfolding after

@@ -1,11 +1,13 @@
 -- Laws of sequences: what joining, copying and unrolling do to byte form, counts and cost.
 use mathlib.Core.Path.{_≡_, refl, sym, ap, ap₂, _∙_}
-use mathlib.Core.List.{List, _∷_, _++_, append-assoc}
-use Prim.Native.Nat.{ℕ, zero, suc, _+_, _*_}
+use mathlib.Core.List.{List, [], _∷_, _++_, append-assoc}
+use Prim.Native.Nat.{ℕ, zero, suc, _+_, _*_, _/_, _%_, _<_, _≤_, max}
 use native.Mathlib.Nat.{zero-add, suc-add}
 use native.Mathlib.Omega.{arith}
+use lib.ListN.{getD}
 use Rattle.format.specs.Limits.{Prices}
-use Rattle.format.specs.Forest.{Forest, end, step, group, repeat, join, copies, unroll, siblings, nodes, cost, bytes, Plain, Allowed, Sound}
+use Rattle.format.specs.Order.{Bytes}
+use Rattle.format.specs.Forest.{Forest, end, step, group, repeat, join, copies, unroll, siblings, nodes, cost, bytes, Plain, Allowed, Sound, Coded, group-depth, repeat-depth, widest-of}
 use Rattle.format.specs.Machine.{times}
 
 pub join-end : (f : Forest) → join f end ≡ f
@@ -156,3 +158,101 @@ sound-parts A (repeat h w b f) g p = let k = sound-parts A f g (p .2) in ((p .0,
 
 pub same-siblings : (f g : Forest) → unroll f ≡ unroll g → siblings f ≡ siblings g
 same-siblings f g e = cc (siblings-unroll f, siblings-unroll g)
+
+-- What the byte form can hold, and how deep groups and repeats go.
+pub coded-join : (f g : Forest) → Coded f → Coded g → Coded (join f g)
+unfolding join
+coded-join end g p q = q
+coded-join (step l f) g p q = (p .0, coded-join f g (p .1) q)
+coded-join (group l b f) g p q = (p .0, p .1, coded-join f g (p .2) q)
+coded-join (repeat h w b f) g p q = (p .0, p .1, p .2, coded-join f g (p .3) q)
+
+pub group-depth-join : (f g : Forest) → group-depth (join f g) ≡ max (group-depth f) (group-depth g)
+unfolding join group-depth
+group-depth-join end g = omega arith
+group-depth-join (step l f) g = group-depth-join f g
+group-depth-join (group l b f) g = omega (arith, group-depth-join f g)
+group-depth-join (repeat h w b f) g = omega (arith, group-depth-join f g)
+
+pub repeat-depth-join : (f g : Forest) → repeat-depth (join f g) ≡ max (repeat-depth f) (repeat-depth g)
+unfolding join repeat-depth
+repeat-depth-join end g = omega arith
+repeat-depth-join (step l f) g = repeat-depth-join f g
+repeat-depth-join (group l b f) g = omega (arith, repeat-depth-join f g)
+repeat-depth-join (repeat h w b f) g = omega (arith, repeat-depth-join f g)
+
+-- Unrolling adds no label, and opens no group deeper.
+coded-copies : (h : ℕ) (f : Forest) → Coded f → Coded (copies h f)
+unfolding copies
+coded-copies zero f p = tt
+coded-copies (suc h) f p = coded-join f (copies h f) p (coded-copies h f p)
+
+pub coded-unroll : (f : Forest) → Coded f → Coded (unroll f)
+unfolding unroll
+coded-unroll end p = tt
+coded-unroll (step l f) p = (p .0, coded-unroll f (p .1))
+coded-unroll (group l b f) p = (p .0, coded-unroll b (p .1), coded-unroll f (p .2))
+coded-unroll (repeat h w b f) p =
+    coded-join (copies h (unroll b)) (unroll f) (coded-copies h (unroll b) (coded-unroll b (p .2))) (coded-unroll f (p .3))
+
+group-depth-copies : (h : ℕ) (f : Forest) → group-depth (copies h f) ≤ group-depth f
+unfolding copies group-depth
+group-depth-copies zero f = omega arith
+group-depth-copies (suc h) f = omega (arith, group-depth-join f (copies h f), group-depth-copies h f)
+
+pub group-depth-unroll : (f : Forest) → group-depth (unroll f) ≤ group-depth f
+unfolding unroll group-depth
+group-depth-unroll end = omega arith
+group-depth-unroll (step l f) = group-depth-unroll f
+group-depth-unroll (group l b f) = omega (arith, group-depth-unroll b, group-depth-unroll f)
+group-depth-unroll (repeat h w b f) =
+    omega
+    (arith, group-depth-join (copies h (unroll b)) (unroll f), group-depth-copies h (unroll b), group-depth-unroll b, group-depth-unroll f)
+
+-- A run has no repeat that could be too deep or too wide.
+pub repeat-depth-plain : (f : Forest) → Plain f → repeat-depth f ≡ 0
+unfolding repeat-depth
+repeat-depth-plain end p = refl
+repeat-depth-plain (step l f) p = repeat-depth-plain f p
+repeat-depth-plain (group l b f) p = omega (arith, repeat-depth-plain b (p .0), repeat-depth-plain f (p .1))
+repeat-depth-plain (repeat h w b f) p = absurd p
+
+pub widest-plain : (f : Forest) → Plain f → widest-of f ≡ 0
+unfolding widest-of
+widest-plain end p = refl
+widest-plain (step l f) p = widest-plain f p
+widest-plain (group l b f) p = omega (arith, widest-plain b (p .0), widest-plain f (p .1))
+widest-plain (repeat h w b f) p = absurd p
+
+-- The byte form of what is coded is bytes.
+data Each : List ℕ → Type 0 where
+  none : Each []
+  one : {a : ℕ} {s : List ℕ} → a < 256 → Each s → Each (a ∷ s)
+
+each-append : {s t : List ℕ} → Each s → Each t → Each (s ++ t)
+each-append none q = q
+each-append (one l p) q = one l (each-append p q)
+
+each-bytes : {s : List ℕ} → Each s → (i : ℕ) → getD s i 0 < 256
+each-bytes none i = omega arith
+each-bytes (one l p) zero = l
+each-bytes (one l p) (suc i) = each-bytes p i
+
+each-coded : (f : Forest) → Coded f → Each (bytes f)
+unfolding bytes
+each-coded end p = none
+each-coded (step l f) p = one {a = 0x10} (omega arith) (one (p .0) (each-coded f (p .1)))
+each-coded (group l b f) p =
+    one {a = 0x11} (omega arith)
+    (one (p .0) (each-append (each-coded b (p .1)) (one {a = 0x12} (omega arith) (each-coded f (p .2)))))
+each-coded (repeat h w b f) p =
+    let x : h / 256 < 256 = omega arith in
+    let y : w / 256 < 256 = omega arith in
+    let m : h % 256 < 256 = omega arith in
+    let n : w % 256 < 256 = omega arith in
+    one {a = 0x20} (omega arith)
+    (one x (one m (one y (one n
+    (each-append (each-coded b (p .2)) (one {a = 0x21} (omega arith) (each-coded f (p .3))))))))
+
+pub coded-bytes : (f : Forest) → Coded f → Bytes (bytes f)
+coded-bytes f p = each-bytes (each-coded f p)

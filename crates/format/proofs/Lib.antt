@@ -9,8 +9,9 @@ pub mod More
 pub mod CloseAfterOpen
 pub mod Order
 pub mod Folds
+pub mod Tree
+pub mod Runs
 pub mod Expansion
 pub mod Report
 pub mod Parts
-pub mod Tree
 pub mod Examples

@@ -55,7 +55,7 @@ pub two-bytes-before : (m n : ℕ) (s t : List ℕ) → m < n → Before (two-by
 two-bytes-before m n s t h = go (decLt (m / 256) (n / 256))
   where
     go : Dec (m / 256 < n / 256) → Before (two-bytes m s) (two-bytes n t)
-    go (yes k) = here k
+    go (yes k) = here {a = m / 256} {b = n / 256} k
     go (no k) =
         let e : m / 256 ≡ n / 256 = omega arith in
         let l : m % 256 < n % 256 = omega arith in

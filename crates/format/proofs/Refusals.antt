@@ -64,6 +64,20 @@ pub refusal-exactly : (R : Rules) (st : State) (c : ℕ) (rest : List ℕ) (n : 
 unfolding refusal
 refusal-exactly R st c rest n some = first-exactly (rows R st c rest) n some
 
+-- The numbers of the table are 1 to 10.
+abbrev UpToTen : List Row → Type 0
+UpToTen [] = Unit
+UpToTen (n when b ∷ rs) = (n ≤ 10) × UpToTen rs
+
+first-small : (rs : List Row) → UpToTen rs → first-of rs ≤ 10
+first-small [] z = omega arith
+first-small (n when true ∷ rs) z = z .0
+first-small (n when false ∷ rs) z = first-small rs (z .1)
+
+refusal-small : (R : Rules) (st : State) (c : ℕ) (rest : List ℕ) → refusal R st c rest ≤ 10
+unfolding refusal rows
+refusal-small R st c rest = first-small (rows R st c rest) (omega arith)
+
 open-end : (p : ℕ) (os : List Open) (st : State) → 0 < length os → at-end p os st ≡ refused 3 p
 open-end p [] st some = absurd (omega arith)
 open-end p (o ∷ os) st some = refl
@@ -159,4 +173,12 @@ refused-some R s n e r = of-cause (refused-exactly R s n e .0 r)
   where
     of-cause : Because R s n e → n ≢ 0
     of-cause (at-command p st reached below is some place) = some
+    of-cause (left-open st reached some three place) = omega arith
+
+-- It is one of the table's.
+pub refused-small : (R : Rules) (s : List ℕ) (n e : ℕ) → read R s ≡ refused n e → n ≤ 10
+refused-small R s n e r = of-cause (refused-exactly R s n e .0 r)
+  where
+    of-cause : Because R s n e → n ≤ 10
+    of-cause (at-command p st reached below is some place) = omega (arith, refusal-small R st (getD s p 0) (drop (suc p) s))
     of-cause (left-open st reached some three place) = omega arith

@@ -2,32 +2,38 @@
 -- for the bytes that the fold reader accepts. The report's definitions decide: its index i − (j − 1)h near Proposition 4,
 -- where i − j(h − 1) is meant, plays no part.
 use mathlib.Core.Path.{_≡_, refl, sym, ap, ap₂, _∙_}
-use mathlib.Core.Logic.{_↔_}
+use mathlib.Core.Bool.{Bool, true, false, not, cond}
+use mathlib.Core.Logic.{_↔_, _≢_}
 use mathlib.Core.List.{List}
 use Prim.Native.Nat.{ℕ, zero, suc, _≤_, _<_}
 use native.Mathlib.Nat.{mul-le-mul-right}
 use native.Mathlib.Omega.{arith}
-use Rattle.format.specs.Limits.{Prices, of-repeat, priced}
-use Rattle.format.specs.Forest.{Forest, end, step, group, repeat, join, copies, unroll, siblings, cost, Plain, Allowed, Sound}
-use Rattle.format.specs.Machine.{accepted, read}
+use lib.Dec.{ltb, eqb}
+use lib.ListN.{length}
+use Rattle.format.specs.Limits.{limits, Prices, of-repeat, priced}
+use Rattle.format.specs.Forest.{Forest, end, step, group, repeat, join, copies, unroll, siblings, cost, bytes, Plain, Allowed, at-most, Sound}
+use Rattle.format.specs.Machine.{Outcome, refused, accepted, read}
 use Rattle.format.specs.Order.{Bytes}
 use Rattle.format.specs.Tree.{tree-of}
-use Rattle.format.specs.Readings.{fold-rules}
+use Rattle.format.specs.Readings.{fold-rules, fold-answer, limited, fold-outcome, fold-reading}
 use Rattle.format.specs.Shape.{Reads, tally-of}
 use Rattle.format.specs.Report.{RRT, empty, letter, repetition, count, Valid, append, row, Represents, Width, WidthAtMost, size}
-use Rattle.format.specs.Meaning.{report, TrueWidths, Means}
+use Rattle.format.specs.Meaning.{report, report-of, TrueWidths, Means, report-size, MeansAtCost}
 use Rattle.format.specs.declared.Tally.{Tally}
+use Rattle.format.specs.declared.FoldReading.{FoldReading}
 use Rattle.format.proofs.Forests.{siblings-unroll, plain-unroll, sound-unroll}
 use Rattle.format.proofs.Bridge.{parses}
+use Rattle.format.proofs.Refusals.{refused-some}
 use Rattle.format.proofs.Tree.{tree-of-bytes}
+use Rattle.format.proofs.Runs.{unrolled-run, run-tree}
 use Rattle.format.proofs.Expansion.{expand, represents, width}
 
 report-join : (f g : Forest) → report (join f g) ≡ append (report f) (report g)
 unfolding report join append
 report-join end g = refl
-report-join (step l f) g = ap (letter l empty) (report-join f g)
-report-join (group l b f) g = ap (letter l (report b)) (report-join f g)
-report-join (repeat h w b f) g = ap (repetition h (report b)) (report-join f g)
+report-join (step l f) g = rw (report-join f g)
+report-join (group l b f) g = rw (report-join f g)
+report-join (repeat h w b f) g = rw (report-join f g)
 
 report-copies : (h : ℕ) (f : Forest) → report (copies h f) ≡ row h (report f)
 unfolding report copies row
@@ -158,7 +164,6 @@ module _ (A : Allowed) where
         sound-fold-of r (v .3) (k .2),
       )
 
-  -- Unrolling keeps a fold sound.
   -- The tree of a fold represents the tree of a run exactly when the fold unrolls to the run.
   pub represents-run : (f t : Forest) → Sound A f → Sound A t → Represents (report f) (report t) ↔ unroll f ≡ t
   represents-run f t p q = (
@@ -166,39 +171,97 @@ module _ (A : Allowed) where
     λ e. rw (← e) (represents-unroll f),
   )
 
-  -- So a fold no dearer than any sound fold of the run is no larger than any tree, of the report's within the limit, that
-  -- represents the run (Problem 2, Corollary 1).
-  pub minimum :
-      (P : Prices) → ((l : ℕ) → P .of-group l ≡ P .of-step l) → (f t : Forest) → Sound A t →
-      ((g : Forest) → Sound A g → unroll g ≡ t → cost P f ≤ cost P g) →
-      (r : RRT ℕ) → Valid r → WidthAtMost (A .widest) r → Represents r (report t) →
-      size (P .of-step) (of-repeat P) (report f) ≤ size (P .of-step) (of-repeat P) r
-  minimum P same f t q best r v k p =
-      let s : Sound A (fold-of r) = sound-fold-of r v k in
-      let e : unroll (fold-of r) ≡ t = represents-run (fold-of r) t s q .0 (rw report-fold-of p) in
-      rw (← cost-report P same f, ← report-fold-of r, ← cost-report P same (fold-of r)) (best (fold-of r) s e)
-
-pub fold-means :
-    {k : ℕ} {table : List ℕ} {first each : ℕ} {s x : List ℕ} {t : Tally} →
-    (r : Reads (fold-rules k (priced table first each)) s t x) → Means k table first each s t x (r .tree)
-unfolding tally-of
-fold-means {k} {table} {first} {each} r =
-    let A : Allowed = record { widest = k } in
+-- Bytes that are the byte form of a tree of the right shape mean the run that it unrolls to.
+pub reads-mean : (k : ℕ) (P : Prices) (s : List ℕ) (t : Tally) (x : List ℕ) → Reads (fold-rules k P) s t x → Means k s x
+reads-mean k P s t x r =
+    let A = at-most k in
+    let f = r .tree in
+    let z = r .shape in
+    let same : f ≡ tree-of s = sym (tree-of-bytes f) ∙ ap tree-of (r .form) in
+    let y : tree-of x ≡ unroll f = ap tree-of (sym (r .text)) ∙ tree-of-bytes (unroll f) in
     record {
-      form = r .form;
-      text = r .text;
-      valid = valid-report A (r .tree) (r .shape .sound);
-      represented = represents-unroll (r .tree);
-      sized = sym (ap (λ (u : Tally). u .cost) (r .counts)) ∙ cost-report (priced table first each) (λ l. refl) (r .tree);
-      widths = true-widths A (r .tree) (r .shape .sound);
-      within = within-report A (r .tree) (r .shape .sound);
+      form = rw (← same) (r .form);
+      valid = rw (← same) (valid-report A f (z .sound));
+      within = rw (← same) (within-report A f (z .sound));
+      widths = rw (← same) (true-widths A f (z .sound));
+      run = rw (← r .text) (unrolled-run k P f z);
+      represented = rw (← same, y) (represents-unroll f);
     }
 
--- DEMAND 2, first sentence: bytes that the fold reader accepts mean what the report says, for the tree that they spell.
-pub accepted-means :
-    (k : ℕ) (table : List ℕ) (first each : ℕ) (s : List ℕ) → Bytes s → (t : Tally) (x : List ℕ) →
-    read (fold-rules k (priced table first each)) s ≡ accepted t x → Means k table first each s t x (tree-of s)
-accepted-means k table first each s small t x e =
-    let r = parses (fold-rules k (priced table first each)) s small t x e in
-    let same : tree-of s ≡ r .tree = ap tree-of (sym (r .form)) ∙ tree-of-bytes (r .tree) in
-    rw same (fold-means r)
+-- What a fold means is one run.
+pub means-one : (k : ℕ) (s x y : List ℕ) → Bytes x → Bytes y → Means k s x → Means k s y → x ≡ y
+means-one k s x y small small' a b =
+    let p = run-tree x small (a .run) in
+    let q = run-tree y small' (b .run) in
+    let e : report-of x ≡ report-of y =
+    represents (report-of s) (report-of x) .0 (a .represented) ∙ sym (represents (report-of s) (report-of y) .0 (b .represented)) in
+    sym (p .0) ∙ ap bytes (report-injective (at-most 0) (tree-of x) (tree-of y) (p .1) (q .1) e) ∙ q .0
+
+-- DEMAND 2, first sentence: bytes that the fold reader accepts mean what the report says.
+module _ (k : ℕ) (P : Prices) (s : List ℕ) (small : Bytes s) (t : Tally) (x : List ℕ) (e : read (fold-rules k P) s ≡ accepted t x) where
+  spelled : Reads (fold-rules k P) s t x
+  spelled = parses (fold-rules k P) s small t x e
+
+  pub accepted-means : Means k s x
+  accepted-means = reads-mean k P s t x spelled
+
+  pub accepted-cost : t .cost ≡ cost P (tree-of s)
+  unfolding tally-of
+  accepted-cost = sym (ap (λ (u : Tally). u .cost) (spelled .counts)) ∙ ap (cost P) (sym (tree-of-bytes (spelled .tree)) ∙ ap tree-of (spelled .form))
+
+  pub accepted-length : length x ≡ t .size
+  unfolding tally-of
+  accepted-length = rw (← spelled .text) (ap (λ (u : Tally). u .size) (spelled .counts))
+
+-- At lent prices the cost is the report's size by these as weights.
+pub cost-size : (table : List ℕ) (first each : ℕ) (f : Forest) → cost (priced table first each) f ≡ report-size table first each (report f)
+unfolding report-size
+cost-size table first each f = cost-report (priced table first each) (λ l. refl) f
+
+-- What is accepted behind a test passed it, and what is refused there has a number.
+behind-test : (b : Bool) (n : ℕ) (o : Outcome) (t : Tally) (x : List ℕ) → cond b (refused n 0) o ≡ accepted t x → o ≡ accepted t x
+behind-test true n o t x e = let z : _≡_ {A = ℕ} 0 1 = cc in absurd (omega arith)
+behind-test false n o t x e = e
+
+numbered : (b : Bool) (n : ℕ) (o : Outcome) → n ≢ 0 → ((m p : ℕ) → o ≡ refused m p → m ≢ 0) → (m p : ℕ) → cond b (refused n 0) o ≡ refused m p → m ≢ 0
+numbered true n o some rest m p e = λ z. some (cc)
+numbered false n o some rest m p e = rest m p e
+
+module _ (s : List ℕ) (k : ℕ) where
+  pub limited-read : (P : Prices) (t : Tally) (x : List ℕ) → limited s k P ≡ accepted t x → read (fold-rules k P) s ≡ accepted t x
+  unfolding limited
+  limited-read P t x e = behind-test (ltb (limits .width) k) 12 _ t x e
+
+  pub limited-some : (P : Prices) (n p : ℕ) → limited s k P ≡ refused n p → n ≢ 0
+  unfolding limited
+  limited-some P n p e = numbered (ltb (limits .width) k) 12 _ (omega arith) (refused-some (fold-rules k P) s) n p e
+
+  module _ (table : List ℕ) (first each : ℕ) where
+    outcome-read : (t : Tally) (x : List ℕ) → fold-outcome s k table first each ≡ accepted t x → read (fold-rules k (priced table first each)) s ≡ accepted t x
+    unfolding fold-outcome
+    outcome-read t x e = limited-read (priced table first each) t x (behind-test (not (eqb (length table) 256)) 11 _ t x e)
+
+    outcome-some : (n p : ℕ) → fold-outcome s k table first each ≡ refused n p → n ≢ 0
+    unfolding fold-outcome
+    outcome-some n p e = numbered (not (eqb (length table) 256)) 11 _ (omega arith) (limited-some (priced table first each)) n p e
+
+    -- What the fold reader's success says.
+    module _ (small : Bytes s) (r : FoldReading) (answered : r ≡ fold-reading s k table first each) (success : r .refusal ≡ 0) where
+      pub reading-means : MeansAtCost k table first each s (r .length) (r .cost)
+      unfolding fold-reading
+      reading-means = by-outcome (fold-outcome s k table first each) refl
+        where
+          by-outcome : (o : Outcome) → fold-outcome s k table first each ≡ o → MeansAtCost k table first each s (r .length) (r .cost)
+          by-outcome (refused n p) e =
+              let q = answered ∙ ap fold-answer e in
+              absurd (outcome-some n p e (sym (ap (λ (y : FoldReading). y .refusal) q) ∙ success))
+          by-outcome (accepted t x) e =
+              let P : Prices = priced table first each in
+              let q = answered ∙ ap fold-answer e in
+              let a = outcome-read t x e in
+              record {
+                text = x;
+                means = accepted-means k P s small t x a;
+                long = accepted-length k P s small t x a ∙ sym (ap (λ (y : FoldReading). y .length) q);
+                weighed = ap (λ (y : FoldReading). y .cost) q ∙ accepted-cost k P s small t x a ∙ cost-size table first each (tree-of s);
+              }

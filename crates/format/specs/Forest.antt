@@ -77,6 +77,9 @@ Plain (repeat h w b f) = ⊥
 pub record Allowed : Type 0 where
   pub widest : ℕ
 
+abbrev pub at-most : ℕ → Allowed
+at-most k = record { widest = k }
+
 -- A repeat of count h and width w over the body b is sound: at least two copies, the width operand is the number of
 -- siblings of one pass, within the limit, and the body is not empty.
 pub record Repeats (A : Allowed) (h w : ℕ) (b : Forest) : Type 0 where

@@ -2,10 +2,11 @@
 use mathlib.Core.Path.{_≡_}
 use mathlib.Core.List.{List}
 use Prim.Native.Nat.{ℕ, _+_, _-_, _*_}
-use lib.ListN.{getD}
-use Rattle.format.specs.Forest.{Forest, end, step, group, repeat, unroll, bytes}
+use lib.ListN.{length, getD}
+use Rattle.format.specs.Forest.{Forest, end, step, group, repeat, bytes}
+use Rattle.format.specs.Readings.{run-reading}
+use Rattle.format.specs.Tree.{tree-of}
 use Rattle.format.specs.Report.{RRT, empty, letter, repetition, Valid, Represents, Width, WidthAtMost, size}
-use Rattle.format.specs.declared.Tally.{Tally}
 
 -- The report's tree of a sequence, less its root. A step and a group of one label bear one letter: the step is a leaf.
 unfoldable pub report : Forest → RRT ℕ
@@ -14,6 +15,10 @@ report (step l f) = letter l empty (report f)
 report (group l b f) = letter l (report b) (report f)
 report (repeat h w b f) = repetition h (report b) (report f)
 
+-- The report's tree of bytes.
+abbrev pub report-of : List ℕ → RRT ℕ
+report-of s = report (tree-of s)
+
 -- Every width operand is the report's width of its repetition.
 abbrev pub TrueWidths : Forest → Type 0
 TrueWidths end = Unit
@@ -21,14 +26,24 @@ TrueWidths (step l f) = TrueWidths f
 TrueWidths (group l b f) = TrueWidths b × TrueWidths f
 TrueWidths (repeat h w b f) = Width (report b) w × TrueWidths b × TrueWidths f
 
--- What the fold reader's acceptance says of the bytes s, the counts t and the run's bytes x in the report's words: s is the
--- byte form of f, and f's tree is one of the report's, of width k, represents the tree of the run, and has the cost for its
--- size, the lent table weighing the letters.
-pub record Means (k : ℕ) (table : List ℕ) (first each : ℕ) (s : List ℕ) (t : Tally) (x : List ℕ) (f : Forest) : Type 0 where
-  pub form : bytes f ≡ s
-  pub text : bytes (unroll f) ≡ x
-  pub valid : Valid (report f)
-  pub represented : Represents (report f) (report (unroll f))
-  pub sized : t .cost ≡ size (λ l. getD table l 0) (λ h. first + each * (h - 2)) (report f)
-  pub widths : TrueWidths f
-  pub within : WidthAtMost k (report f)
+-- The bytes s, read at width limit k, mean the run x: s is the byte form of its tree; that tree is one of the report's, of
+-- width k and with true width operands; x is a run, and the tree of s represents the tree of x.
+pub record Means (k : ℕ) (s x : List ℕ) : Type 0 where
+  pub form : bytes (tree-of s) ≡ s
+  pub valid : Valid (report-of s)
+  pub within : WidthAtMost k (report-of s)
+  pub widths : TrueWidths (tree-of s)
+  pub run : run-reading x .refusal ≡ 0
+  pub represented : Represents (report-of s) (report-of x)
+
+-- The report's size by the lent prices as weights: a letter by its entry of the table, a number h by first + each × (h − 2).
+unfoldable pub report-size : (table : List ℕ) → (first each : ℕ) → RRT ℕ → ℕ
+unfolding size
+report-size table first each r = size (λ l. getD table l 0) (λ h. first + each * (h - 2)) r
+
+-- The bytes s, read at width limit k and these prices, mean a run of n bytes, and the cost is the report's length.
+pub record MeansAtCost (k : ℕ) (table : List ℕ) (first each : ℕ) (s : List ℕ) (n cost : ℕ) : Type 0 where
+  pub text : List ℕ
+  pub means : Means k s text
+  pub long : length text ≡ n
+  pub weighed : cost ≡ report-size table first each (report-of s)

@@ -39,17 +39,25 @@ unfoldable pub run-reading : List ℕ → RunReading
 unfolding read
 run-reading s = run-answer (read run-rules s)
 
--- The fold reader: 11 for the table, then 12 for the limit, then the commands.
+-- What is answered about a fold.
 abbrev pub fold-answer : Outcome → FoldReading
 fold-answer (refused n p) = record { refusal = n; place = p; nodes = 0; length = 0; cost = 0 }
 fold-answer (accepted t x) = record { refusal = 0; place = 0; nodes = t .nodes; length = t .size; cost = t .cost }
 
-unfoldable pub fold-outcome : List ℕ → (limit : ℕ) → (table : List ℕ) → (first each : ℕ) → Outcome
+-- A fold at a width limit and prices: 12 for the limit, then the commands.
+unfoldable pub limited : List ℕ → (limit : ℕ) → Prices → Outcome
 unfolding read
+limited s k P = cond (ltb (limits .width) k) (refused 12 0) (read (fold-rules k P) s)
+
+-- A fold at a width limit, without costs.
+abbrev pub measured : List ℕ → (limit : ℕ) → Outcome
+measured s k = limited s k free
+
+-- The fold reader: 11 for the table, then the limit and the commands.
+unfoldable pub fold-outcome : List ℕ → (limit : ℕ) → (table : List ℕ) → (first each : ℕ) → Outcome
+unfolding limited
 fold-outcome s k table first each =
-    cond (not (eqb (length table) 256)) (refused 11 0)
-    (cond (ltb (limits .width) k) (refused 12 0)
-    (read (fold-rules k (priced table first each)) s))
+    cond (not (eqb (length table) 256)) (refused 11 0) (limited s k (priced table first each))
 
 unfoldable pub fold-reading : List ℕ → (limit : ℕ) → (table : List ℕ) → (first each : ℕ) → FoldReading
 unfolding fold-outcome

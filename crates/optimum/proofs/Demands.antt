@@ -7,13 +7,13 @@ use mathlib.Core.Bool.{false≢true}
 use native.Mathlib.Omega.{arith}
 use Rattle.format.specs.Limits.{limits, Prices}
 use Rattle.format.specs.Order.{Bytes, Before}
-use Rattle.format.specs.Forest.{Forest, end, step, group, repeat, join, copies, unroll, nodes, cost, bytes, Allowed, Sound, Coded, group-depth, widest-of}
+use Rattle.format.specs.Forest.{Forest, end, step, group, repeat, join, copies, unroll, nodes, cost, bytes, Allowed, at-most, Sound, Coded, group-depth, widest-of}
 use Rattle.format.specs.Machine.{accepted, read}
 use Rattle.format.specs.Readings.{run-rules, fold-rules}
 use Rattle.format.specs.Shape.{Shaped, Reads, tally-of}
 use Rattle.format.specs.Tree.{tree-of}
 use Rattle.format.specs.declared.Tally.{Tally}
-use Rattle.format.proofs.Forests.{nodes-unroll}
+use Rattle.format.proofs.Forests.{nodes-unroll, group-depth-join, coded-bytes}
 use Rattle.format.proofs.Bridge.{accepts, parses, bytes-injective, sound-widest, sound-within}
 use Rattle.format.proofs.Depth.{depth-fits, siblings-nodes}
 use Rattle.format.proofs.Tree.{tree-of-bytes}
@@ -22,20 +22,13 @@ use Rattle.optimum.specs.Cheapest.{cheapest, best-cost}
 use Rattle.optimum.specs.Demands.{FoldWithin, CheapestWithin}
 use Rattle.optimum.proofs.Cheapest.{cheapest-optimal}
 
--- What a joined or copied sequence has, its parts have.
-coded-join : (f g : Forest) → Coded (join f g) → Coded f × Coded g
+-- What a joined sequence has, its parts have.
+coded-parts : (f g : Forest) → Coded (join f g) → Coded f × Coded g
 unfolding join
-coded-join end g c = (tt, c)
-coded-join (step l f) g c = let k = coded-join f g (c .1) in ((c .0, k .0), k .1)
-coded-join (group l b f) g c = let k = coded-join f g (c .2) in ((c .0, c .1, k .0), k .1)
-coded-join (repeat h w b f) g c = let k = coded-join f g (c .3) in ((c .0, c .1, c .2, k .0), k .1)
-
-depth-join : (f g : Forest) → group-depth (join f g) ≡ max (group-depth f) (group-depth g)
-unfolding join group-depth
-depth-join end g = omega arith
-depth-join (step l f) g = depth-join f g
-depth-join (group l b f) g = omega (arith, depth-join f g)
-depth-join (repeat h w b f) g = omega (arith, depth-join f g)
+coded-parts end g c = (tt, c)
+coded-parts (step l f) g c = let k = coded-parts f g (c .1) in ((c .0, k .0), k .1)
+coded-parts (group l b f) g c = let k = coded-parts f g (c .2) in ((c .0, c .1, k .0), k .1)
+coded-parts (repeat h w b f) g c = let k = coded-parts f g (c .3) in ((c .0, c .1, c .2, k .0), k .1)
 
 -- The fold of a coded run of few nodes is coded: its labels are the run's, its counts and widths at most the nodes.
 coded-fold : (A : Allowed) (f : Forest) → Sound A f → nodes f < 65536 → Coded (unroll f) → Coded f
@@ -44,8 +37,8 @@ coded-fold A end s n c = tt
 coded-fold A (step l f) s n c = (c .0, coded-fold A f s (omega arith) (c .1))
 coded-fold A (group l b f) s n c = (c .0, coded-fold A b (s .1) (omega arith) (c .1), coded-fold A f (s .2) (omega arith) (c .2))
 coded-fold A (repeat (suc h) w b f) s n c =
-    let k = coded-join (copies (suc h) (unroll b)) (unroll f) c in
-    let j = coded-join (unroll b) (copies h (unroll b)) (k .0) in
+    let k = coded-parts (copies (suc h) (unroll b)) (unroll f) c in
+    let j = coded-parts (unroll b) (copies h (unroll b)) (k .0) in
     let r = s .0 in
     let one : 1 ≤ nodes b = omega (arith, siblings-nodes b, r .some) in
     let p : suc h ≤ suc h * nodes b = omega (arith, mul-le-mul-left (suc h) one) in
@@ -61,63 +54,68 @@ depth-fold A (step l f) s = depth-fold A f s
 depth-fold A (group l b f) s = omega (arith, depth-fold A b (s .1), depth-fold A f (s .2))
 depth-fold A (repeat zero w b f) s = absurd (omega (arith, s .0 .twice))
 depth-fold A (repeat (suc h) w b f) s =
-    omega (arith, depth-join (copies (suc h) (unroll b)) (unroll f), depth-join (unroll b) (copies h (unroll b)), depth-fold A b (s .1), depth-fold A f (s .2))
+    omega (arith, group-depth-join (copies (suc h) (unroll b)) (unroll f), group-depth-join (unroll b) (copies h (unroll b)), depth-fold A b (s .1), depth-fold A f (s .2))
 
 -- A fold of an accepted run is of the right shape for the fold reader at any limit that its widths are within.
-fold-shaped : (k : ℕ) (P : Prices) (u f : Forest) → Shaped run-rules u → FoldOf (record { widest = k }) u f → Shaped (fold-rules k P) f
+pub fold-shaped : (k : ℕ) (P : Prices) (u f : Forest) → Shaped run-rules u → FoldOf (at-most k) u f → Shaped (fold-rules k P) f
 fold-shaped k P u f s o =
     let e = o .unrolls in
     let n : nodes f ≤ 1024 = omega (arith, nodes-unroll f, ap nodes e, s .total) in
     let c : Coded (unroll f) = rw e (s .coded) in
     record {
-      coded = coded-fold (record { widest = k }) f (o .sound) (omega arith) c;
+      coded = coded-fold (at-most k) f (o .sound) (omega arith) c;
       sound = o .sound;
       plain = λ z. absurd (false≢true (sym z));
-      groups = omega (arith, depth-fold (record { widest = k }) f (o .sound), ap group-depth e, s .groups);
-      repeats = depth-fits (record { widest = k }) f (o .sound) n;
+      groups = omega (arith, depth-fold (at-most k) f (o .sound), ap group-depth e, s .groups);
+      repeats = depth-fits (at-most k) f (o .sound) n;
       total = n;
     }
 
 -- Bytes that are a fold of the run within the limit are the byte form of a fold of its tree.
 module _ (k : ℕ) (P : Prices) (u : Forest) (g : List ℕ) (c : ℕ) (small : Bytes g) (w : FoldWithin (bytes u) k P g c) where
-  form : Reads (fold-rules (limits .width) P) g (w .tally) (bytes u)
-  form = parses (fold-rules (limits .width) P) g small (w .tally) (bytes u) (w .reads)
+  pub form : Reads (fold-rules (limits .width) P) g (w .formed .tally) (bytes u)
+  form =
+      let r = w .formed in
+      parses (fold-rules (limits .width) P) g small (r .tally) (bytes u) (rw (w .unrolls) at (r .reading))
 
-  tree-fold : FoldOf (record { widest = k }) u (form .tree)
+  pub tree-fold : FoldOf (at-most k) u (form .tree)
   tree-fold =
       let f = form .tree in
       let e : tree-of g ≡ f = ap tree-of (sym (form .form)) ∙ tree-of-bytes f in
       let n : widest-of f ≤ k = rw e at (w .within) in
       record {
-        sound = sound-within (record { widest = limits .width }) (record { widest = k }) f n (form .shape .sound);
+        sound = sound-within (at-most (limits .width)) (at-most k) f n (form .shape .sound);
         unrolls = bytes-injective (unroll f) u (form .text);
       }
 
-  tree-cost : cost P (form .tree) ≡ c
+  pub tree-cost : cost P (form .tree) ≡ c
   unfolding tally-of
   tree-cost = ap (λ (t : Tally). t .cost) (form .counts) ∙ w .costs
 
 -- The cheapest fold of a run's tree is the cheapest of all bytes.
 module _ (k : ℕ) (narrow : k ≤ limits .width) (P : Prices) (u : Forest) (run : Shaped run-rules u) where
   abbrev A : Allowed
-  A = record { widest = k }
+  A = at-most k
 
   best : Optimal A P u (cheapest A P u)
   best =
       let s = run .sound in
       cheapest-optimal A P u (run .plain refl)
-      (sound-within (record { widest = 0 }) A u (omega (arith, sound-widest (record { widest = 0 }) u s)) s)
+      (sound-within (at-most 0) A u (omega (arith, sound-widest (at-most 0) u s)) s)
 
-  is-fold : FoldWithin (bytes u) k P (bytes (cheapest A P u)) (cost P (cheapest A P u))
+  -- The byte form of any fold of the tree is a fold of the run within the limit.
+  pub is-fold : (f : Forest) → FoldOf A u f → FoldWithin (bytes u) k P (bytes f) (cost P f)
   unfolding tally-of
-  is-fold =
-      let f = cheapest A P u in
-      let o = best .fold in
-      let wide : FoldOf (record { widest = limits .width }) u f =
-      record { sound = sound-within A (record { widest = limits .width }) f (omega (arith, sound-widest A f (o .sound))) (o .sound); unrolls = o .unrolls } in
+  is-fold f o =
+      let wide : FoldOf (at-most (limits .width)) u f =
+      record { sound = sound-within A (at-most (limits .width)) f (omega (arith, sound-widest A f (o .sound))) (o .sound); unrolls = o .unrolls } in
       record {
-        tally = tally-of P f;
-        reads = accepts (fold-rules (limits .width) P) f (fold-shaped (limits .width) P u f run wide) ∙ ap (λ (v : Forest). accepted (tally-of P f) (bytes v)) (o .unrolls);
+        formed = record {
+          tally = tally-of P f;
+          text = bytes (unroll f);
+          reading = accepts (fold-rules (limits .width) P) f (fold-shaped (limits .width) P u f run wide);
+        };
+        unrolls = ap bytes (o .unrolls);
         within = rw tree-of-bytes (sound-widest A f (o .sound));
         costs = refl;
       }
@@ -125,10 +123,10 @@ module _ (k : ℕ) (narrow : k ≤ limits .width) (P : Prices) (u : Forest) (run
   against : (g : List ℕ) (c : ℕ) (z : Bytes g) (w : FoldWithin (bytes u) k P g c) → NoWorse P (cheapest A P u) (form k P u g c z w .tree)
   against g c z w = best .best (form k P u g c z w .tree) (tree-fold k P u g c z w)
 
-  at-most : {f : Forest} (c : ℕ) → cost P f ≡ c → NoWorse P (cheapest A P u) f → cost P (cheapest A P u) ≤ c
-  at-most c e (cheaper l) = omega arith
-  at-most c e (same q) = omega (arith, ap (cost P) q)
-  at-most c e (earlier l b) = omega arith
+  no-dearer : {f : Forest} (c : ℕ) → cost P f ≡ c → NoWorse P (cheapest A P u) f → cost P (cheapest A P u) ≤ c
+  no-dearer c e (cheaper l) = omega arith
+  no-dearer c e (same q) = omega (arith, ap (cost P) q)
+  no-dearer c e (earlier l b) = omega arith
 
   before : {f : Forest} (g : List ℕ) → bytes f ≡ g → (g ≡ bytes (cheapest A P u) → ⊥) → cost P f ≡ cost P (cheapest A P u) → NoWorse P (cheapest A P u) f → Before (bytes (cheapest A P u)) g
   before g m n e (cheaper l) = absurd (omega arith)
@@ -139,8 +137,8 @@ module _ (k : ℕ) (narrow : k ≤ limits .width) (P : Prices) (u : Forest) (run
   unfolding best-cost
   cheapest-within =
       record {
-        fold = is-fold;
-        no-cheaper = λ g c z w. at-most c (tree-cost k P u g c z w) (against g c z w);
+        fold = is-fold (cheapest A P u) (best .fold);
+        no-cheaper = λ g c z w. no-dearer c (tree-cost k P u g c z w) (against g c z w);
         first = λ g c z w e n. before g (form k P u g c z w .form) n (tree-cost k P u g c z w ∙ e) (against g c z w);
       }
 
@@ -162,8 +160,14 @@ module _ (s : List ℕ) (small : Bytes s) (t : Tally) (x : List ℕ) (run : read
   unfolding tally-of
   run-nodes = ap (λ (y : Tally). y .nodes) (sym (spelled .counts)) ∙ ap nodes (sym tree-is)
 
+  -- The byte form of the cheapest fold is bytes.
+  pub cheapest-small : (k : ℕ) → k ≤ limits .width → (P : Prices) → Bytes (bytes (cheapest (at-most k) P (tree-of s)))
+  cheapest-small k narrow P =
+      let f = cheapest (at-most k) P (tree-of s) in
+      coded-bytes f (fold-shaped k P (tree-of s) f run-shape (best k narrow P (tree-of s) run-shape .fold) .coded)
+
   -- DEMANDS 2 AND 3: the cheapest fold of the tree of an accepted run is the cheapest of all bytes.
-  pub cheapest-bytes : (k : ℕ) → k ≤ limits .width → (P : Prices) → CheapestWithin s k P (bytes (cheapest (record { widest = k }) P (tree-of s))) (best-cost (record { widest = k }) P (tree-of s))
+  pub cheapest-bytes : (k : ℕ) → k ≤ limits .width → (P : Prices) → CheapestWithin s k P (bytes (cheapest (at-most k) P (tree-of s))) (best-cost (at-most k) P (tree-of s))
   cheapest-bytes k narrow P =
-      subst (λ (r : List ℕ). CheapestWithin r k P (bytes (cheapest (record { widest = k }) P (tree-of s))) (best-cost (record { widest = k }) P (tree-of s)))
+      subst (λ (r : List ℕ). CheapestWithin r k P (bytes (cheapest (at-most k) P (tree-of s))) (best-cost (at-most k) P (tree-of s)))
       run-form (cheapest-within k narrow P (tree-of s) run-shape)

@@ -10,4 +10,5 @@ pub mod Cheapest
 pub mod Cover
 pub mod Level
 pub mod Demands
+pub mod Minimum
 pub mod Known

@@ -1,22 +1,23 @@
 -- Demands 2 and 3 about any bytes: what a fold of a run within a limit is, and which one is the cheapest.
 use mathlib.Core.Path.{_≡_}
 use mathlib.Core.List.{List}
-use Prim.Native.Nat.{ℕ, _≤_}
-use Rattle.format.specs.Limits.{limits, Prices}
+use Prim.Native.Nat.{ℕ, _<_, _≤_}
+use lib.ListN.{length}
+use Rattle.format.specs.Limits.{Prices}
 use Rattle.format.specs.Order.{Bytes, Before}
 use Rattle.format.specs.Forest.{widest-of}
-use Rattle.format.specs.Machine.{accepted, read}
-use Rattle.format.specs.Readings.{fold-rules}
+use Rattle.format.specs.Readings.{WellFormed}
 use Rattle.format.specs.Tree.{tree-of}
-use Rattle.format.specs.declared.Tally.{Tally}
+use Rattle.format.specs.Meaning.{Means, report-of, report-size}
+use Rattle.format.specs.Report.{RRT, Valid, WidthAtMost, Represents}
 
--- The bytes g are a fold of the run within the limit, of this cost: the fold reader accepts them at limit 1,024 (they are well
--- formed), they unroll to the run byte for byte, no width operand passes the limit, and the cost is the one that is read.
+-- The bytes g are a fold of the run within the limit, of this cost: they are well formed, they unroll to the run byte for
+-- byte, no width operand passes the limit, and the cost is the one that is read.
 pub record FoldWithin (run : List ℕ) (limit : ℕ) (P : Prices) (g : List ℕ) (cost : ℕ) : Type 0 where
-  pub tally : Tally
-  pub reads : read (fold-rules (limits .width) P) g ≡ accepted tally run
+  pub formed : WellFormed P g
+  pub unrolls : formed .text ≡ run
   pub within : widest-of (tree-of g) ≤ limit
-  pub costs : tally .cost ≡ cost
+  pub costs : formed .tally .cost ≡ cost
 
 -- The bytes f are the cheapest fold of the run within the limit, at this cost: they are a fold of it (demand 2), every fold
 -- of the run within the limit, whoever wrote it and however nested, costs at least as much, and every other one of exactly
@@ -25,3 +26,17 @@ pub record CheapestWithin (run : List ℕ) (limit : ℕ) (P : Prices) (f : List 
   pub fold : FoldWithin run limit P f cost
   pub no-cheaper : (g : List ℕ) (c : ℕ) → Bytes g → FoldWithin run limit P g c → cost ≤ c
   pub first : (g : List ℕ) (c : ℕ) → Bytes g → FoldWithin run limit P g c → c ≡ cost → (g ≡ f → ⊥) → Before f g
+
+-- The cheapest fold of the run within the limit has no room: what refusal 14 says.
+pub record CheapestOver (room : ℕ) (run : List ℕ) (limit : ℕ) (P : Prices) : Type 0 where
+  pub fold : List ℕ
+  pub cost : ℕ
+  pub cheapest : CheapestWithin run limit P fold cost
+  pub longer : room < length fold
+
+-- The report's own problem (minimum width-k repetition representation tree): the tree of f is of width k and represents the
+-- tree of the run, and no tree of width k that represents it is smaller, the lent prices as weights.
+pub record MinimumTree (run : List ℕ) (k : ℕ) (table : List ℕ) (first each : ℕ) (f : List ℕ) : Type 0 where
+  pub means : Means k f run
+  pub smallest : (r : RRT ℕ) → Valid r → WidthAtMost k r → Represents r (report-of run)
+      → report-size table first each (report-of f) ≤ report-size table first each r

@@ -4,11 +4,12 @@ use mathlib.Core.Path.{_≡_}
 use mathlib.Core.List.{List, [], _∷_, _++_, map}
 use Prim.Native.Nat.{ℕ}
 use Rattle.format.specs.Limits.{Prices, priced}
-use Rattle.format.specs.Forest.{bytes}
+use Rattle.format.specs.Forest.{bytes, at-most}
 use Rattle.format.specs.Machine.{Outcome, refused, accepted, read, times}
 use Rattle.format.specs.Readings.{run-rules, fold-rules}
 use Rattle.format.specs.Tree.{tree-of}
 use Rattle.optimum.specs.Cheapest.{cheapest, best-cost}
+use Rattle.optimum.specs.Verdict.{Verdict, refuses, folds, of-run}
 
 -- What is asked at a width limit and prices: the cheapest fold of a run, or what a fold reads as.
 pub data Asked : Type 0 where
@@ -17,25 +18,23 @@ pub data Asked : Type 0 where
 
 -- The answer: the cheapest fold and its cost; the run that a fold unrolls to and the fold's cost; or a refusal.
 pub data Answer : Type 0 where
-  folds : (fold : List ℕ) (cost : ℕ) → Answer
-  unrolls : (run : List ℕ) (cost : ℕ) → Answer
-  refuses : (number place : ℕ) → Answer
+  fold-is : (fold : List ℕ) (cost : ℕ) → Answer
+  run-is : (run : List ℕ) (cost : ℕ) → Answer
+  refusal-is : (number place : ℕ) → Answer
 
-unfoldable pub about-run : ℕ → Prices → List ℕ → Outcome → Answer
-unfolding cheapest best-cost bytes tree-of
-about-run k P s (refused n p) = refuses n p
-about-run k P s (accepted t x) =
-    folds (bytes (cheapest (record { widest = k }) P (tree-of s))) (best-cost (record { widest = k }) P (tree-of s))
+unfoldable pub of-verdict : Verdict → Answer
+of-verdict (refuses n p) = refusal-is n p
+of-verdict (folds n f c) = fold-is f c
 
-unfoldable pub about-fold : Outcome → Answer
-about-fold (refused n p) = refuses n p
-about-fold (accepted t x) = unrolls x (t .cost)
+unfoldable pub of-reading : Outcome → Answer
+of-reading (refused n p) = refusal-is n p
+of-reading (accepted t x) = run-is x (t .cost)
 
 -- The answer of the definitions.
 unfoldable pub answer : Asked → Answer
-unfolding about-run about-fold read
-answer (run k P s) = about-run k P s (read run-rules s)
-answer (fold k P s) = about-fold (read (fold-rules k P) s)
+unfolding of-verdict of-reading read cheapest best-cost bytes tree-of
+answer (run k P s) = of-verdict (of-run (at-most k) P s (read run-rules s))
+answer (fold k P s) = of-reading (read (fold-rules k P) s)
 
 -- A case: what is asked, and the known answer.
 pub data Case : Type 0 where
@@ -77,53 +76,53 @@ unfoldable pub known : List Case
 unfolding unit free-a times
 known =
     -- the empty run, and a
-    run 1024 unit [] gives folds [] 0
-    ∷ run 1024 unit a gives folds a 1
-    ∷ run 0 unit a gives folds a 1
+    run 1024 unit [] gives fold-is [] 0
+    ∷ run 1024 unit a gives fold-is a 1
+    ∷ run 0 unit a gives fold-is a 1
     -- a tie of the plain node and a repeat
-    ∷ run 1024 unit (a ++ a) gives folds (a ++ a) 2
+    ∷ run 1024 unit (a ++ a) gives fold-is (a ++ a) 2
     -- a repeat, and none at limit 0
-    ∷ run 1024 unit (a ++ a ++ a) gives folds (0x20 ∷ 0x00 ∷ 0x03 ∷ 0x00 ∷ 0x01 ∷ 0x10 ∷ 0x01 ∷ 0x21 ∷ []) 2
-    ∷ run 0 unit (a ++ a ++ a) gives folds (a ++ a ++ a) 3
+    ∷ run 1024 unit (a ++ a ++ a) gives fold-is (0x20 ∷ 0x00 ∷ 0x03 ∷ 0x00 ∷ 0x01 ∷ 0x10 ∷ 0x01 ∷ 0x21 ∷ []) 2
+    ∷ run 0 unit (a ++ a ++ a) gives fold-is (a ++ a ++ a) 3
     -- a tie of two counts: first 0; and each above 0
     ∷ run 1024 (labels-at 1 0 0) (times 4 a)
-    gives folds (0x20 ∷ 0x00 ∷ 0x02 ∷ 0x00 ∷ 0x02 ∷ 0x20 ∷ 0x00 ∷ 0x02 ∷ 0x00 ∷ 0x01 ∷ 0x10 ∷ 0x01 ∷ 0x21 ∷ 0x21 ∷ []) 1
+    gives fold-is (0x20 ∷ 0x00 ∷ 0x02 ∷ 0x00 ∷ 0x02 ∷ 0x20 ∷ 0x00 ∷ 0x02 ∷ 0x00 ∷ 0x01 ∷ 0x10 ∷ 0x01 ∷ 0x21 ∷ 0x21 ∷ []) 1
     ∷ run 1024 (labels-at 1 1 5) (times 4 a)
-    gives folds (0x20 ∷ 0x00 ∷ 0x02 ∷ 0x00 ∷ 0x02 ∷ 0x10 ∷ 0x01 ∷ 0x10 ∷ 0x01 ∷ 0x21 ∷ []) 3
+    gives fold-is (0x20 ∷ 0x00 ∷ 0x02 ∷ 0x00 ∷ 0x02 ∷ 0x10 ∷ 0x01 ∷ 0x10 ∷ 0x01 ∷ 0x21 ∷ []) 3
     -- equal groups with a repeat inside, at limit 1 too
     ∷ run 1024 unit (times 2 (group-05 (a ++ a ++ a)))
-    gives folds (0x20 ∷ 0x00 ∷ 0x02 ∷ 0x00 ∷ 0x01 ∷ 0x11 ∷ 0x05 ∷ 0x20 ∷ 0x00 ∷ 0x03 ∷ 0x00 ∷ 0x01 ∷ 0x10 ∷ 0x01 ∷ 0x21 ∷ 0x12 ∷ 0x21 ∷ []) 4
+    gives fold-is (0x20 ∷ 0x00 ∷ 0x02 ∷ 0x00 ∷ 0x01 ∷ 0x11 ∷ 0x05 ∷ 0x20 ∷ 0x00 ∷ 0x03 ∷ 0x00 ∷ 0x01 ∷ 0x10 ∷ 0x01 ∷ 0x21 ∷ 0x12 ∷ 0x21 ∷ []) 4
     ∷ run 1 unit (times 2 (group-05 (a ++ a ++ a)))
-    gives folds (0x20 ∷ 0x00 ∷ 0x02 ∷ 0x00 ∷ 0x01 ∷ 0x11 ∷ 0x05 ∷ 0x20 ∷ 0x00 ∷ 0x03 ∷ 0x00 ∷ 0x01 ∷ 0x10 ∷ 0x01 ∷ 0x21 ∷ 0x12 ∷ 0x21 ∷ []) 4
+    gives fold-is (0x20 ∷ 0x00 ∷ 0x02 ∷ 0x00 ∷ 0x01 ∷ 0x11 ∷ 0x05 ∷ 0x20 ∷ 0x00 ∷ 0x03 ∷ 0x00 ∷ 0x01 ∷ 0x10 ∷ 0x01 ∷ 0x21 ∷ 0x12 ∷ 0x21 ∷ []) 4
     -- the examples of refusals 5 and 9
-    ∷ run 1024 unit (0x11 ∷ 0x05 ∷ 0x12 ∷ []) gives refuses 5 2
-    ∷ fold 1024 unit (0x20 ∷ 0x00 ∷ 0x02 ∷ 0x00 ∷ 0x02 ∷ 0x10 ∷ 0x07 ∷ 0x21 ∷ []) gives refuses 9 7
+    ∷ run 1024 unit (0x11 ∷ 0x05 ∷ 0x12 ∷ []) gives refusal-is 5 2
+    ∷ fold 1024 unit (0x20 ∷ 0x00 ∷ 0x02 ∷ 0x00 ∷ 0x02 ∷ 0x10 ∷ 0x07 ∷ 0x21 ∷ []) gives refusal-is 9 7
     -- more: a tie of widths, (2, 1), (2, 2) and (2, 3) at cost 2
     ∷ run 1024 (labels-at 1 0 1) (times 6 a)
-    gives folds (0x20 ∷ 0x00 ∷ 0x02 ∷ 0x00 ∷ 0x01 ∷ 0x10 ∷ 0x01 ∷ 0x21 ∷ 0x20 ∷ 0x00 ∷ 0x02 ∷ 0x00 ∷ 0x02 ∷ 0x20 ∷ 0x00 ∷ 0x02 ∷ 0x00 ∷ 0x01 ∷ 0x10 ∷ 0x01 ∷ 0x21 ∷ 0x21 ∷ []) 2
+    gives fold-is (0x20 ∷ 0x00 ∷ 0x02 ∷ 0x00 ∷ 0x01 ∷ 0x10 ∷ 0x01 ∷ 0x21 ∷ 0x20 ∷ 0x00 ∷ 0x02 ∷ 0x00 ∷ 0x02 ∷ 0x20 ∷ 0x00 ∷ 0x02 ∷ 0x00 ∷ 0x01 ∷ 0x10 ∷ 0x01 ∷ 0x21 ∷ 0x21 ∷ []) 2
     -- more: at limit 1 the smaller count is barred, its body being one item but two siblings
-    ∷ run 1 (labels-at 1 0 0) (times 4 a) gives folds (0x20 ∷ 0x00 ∷ 0x04 ∷ 0x00 ∷ 0x01 ∷ 0x10 ∷ 0x01 ∷ 0x21 ∷ []) 1
+    ∷ run 1 (labels-at 1 0 0) (times 4 a) gives fold-is (0x20 ∷ 0x00 ∷ 0x04 ∷ 0x00 ∷ 0x01 ∷ 0x10 ∷ 0x01 ∷ 0x21 ∷ []) 1
     -- more: each is paid for the copies past the second
     ∷ run 1024 (labels-at 3 1 1) (times 4 a)
-    gives folds (0x20 ∷ 0x00 ∷ 0x02 ∷ 0x00 ∷ 0x02 ∷ 0x20 ∷ 0x00 ∷ 0x02 ∷ 0x00 ∷ 0x01 ∷ 0x10 ∷ 0x01 ∷ 0x21 ∷ 0x21 ∷ []) 5
-    ∷ run 1024 (labels-at 4 3 1) (times 3 a) gives folds (0x20 ∷ 0x00 ∷ 0x03 ∷ 0x00 ∷ 0x01 ∷ 0x10 ∷ 0x01 ∷ 0x21 ∷ []) 8
-    ∷ run 1024 (labels-at 2 3 2) (times 3 a) gives folds (times 3 a) 6
+    gives fold-is (0x20 ∷ 0x00 ∷ 0x02 ∷ 0x00 ∷ 0x02 ∷ 0x20 ∷ 0x00 ∷ 0x02 ∷ 0x00 ∷ 0x01 ∷ 0x10 ∷ 0x01 ∷ 0x21 ∷ 0x21 ∷ []) 5
+    ∷ run 1024 (labels-at 4 3 1) (times 3 a) gives fold-is (0x20 ∷ 0x00 ∷ 0x03 ∷ 0x00 ∷ 0x01 ∷ 0x10 ∷ 0x01 ∷ 0x21 ∷ []) 8
+    ∷ run 1024 (labels-at 2 3 2) (times 3 a) gives fold-is (times 3 a) 6
     -- more: equal labels do not make equal groups
-    ∷ run 1024 unit (group-05 a ++ group-05 b ++ group-05 a) gives folds (group-05 a ++ group-05 b ++ group-05 a) 6
+    ∷ run 1024 unit (group-05 a ++ group-05 b ++ group-05 a) gives fold-is (group-05 a ++ group-05 b ++ group-05 a) 6
     ∷ run 1024 unit (times 2 (group-05 a ++ group-05 b))
-    gives folds (0x20 ∷ 0x00 ∷ 0x02 ∷ 0x00 ∷ 0x02 ∷ 0x11 ∷ 0x05 ∷ 0x10 ∷ 0x01 ∷ 0x12 ∷ 0x11 ∷ 0x05 ∷ 0x10 ∷ 0x02 ∷ 0x12 ∷ 0x21 ∷ []) 5
+    gives fold-is (0x20 ∷ 0x00 ∷ 0x02 ∷ 0x00 ∷ 0x02 ∷ 0x11 ∷ 0x05 ∷ 0x10 ∷ 0x01 ∷ 0x12 ∷ 0x11 ∷ 0x05 ∷ 0x10 ∷ 0x02 ∷ 0x12 ∷ 0x21 ∷ []) 5
     -- more: labels that cost nothing, all of them or a alone with b at 3
-    ∷ run 1024 (labels-at 0 0 0) (times 4 a) gives folds (times 4 a) 0
+    ∷ run 1024 (labels-at 0 0 0) (times 4 a) gives fold-is (times 4 a) 0
     ∷ run 1024 (free-a 2) (times 2 (a ++ b))
-    gives folds (0x20 ∷ 0x00 ∷ 0x02 ∷ 0x00 ∷ 0x02 ∷ 0x10 ∷ 0x01 ∷ 0x10 ∷ 0x02 ∷ 0x21 ∷ []) 5
-    ∷ run 1024 (free-a 3) (times 2 (a ++ b)) gives folds (times 2 (a ++ b)) 6
-    ∷ run 1024 (free-a 2) (times 3 a) gives folds (times 3 a) 0
+    gives fold-is (0x20 ∷ 0x00 ∷ 0x02 ∷ 0x00 ∷ 0x02 ∷ 0x10 ∷ 0x01 ∷ 0x10 ∷ 0x02 ∷ 0x21 ∷ []) 5
+    ∷ run 1024 (free-a 3) (times 2 (a ++ b)) gives fold-is (times 2 (a ++ b)) 6
+    ∷ run 1024 (free-a 2) (times 3 a) gives fold-is (times 3 a) 0
     -- more: a cheapest fold that is longer than its run
     ∷ run 1024 (labels-at 1 0 0) (a ++ a ++ b ++ b)
-    gives folds (0x20 ∷ 0x00 ∷ 0x02 ∷ 0x00 ∷ 0x01 ∷ 0x10 ∷ 0x01 ∷ 0x21 ∷ 0x20 ∷ 0x00 ∷ 0x02 ∷ 0x00 ∷ 0x01 ∷ 0x10 ∷ 0x02 ∷ 0x21 ∷ []) 2
+    gives fold-is (0x20 ∷ 0x00 ∷ 0x02 ∷ 0x00 ∷ 0x01 ∷ 0x10 ∷ 0x01 ∷ 0x21 ∷ 0x20 ∷ 0x00 ∷ 0x02 ∷ 0x00 ∷ 0x01 ∷ 0x10 ∷ 0x02 ∷ 0x21 ∷ []) 2
     -- more: a fold read back
     ∷ fold 1024 (labels-at 1 1 5) (0x20 ∷ 0x00 ∷ 0x02 ∷ 0x00 ∷ 0x02 ∷ 0x10 ∷ 0x01 ∷ 0x10 ∷ 0x01 ∷ 0x21 ∷ [])
-    gives unrolls (times 4 a) 3
+    gives run-is (times 4 a) 3
     ∷ []
 
 -- The statement: the definitions give every known answer.

@@ -8,11 +8,15 @@ use native.Mathlib.Omega.{arith}
 use lib.Dec.{eqb}
 use lib.ListN.{length, getD, drop}
 use borrow.Author.Tests.{ne-eqb, eq-eqb, eqb-true, eqb-false, lt-ltb, le-ltb}
-use Rattle.format.specs.Limits.{priced}
+use Rattle.format.specs.Limits.{Prices, priced}
 use Rattle.format.specs.Machine.{Rules, read, refusal}
-use Rattle.format.specs.Readings.{run-rules, run-reading, fold-rules, fold-reading, fold-answer}
+use Rattle.format.specs.Order.{Bytes}
+use Rattle.format.specs.Meaning.{MeansAtCost}
+use Rattle.format.specs.Readings.{run-rules, run-reading, fold-rules, limited, fold-reading, fold-answer}
 use Rattle.format.specs.declared.Tally.{Tally}
+use Rattle.format.specs.declared.FoldReading.{FoldReading}
 use Rattle.format.proofs.Machine.{refusal-group-end, refusal-repeat-end}
+use Rattle.format.proofs.Report.{reading-means}
 use Rattle.reader.specs.Walk.{from, rules-of, Sequence, OpenAt, Whole, outcome}
 use Rattle.reader.specs.declared.command.Terms.{Terms}
 use Rattle.reader.specs.declared.command.Depth.{Depth}
@@ -91,17 +95,28 @@ answered R s w walked = by-test (eqb (w .refusal) 0) refl
     by-test true e = rw (e, walked .reads (eqb-true _ _ e) .1)
     by-test false e = rw (e, walked .refuses (eqb-false _ _ e))
 
--- The fold reader's answer.
-module _ (s table : List ℕ) (k first each : ℕ) where
-  pub fold-table : (length table ≡ 256 → ⊥) → record { refusal = 11; place = 0; nodes = 0; length = 0; cost = 0 } ≡ fold-reading s k table first each
+-- The answer about a fold at a limit and prices.
+module _ (s : List ℕ) (k : ℕ) (P : Prices) where
+  pub limit-over : 1024 < k → record { refusal = 12; place = 0; nodes = 0; length = 0; cost = 0 } ≡ fold-answer (limited s k P)
+  unfolding limited
+  limit-over e = rw (lt-ltb _ _ e)
+
+  pub limit-kept : k ≤ 1024 → (w : Walk) → Whole (fold-rules k P) s w → fold-answer (outcome w) ≡ fold-answer (limited s k P)
+  unfolding limited
+  limit-kept within w walked = rw (le-ltb _ _ within) (answered (fold-rules k P) s w walked)
+
+-- The fold reader's answer: it is the reading, and on success means what the report says.
+module _ (s table : List ℕ) (k first each : ℕ) (small : Bytes s) where
+  abbrev Answers : FoldReading → Type 0
+  Answers r = (r ≡ fold-reading s k table first each) × (r .refusal ≡ 0 → MeansAtCost k table first each s (r .length) (r .cost))
+
+  with-meaning : (r : FoldReading) → r ≡ fold-reading s k table first each → Answers r
+  with-meaning r e = (e, reading-means s k table first each small r e)
+
+  pub table-refused : (length table ≡ 256 → ⊥) → Answers (record { refusal = 11; place = 0; nodes = 0; length = 0; cost = 0 })
   unfolding fold-reading
-  fold-table e = rw (ne-eqb _ _ e)
+  table-refused e = with-meaning _ (rw (ne-eqb _ _ e))
 
-  module _ (whole-table : length table ≡ 256) where
-    pub fold-limit : 1024 < k → record { refusal = 12; place = 0; nodes = 0; length = 0; cost = 0 } ≡ fold-reading s k table first each
-    unfolding fold-reading
-    fold-limit e = rw (eq-eqb _ _ whole-table, lt-ltb _ _ e)
-
-    pub fold-read : k ≤ 1024 → (w : Walk) → Whole (fold-rules k (priced table first each)) s w → fold-answer (outcome w) ≡ fold-reading s k table first each
-    unfolding fold-reading
-    fold-read limited w walked = rw (eq-eqb _ _ whole-table, le-ltb _ _ limited) (answered (fold-rules k (priced table first each)) s w walked)
+  pub table-passed : length table ≡ 256 → (r : FoldReading) → r ≡ fold-answer (limited s k (priced table first each)) → Answers r
+  unfolding fold-reading
+  table-passed e r q = with-meaning r (q ∙ rw (eq-eqb _ _ e))

@@ -22,8 +22,9 @@ use node::starts_at;
 use walk::sequence;
 ghost use mathlib.Core.Path.{_≡_};
 ghost use mathlib.Core.Bool.{true};
-ghost use Rattle.format.specs.Machine.{read};
-ghost use Rattle.format.specs.Readings.{run-reading, fold-reading, fold-answer, fold-rules, free};
+ghost use Rattle.format.specs.Limits.{priced};
+ghost use Rattle.format.specs.Readings.{run-reading, limited, measured, fold-reading, fold-answer};
+ghost use Rattle.format.specs.Meaning.{MeansAtCost};
 ghost use Rattle.format.specs.Parts.{node-part, part-of};
 ghost use Rattle.reader.specs.Walk.{Sane, Whole, outcome, rules-of};
 
@@ -144,33 +145,11 @@ fn answer(w: Walk) -> FoldReading
     }
 }
 
-// A fold at a width limit, without costs: refusals 1 and 3 to 10, or the nodes and the bytes of the run at cost 0.
-pub fn measure(fold: &[u8], limit: usize) -> FoldReading
-    ensures { λ r. ⌜ r ≡ fold-answer (read (fold-rules limit free) (now (fold .entry))) ⌝ }
+// A fold at a width limit and costs, whatever the table's length: refusals 12, 1 and 3 to 10, or the nodes and the bytes of the
+// run and the fold's cost.
+fn read_limited(fold: &[u8], limit: usize, costs: &[u16], first: u16, each: u16) -> FoldReading
+    ensures { λ r. ⌜ r ≡ fold-answer (limited (now (fold .entry)) limit (priced (now (costs .entry)) first each)) ⌝ }
 {
-    let free: [u16; 0] = [0; 0];
-    let a = Terms {
-        folds: true,
-        widest: limit,
-        first: 0,
-        each: 0,
-    };
-    answer(whole(fold, &free, a))
-}
-
-// The fold reader: refusals 11, 12, 1 and 3 to 10, or the nodes and the bytes of the run and the fold's cost.
-pub fn read_fold(fold: &[u8], limit: usize, costs: &[u16], first: u16, each: u16) -> FoldReading
-    ensures { λ r. ⌜ r ≡ fold-reading (now (fold .entry)) limit (now (costs .entry)) first each ⌝ }
-{
-    if costs.len() != 256 {
-        return FoldReading {
-            refusal: 11,
-            place: 0,
-            nodes: 0,
-            length: 0,
-            cost: 0,
-        };
-    }
     if Format::WIDTH < limit {
         return FoldReading {
             refusal: 12,
@@ -187,4 +166,30 @@ pub fn read_fold(fold: &[u8], limit: usize, costs: &[u16], first: u16, each: u16
         each: wide_cost(each),
     };
     answer(whole(fold, costs, a))
+}
+
+// A fold at a width limit, without costs: refusals 12, 1 and 3 to 10, or the nodes and the bytes of the run at cost 0.
+pub fn measure(fold: &[u8], limit: usize) -> FoldReading
+    ensures { λ r. ⌜ r ≡ fold-answer (measured (now (fold .entry)) limit) ⌝ }
+{
+    let free: [u16; 0] = [0; 0];
+    read_limited(fold, limit, &free, 0, 0)
+}
+
+// The fold reader: refusals 11, 12, 1 and 3 to 10, or the nodes and the bytes of the run and the fold's cost. What it accepts
+// means, in the report's words, a run of that length at that cost.
+pub fn read_fold(fold: &[u8], limit: usize, costs: &[u16], first: u16, each: u16) -> FoldReading
+    ensures answered { λ r. ⌜ r ≡ fold-reading (now (fold .entry)) limit (now (costs .entry)) first each ⌝ }
+    ensures meant { λ r. ⌜ (r .refusal ≡ 0 → MeansAtCost limit (now (costs .entry)) first each (now (fold .entry)) (r .length) (r .cost)) ⌝ }
+{
+    if costs.len() != 256 {
+        return FoldReading {
+            refusal: 11,
+            place: 0,
+            nodes: 0,
+            length: 0,
+            cost: 0,
+        };
+    }
+    read_limited(fold, limit, costs, first, each)
 }

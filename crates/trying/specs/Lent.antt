@@ -5,11 +5,11 @@ use mathlib.Core.List.{List, _++_}
 use Prim.Native.Nat.{ℕ, _-_, _≤_}
 use lib.Dec.{eqb}
 use lib.ListN.{length, take, drop, replicate}
-use Rattle.format.specs.Readings.{run-reading}
+use Rattle.format.specs.Readings.{run-reading, measured}
 use Rattle.format.specs.declared.Folded.{Folded}
 use Rattle.format.specs.declared.Unrolled.{Unrolled}
 use Rattle.folder.specs.Table.{cells}
-use Rattle.unroller.specs.Unrolling.{unrolling, unroll-answer, unroll-output}
+use Rattle.unroller.specs.Unrolling.{unroll-answer, unroll-output}
 
 -- A slice of n entries as it is filled before a call.
 abbrev pub filled-words : ℕ → List ℕ
@@ -48,10 +48,10 @@ pub record Kept (run : List ℕ) (answer : Folded) (costs choices out : List ℕ
 
 -- What the unroller answers with room for n bytes, and what it leaves in a text.
 abbrev pub unroll-says : (fold : List ℕ) (limit n : ℕ) → Unrolled
-unroll-says fold limit n = unroll-answer (unrolling fold limit) n
+unroll-says fold limit n = unroll-answer (measured fold limit) n
 
 abbrev pub unroll-leaves : (fold : List ℕ) (limit : ℕ) (text : List ℕ) → List ℕ
-unroll-leaves fold limit text = unroll-output (unrolling fold limit) text
+unroll-leaves fold limit text = unroll-output (measured fold limit) text
 
 -- The unroller's answer is success, the text begins with the run, and behind it the text is as it was filled.
 pub record Unrolls (answer : Unrolled) (run text : List ℕ) : Type 0 where

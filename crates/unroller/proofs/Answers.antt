@@ -1,94 +1,106 @@
 -- The answers of the unroller, as its contract has them: a refusal by the first row that applies, or the run written.
 use mathlib.Core.Path.{_≡_, refl, sym, ap, _∙_}
+use mathlib.Core.Bool.{Bool, true, false}
 use mathlib.Core.List.{List, [], _++_, append-nil}
 use mathlib.Core.Logic.{_≢_}
 use Prim.Native.Nat.{ℕ, _≤_, _<_}
 use native.Mathlib.Nat.{zero-add}
 use native.Mathlib.Omega.{arith}
-use lib.ListN.{length, drop}
-use lib.Seq.{sets-eq}
+use lib.Dec.{ltb}
+use lib.ListN.{length, take, drop}
+use lib.Seq.{sets-eq, take-at}
 use borrow.Author.Tests.{lt-ltb, le-ltb}
 use Rattle.format.specs.Forest.{bytes}
-use Rattle.format.specs.Machine.{Outcome, refused, accepted, read}
+use Rattle.format.specs.Machine.{Outcome, refused, accepted}
 use Rattle.format.specs.Order.{Bytes}
-use Rattle.format.specs.Readings.{fold-rules, fold-answer, free}
-use Rattle.format.specs.Shape.{Reads, tally-of}
+use Rattle.format.specs.Readings.{free, fold-rules, fold-answer, measured}
+use Rattle.format.specs.Shape.{Reads}
+use Rattle.format.specs.Meaning.{Means}
 use Rattle.format.specs.declared.FoldReading.{FoldReading}
 use Rattle.format.specs.declared.Tally.{Tally}
 use Rattle.format.specs.declared.Unrolled.{Unrolled}
 use Rattle.format.proofs.Bridge.{parses}
-use Rattle.format.proofs.Refusals.{refused-some}
-use Rattle.unroller.specs.Unrolling.{unrolling, unroll-answer, unroll-output}
+use Rattle.format.proofs.Report.{accepted-means, accepted-length, limited-read, limited-some}
+use Rattle.unroller.specs.Unrolling.{unroll-answer, unroll-output}
 use Rattle.unroller.specs.Writing.{Sequence, Put}
 use Rattle.unroller.specs.declared.write.Place.{Place}
 
 -- What the contract promises of the answer and of the output.
-abbrev pub Promised : List ℕ → (limit : ℕ) → (before after : List ℕ) → Unrolled → Type 0
-Promised s k before after r =
-    (r ≡ unroll-answer (unrolling s k) (length before)) × (after ≡ unroll-output (unrolling s k) before)
+module _ (s : List ℕ) (k : ℕ) where
+  abbrev pub Promised : (before after : List ℕ) → Unrolled → Type 0
+  Promised before after r =
+      (r ≡ unroll-answer (measured s k) (length before))
+      × ((after ≡ unroll-output (measured s k) before) × (r .refusal ≡ 0 → Means k s (take (r .length) after)))
+
+  -- The third follows from the other two.
+  pub promised : Bytes s → (before after : List ℕ) (r : Unrolled) → r ≡ unroll-answer (measured s k) (length before)
+      → after ≡ unroll-output (measured s k) before → Promised before after r
+  promised small before after r e f = (e, (f, by-outcome (measured s k) refl e f))
+    where
+      by-room : (t : Tally) (x : List ℕ) → measured s k ≡ accepted t x → (b : Bool) → ltb (length before) (length x) ≡ b
+          → r ≡ unroll-answer (accepted t x) (length before) → after ≡ unroll-output (accepted t x) before → r .refusal ≡ 0
+          → Means k s (take (r .length) after)
+      by-room t x m true b e f z = absurd (omega (arith, ap (λ (u : Unrolled). u .refusal) (rw b at e)))
+      by-room t x m false b e f z =
+          let long : r .length ≡ length x = ap (λ (u : Unrolled). u .length) (rw b at e) in
+          rw (long, rw b at f, take-at x (drop (length x) before) (length x) refl)
+          (accepted-means k free s small t x (limited-read s k free t x m))
+
+      by-outcome : (o : Outcome) → measured s k ≡ o → r ≡ unroll-answer o (length before) → after ≡ unroll-output o before
+          → r .refusal ≡ 0 → Means k s (take (r .length) after)
+      by-outcome (refused n p) m e f z = absurd (limited-some s k free n p m (sym (ap (λ (u : Unrolled). u .refusal) e) ∙ z))
+      by-outcome (accepted t x) m e f z = by-room t x m (ltb (length before) (length x)) refl e f z
 
 -- A fold that was measured and not refused: it is the byte form of a tree, and n is the length of its run.
 pub record Measured (s : List ℕ) (k n : ℕ) : Type 0 where
   pub tally : Tally
   pub text : List ℕ
-  pub reading : read (fold-rules k free) s ≡ accepted tally text
+  pub reading : measured s k ≡ accepted tally text
   pub tree : Reads (fold-rules k free) s tally text
   pub size : n ≡ length text
-
-pub fold-measured : (s : List ℕ) (k : ℕ) (m : FoldReading) → m ≡ fold-answer (read (fold-rules k free) s) → m .refusal ≡ 0 → Bytes s
-    → Measured s k (m .length)
-unfolding tally-of
-fold-measured s k m measured e small = go (read (fold-rules k free) s) refl
-  where
-    go : (o : Outcome) → read (fold-rules k free) s ≡ o → Measured s k (m .length)
-    go (refused n p) q =
-        let same : m ≡ fold-answer (refused n p) = measured ∙ ap fold-answer q in
-        absurd (refused-some (fold-rules k free) s n p q (rw same at e))
-    go (accepted t x) q =
-        let same : m ≡ fold-answer (accepted t x) = measured ∙ ap fold-answer q in
-        let tree = parses (fold-rules k free) s small t x q in
-        record {
-          tally = t;
-          text = x;
-          reading = q;
-          tree = tree;
-          size = rw same (sym (ap (λ (u : Tally). u .size) (tree .counts)) ∙ ap length (tree .text));
-        }
 
 -- The top of the walk.
 abbrev pub top : Place
 top = record { at = 0; to = 0 }
 
-module _ (s : List ℕ) (k : ℕ) (out : List ℕ) where
-  pub wide-limit : 1024 < k → Promised s k out out (record { refusal = 12; place = 0; length = 0 })
-  unfolding unrolling
-  wide-limit e = (rw (lt-ltb _ _ e), rw (lt-ltb _ _ e))
+module _ (s : List ℕ) (small : Bytes s) (k : ℕ) (m : FoldReading) (reads : m ≡ fold-answer (measured s k)) where
+  pub fold-measured : m .refusal ≡ 0 → Measured s k (m .length)
+  fold-measured e = go (measured s k) refl
+    where
+      go : (o : Outcome) → measured s k ≡ o → Measured s k (m .length)
+      go (refused n p) q =
+          let same : m ≡ fold-answer (refused n p) = reads ∙ ap fold-answer q in
+          absurd (limited-some s k free n p q (rw same at e))
+      go (accepted t x) q =
+          let same : m ≡ fold-answer (accepted t x) = reads ∙ ap fold-answer q in
+          let r = limited-read s k free t x q in
+          record {
+            tally = t;
+            text = x;
+            reading = q;
+            tree = parses (fold-rules k free) s small t x r;
+            size = rw same (sym (accepted-length k free s small t x r));
+          }
 
-  module _ (limited : k ≤ 1024) where
-    outcome : unrolling s k ≡ read (fold-rules k free) s
-    unfolding unrolling
-    outcome = rw (le-ltb _ _ limited)
-
-    pub fold-refused : (m : FoldReading) → m ≡ fold-answer (read (fold-rules k free) s) → m .refusal ≢ 0
-        → Promised s k out out (record { refusal = m .refusal; place = m .place; length = 0 })
-    fold-refused m measured e = go (read (fold-rules k free) s) refl
+  module _ (out : List ℕ) where
+    pub fold-refused : m .refusal ≢ 0 → Promised s k out out (record { refusal = m .refusal; place = m .place; length = 0 })
+    fold-refused e = go (measured s k) refl
       where
-        go : (o : Outcome) → read (fold-rules k free) s ≡ o
-            → Promised s k out out (record { refusal = m .refusal; place = m .place; length = 0 })
+        go : (o : Outcome) → measured s k ≡ o → Promised s k out out (record { refusal = m .refusal; place = m .place; length = 0 })
         go (refused n p) q =
-            let same : m ≡ fold-answer (refused n p) = measured ∙ ap fold-answer q in
-            (rw (outcome, q, same), rw (outcome, q))
+            let same : m ≡ fold-answer (refused n p) = reads ∙ ap fold-answer q in
+            promised s k small out out _ (rw (q, same)) (rw q)
         go (accepted t x) q =
-            let same : m ≡ fold-answer (accepted t x) = measured ∙ ap fold-answer q in
+            let same : m ≡ fold-answer (accepted t x) = reads ∙ ap fold-answer q in
             absurd (e (rw same))
 
-    module _ (n : ℕ) (r : Measured s k n) where
-      pub too-short : length out < n → Promised s k out out (record { refusal = 14; place = 0; length = 0 })
+    module _ (r : Measured s k (m .length)) where
+      pub too-short : length out < m .length → Promised s k out out (record { refusal = 14; place = 0; length = 0 })
       too-short e =
           let f : length out < length (r .text) = omega (arith, r .size) in
-          (rw (outcome, r .reading, lt-ltb _ _ f), rw (outcome, r .reading, lt-ltb _ _ f))
+          promised s k small out out _ (rw (r .reading, lt-ltb _ _ f)) (rw (r .reading, lt-ltb _ _ f))
 
-      module _ (enough : n ≤ length out) where
+      module _ (enough : m .length ≤ length out) where
         pub whole-fold : Sequence s (length out) top (r .tree .tree)
         whole-fold =
             let a = r .tree in
@@ -104,9 +116,9 @@ module _ (s : List ℕ) (k : ℕ) (out : List ℕ) where
             }
 
         pub run-written : (after : List ℕ) (q : Place) → Put out after top (r .tree .tree) q
-            → Promised s k out after (record { refusal = 0; place = 0; length = n })
+            → Promised s k out after (record { refusal = 0; place = 0; length = m .length })
         run-written after q y =
             let x = r .text in
             let f : length x ≤ length out = omega (arith, r .size) in
             let g : after ≡ x ++ drop (length x) out = y .output ∙ rw (r .tree .text) (sets-eq x out 0 (omega arith) ∙ rw zero-add) in
-            (rw (outcome, r .reading, le-ltb _ _ f, r .size), g ∙ rw (outcome, r .reading, le-ltb _ _ f))
+            promised s k small out after _ (rw (r .reading, le-ltb _ _ f, r .size)) (g ∙ rw (r .reading, le-ltb _ _ f))

@@ -1,18 +1,11 @@
--- What the unroller answers and writes, for every fold, limit and output.
+-- What the unroller answers and writes, for what the fold measures (`measured` in the format's Readings) and every output.
 use mathlib.Core.Bool.{cond}
 use mathlib.Core.List.{List, _++_}
 use Prim.Native.Nat.{ℕ}
 use lib.Dec.{ltb}
 use lib.ListN.{length, drop}
-use Rattle.format.specs.Limits.{limits}
-use Rattle.format.specs.Machine.{Outcome, refused, accepted, read}
-use Rattle.format.specs.Readings.{fold-rules, free}
+use Rattle.format.specs.Machine.{Outcome, refused, accepted}
 use Rattle.format.specs.declared.Unrolled.{Unrolled}
-
--- 12 for the limit, then the commands.
-unfoldable pub unrolling : List ℕ → (limit : ℕ) → Outcome
-unfolding read
-unrolling s k = cond (ltb (limits .width) k) (refused 12 0) (read (fold-rules k free) s)
 
 -- The answer where the output has room for `room` bytes: 14 where the run is longer.
 abbrev pub unroll-answer : Outcome → (room : ℕ) → Unrolled

@@ -1,27 +1,23 @@
 // The unroller: writes the run that a fold unrolls to.
 mod write;
 
-use format::Format;
 use format::Unrolled;
 use reader::measure;
 use write::Place;
 use write::put_sequence;
 ghost use mathlib.Core.Path.{_≡_};
-ghost use lib.ListN.{length};
-ghost use Rattle.unroller.specs.Unrolling.{unrolling, unroll-answer, unroll-output};
+ghost use lib.ListN.{length, take};
+ghost use Rattle.format.specs.Readings.{measured};
+ghost use Rattle.format.specs.Meaning.{Means};
+ghost use Rattle.unroller.specs.Unrolling.{unroll-answer, unroll-output};
 
-// Refusals 12, 1 and 3 to 10, then 14 where the output is shorter than the run; or the length written.
+// Refusals 12, 1 and 3 to 10, then 14 where the output is shorter than the run; or the length written. What it writes is, in
+// the report's words, the run that the fold means.
 pub fn unroll(fold: &[u8], limit: usize, out: &mut [u8]) -> Unrolled
-    ensures answered { λ r. ⌜ r ≡ unroll-answer (unrolling (now (fold .entry)) limit) (length (now (out .entry))) ⌝ }
-    ensures written { λ _. ⌜ now (out .exit) ≡ unroll-output (unrolling (now (fold .entry)) limit) (now (out .entry)) ⌝ }
+    ensures answered { λ r. ⌜ r ≡ unroll-answer (measured (now (fold .entry)) limit) (length (now (out .entry))) ⌝ }
+    ensures written { λ _. ⌜ now (out .exit) ≡ unroll-output (measured (now (fold .entry)) limit) (now (out .entry)) ⌝ }
+    ensures meant { λ r. ⌜ (r .refusal ≡ 0 → Means limit (now (fold .entry)) (take (r .length) (now (out .exit)))) ⌝ }
 {
-    if Format::WIDTH < limit {
-        return Unrolled {
-            refusal: 12,
-            place: 0,
-            length: 0,
-        };
-    }
     // The whole fold is read before a byte is written: only then are its refusals and the length known.
     let m = measure(fold, limit);
     if m.refusal != 0 {

@@ -2,9 +2,13 @@
 -- five numbers.
 use borrow.Author.Needs.{needs}
 use mathlib.Core.Path.{ap, _∙_}
+use Prim.Native.Nat.{ℕ}
 use native.Mathlib.Omega.{arith}
+use lib.ListN.{take}
+use Rattle.format.specs.Limits.{priced}
+use Rattle.optimum.specs.Demands.{CheapestWithin, MinimumTree}
 use Rattle.embed.specs.Answers.{of-fold}
-use Rattle.embed.proofs.Entries.{short-status, short-kept, short-entries, long-kept, stored, cheapest-stored}
+use Rattle.embed.proofs.Entries.{short-status, short-kept, short-entries, long-kept, stored, of-stored}
 use Rattle.embed.proofs.runfold_fold.Statement.{statement}
 use Rattle.embed.proofs.runfold_fold.Tie as tie
 
@@ -15,7 +19,16 @@ returns c =
       short-status a short _,
       (
         short-entries a short _,
-        (short-kept a short _ _, (short-kept a short _ _, (short-kept a short _ _, λ z. absurd (omega (arith, z))))),
+        (
+          short-kept a short _ _,
+          (
+            short-kept a short _ _,
+            (
+              short-kept a short _ _,
+              (λ z. absurd (omega (arith, z)), (λ z. absurd (omega (arith, z)), λ z. absurd (omega (arith, z)))),
+            ),
+          ),
+        ),
       ),
     )
 
@@ -42,12 +55,18 @@ returns-2 c =
     let after = c .before .before in
     let done = after .before .before .before .before .before .before .before .before in
     let entry = done .before .before .before .before in
-    let a = entry .before .before .before .before .before .before .before .args .answer .now in
+    let args = entry .before .before .before .before .before .before .before .args in
+    let a = args .answer .now in
     let long = entry .if1 .left in
     let said = done .fold .ensures in
     let five = after .store .ensures in
     let answer = of-fold (done .fold .result) in
-    let numbers = stored a long _ answer _ (ap of-fold (said .0)) five in (
+    let numbers = stored a long _ answer _ (ap of-fold (said .0)) five in
+    let table = args .table .now in
+    let demand = said .1 .1 .1 .1 in
+    let out = done .fold .last .1 .1 .1 .1 .1 .1 .1 .0 in
+    let Q : ℕ → ℕ → Type 0 = λ n m. CheapestWithin (args .run .now) (args .limit) (priced table (args .first) (args .each)) (take n out) m in
+    let S : ℕ → ℕ → Type 0 = λ n m. MinimumTree (args .run .now) (args .limit) table (args .first) (args .each) (take n out) in (
       numbers .0,
       (
         numbers .1,
@@ -57,7 +76,10 @@ returns-2 c =
             said .1 .1 .0 ∙ long-kept a long _ _,
             (
               said .1 .1 .1 .0 ∙ long-kept a long _ _,
-              λ z. cheapest-stored _ _ _ _ _ answer _ five (said .1 .1 .1 .1 z),
+              (
+                λ z. of-stored Q _ answer _ five (demand .0 z),
+                (λ z. of-stored S _ answer _ five (demand .1 .0 z), demand .1 .1),
+              ),
             ),
           ),
         ),

@@ -1,13 +1,15 @@
 -- `embed::runfold_read_fold` meets its contract: the fold reader's answer, stored as five numbers.
 use borrow.Author.Needs.{needs}
-use Rattle.embed.proofs.Entries.{short-status, short-entries, stored}
+use native.Mathlib.Omega.{arith}
+use Rattle.format.specs.Meaning.{MeansAtCost}
+use Rattle.embed.proofs.Entries.{short-status, short-entries, stored, of-stored}
 use Rattle.embed.proofs.runfold_read_fold.Statement.{statement}
 use Rattle.embed.proofs.runfold_read_fold.Tie as tie
 
 returns : tie.Need-returns
 returns c =
     let a = c .before .before .before .before .args .answer .now in
-    (short-status a (c .if1 .taken) _, short-entries a (c .if1 .taken) _)
+    (short-status a (c .if1 .taken) _, (short-entries a (c .if1 .taken) _, λ z. absurd (omega (arith, z))))
 
 read-fold-requires : tie.Need-read-fold-requires
 read-fold-requires c κs = search needs
@@ -21,8 +23,12 @@ same-length c = search needs
 returns-2 : tie.Need-returns-2
 returns-2 c =
     let done = c .before .before .before .before in
-    stored (done .before .before .before .before .before .args .answer .now) (done .before .if1 .left) _ (done .read-fold .result) _
-    (done .read-fold .ensures) (c .before .before .store .ensures)
+    let a = done .before .before .before .before .before .args in
+    let said = done .read-fold .ensures in
+    let five = c .before .before .store .ensures in
+    let numbers = stored (a .answer .now) (done .before .if1 .left) _ (done .read-fold .result) _ (said .0) five in
+    let Q = MeansAtCost (a .limit) (a .costs .now) (a .first) (a .each) (a .fold .now) in
+    (numbers .0, (numbers .1, λ z. of-stored Q _ (done .read-fold .result) _ five (said .1 z)))
 
 pub runfold-read-fold-spec : {M : Type 1} → statement M
 runfold-read-fold-spec =

@@ -1,8 +1,12 @@
 -- `embed::runfold_unroll` meets its contract: what the unroller writes, and its answer stored as five numbers.
 use borrow.Author.Needs.{needs}
 use mathlib.Core.Path.{ap, _∙_}
+use Prim.Native.Nat.{ℕ}
+use native.Mathlib.Omega.{arith}
+use lib.ListN.{take}
+use Rattle.format.specs.Meaning.{Means}
 use Rattle.embed.specs.Answers.{of-unroll}
-use Rattle.embed.proofs.Entries.{short-status, short-kept, short-entries, long-kept, stored}
+use Rattle.embed.proofs.Entries.{short-status, short-kept, short-entries, long-kept, stored, of-stored}
 use Rattle.embed.proofs.runfold_unroll.Statement.{statement}
 use Rattle.embed.proofs.runfold_unroll.Tie as tie
 
@@ -10,7 +14,7 @@ returns : tie.Need-returns
 returns c =
     let a = c .before .before .before .before .args .answer .now in
     let short = c .if1 .taken in
-    (short-status a short _, (short-entries a short _, short-kept a short _ _))
+    (short-status a short _, (short-entries a short _, (short-kept a short _ _, λ z. absurd (omega (arith, z)))))
 
 unroll-requires : tie.Need-unroll-requires
 unroll-requires c κs = search needs
@@ -28,11 +32,15 @@ returns-2 : tie.Need-returns-2
 returns-2 c =
     let done = c .before .before .before .before .before .before in
     let entry = done .before .before in
-    let a = entry .before .before .before .before .args .answer .now in
+    let args = entry .before .before .before .before .args in
+    let a = args .answer .now in
     let long = entry .if1 .left in
     let said = done .unroll .ensures in
-    let numbers = stored a long _ (of-unroll (done .unroll .result)) _ (ap of-unroll (said .0)) (c .before .before .store .ensures) in
-    (numbers .0, (numbers .1, said .1 ∙ long-kept a long _ _))
+    let five = c .before .before .store .ensures in
+    let answer = of-unroll (done .unroll .result) in
+    let numbers = stored a long _ answer _ (ap of-unroll (said .0)) five in
+    let Q : ℕ → ℕ → Type 0 = λ n m. Means (args .limit) (args .fold .now) (take n (done .unroll .last .1 .1 .0)) in
+    (numbers .0, (numbers .1, (said .1 .0 ∙ long-kept a long _ _, λ z. of-stored Q _ answer _ five (said .1 .1 z))))
 
 pub runfold-unroll-spec : {M : Type 1} → statement M
 runfold-unroll-spec =

@@ -21,7 +21,7 @@ returns c =
     let u = c .before .before .before .before in
     let f = u .before .before .before .before in
     let a = f .before .before .before .before .before .args in
-    unroll-filled (a .fold .now) (a .limit) (a .text .now) _ _ _ _ _ (f .fill-bytes .ensures) (u .unroll .ensures .0) (u .unroll .ensures .1)
+    unroll-filled (a .fold .now) (a .limit) (a .text .now) _ _ _ _ _ (f .fill-bytes .ensures) (u .unroll .ensures .0) (u .unroll .ensures .1 .0)
     (c .unrolled .ensures)
 
 pub unrolls-spec : {M : Type 1} → statement M

@@ -1,0 +1,47 @@
+-- What a well-formed fold unrolls to is a run, which the run reader accepts; and what the run reader accepts is the byte form of a
+-- sound tree.
+use mathlib.Core.Path.{_≡_, refl, sym, ap, _∙_}
+use mathlib.Core.List.{List}
+use Prim.Native.Nat.{ℕ}
+use native.Mathlib.Omega.{arith}
+use Rattle.format.specs.Limits.{Prices}
+use Rattle.format.specs.Order.{Bytes}
+use Rattle.format.specs.Forest.{Forest, at-most, Sound, unroll, bytes}
+use Rattle.format.specs.Machine.{Outcome, refused, accepted, read}
+use Rattle.format.specs.Readings.{run-rules, fold-rules, run-answer, run-reading}
+use Rattle.format.specs.Shape.{Shaped}
+use Rattle.format.specs.Tree.{tree-of}
+use Rattle.format.proofs.Forests.{nodes-unroll, plain-unroll, sound-unroll, coded-unroll, group-depth-unroll, repeat-depth-plain, widest-plain}
+use Rattle.format.proofs.Bridge.{accepts, parses, sound-within}
+use Rattle.format.proofs.Refusals.{refused-some}
+use Rattle.format.proofs.Tree.{tree-of-bytes}
+
+module _ (k : ℕ) (P : Prices) (f : Forest) (z : Shaped (fold-rules k P) f) where
+  pub unrolled-shape : Shaped run-rules (unroll f)
+  unrolled-shape =
+      let p = plain-unroll f in
+      let s = sound-unroll (at-most k) f (z .sound) in
+      record {
+        coded = coded-unroll f (z .coded);
+        sound = sound-within (at-most k) (at-most 0) (unroll f) (omega (arith, widest-plain (unroll f) p)) s;
+        plain = λ e. p;
+        groups = omega (arith, group-depth-unroll f, z .groups);
+        repeats = omega (arith, repeat-depth-plain (unroll f) p);
+        total = omega (arith, nodes-unroll f, z .total);
+      }
+
+  pub unrolled-run : run-reading (bytes (unroll f)) .refusal ≡ 0
+  unfolding run-reading
+  unrolled-run = rw (accepts run-rules (unroll f) unrolled-shape)
+
+pub run-tree : (s : List ℕ) → Bytes s → run-reading s .refusal ≡ 0 → (bytes (tree-of s) ≡ s) × Sound (at-most 0) (tree-of s)
+unfolding run-reading
+run-tree s small z = by-outcome (read run-rules s) refl
+  where
+    by-outcome : (o : Outcome) → read run-rules s ≡ o → (bytes (tree-of s) ≡ s) × Sound (at-most 0) (tree-of s)
+    by-outcome (refused n p) e =
+        absurd (refused-some run-rules s n p e (sym (ap (λ (o : Outcome). run-answer o .refusal) e) ∙ z))
+    by-outcome (accepted t x) e =
+        let r = parses run-rules s small t x e in
+        let same : tree-of s ≡ r .tree = ap tree-of (sym (r .form)) ∙ tree-of-bytes (r .tree) in
+        (rw same (r .form), rw same (r .shape .sound))

@@ -1,0 +1,78 @@
+-- The report's own problem: the cheapest fold of a run is, by the report's size, a smallest tree of its width that represents
+-- the run.
+use mathlib.Core.Path.{_≡_, refl, sym, ap, subst, _∙_}
+use mathlib.Core.List.{List}
+use Prim.Native.Nat.{ℕ, _≤_}
+use native.Mathlib.Omega.{arith}
+use Rattle.format.specs.Limits.{limits, Prices, priced}
+use Rattle.format.specs.Order.{Bytes}
+use Rattle.format.specs.Forest.{Forest, unroll, cost, bytes, at-most, Sound}
+use Rattle.format.specs.Machine.{accepted, read}
+use Rattle.format.specs.Readings.{run-rules, fold-rules}
+use Rattle.format.specs.Shape.{Reads}
+use Rattle.format.specs.Tree.{tree-of}
+use Rattle.format.specs.Meaning.{Means, report, report-size}
+use Rattle.format.specs.Report.{RRT, Valid, WidthAtMost, Represents}
+use Rattle.format.specs.declared.Tally.{Tally}
+use Rattle.format.proofs.Forests.{coded-bytes}
+use Rattle.format.proofs.Bridge.{sound-widest, sound-within}
+use Rattle.format.proofs.Tree.{tree-of-bytes}
+use Rattle.format.proofs.Report.{reads-mean, cost-size, fold-of, report-fold-of, sound-fold-of, represents-run}
+use Rattle.optimum.specs.Optimal.{FoldOf}
+use Rattle.optimum.specs.Demands.{CheapestWithin, MinimumTree}
+use Rattle.optimum.proofs.Demands.{form, tree-fold, tree-cost, fold-shaped, is-fold, run-form, run-shape}
+
+module _ (s : List ℕ) (small : Bytes s) (t : Tally) (x : List ℕ) (run : read run-rules s ≡ accepted t x)
+    (k : ℕ) (narrow : k ≤ limits .width) (table : List ℕ) (first each : ℕ) (f : List ℕ) (c : ℕ) (written : Bytes f)
+    (best : CheapestWithin s k (priced table first each) f c) where
+  abbrev P : Prices
+  P = priced table first each
+
+  abbrev u : Forest
+  u = tree-of s
+
+  spelled : bytes u ≡ s
+  spelled = run-form s small t x run
+
+  cheapest : CheapestWithin (bytes u) k P f c
+  cheapest = subst (λ (r : List ℕ). CheapestWithin r k P f c) (sym spelled) best
+
+  meaning : Means k f s
+  meaning =
+      let r = form k P u f c written (cheapest .fold) in
+      let again : Reads (fold-rules k P) f (cheapest .fold .formed .tally) (bytes u) =
+      record {
+        tree = r .tree;
+        form = r .form;
+        shape = fold-shaped k P u (r .tree) (run-shape s small t x run) (tree-fold k P u f c written (cheapest .fold));
+        counts = r .counts;
+        text = r .text;
+      } in
+      rw spelled at (reads-mean k P f (cheapest .fold .formed .tally) (bytes u) again)
+
+  -- The size of the fold's tree is its cost.
+  sized : report-size table first each (report (tree-of f)) ≡ c
+  sized =
+      let r = form k P u f c written (cheapest .fold) in
+      let e : tree-of f ≡ r .tree = ap tree-of (sym (r .form)) ∙ tree-of-bytes (r .tree) in
+      rw e (sym (cost-size table first each (r .tree)) ∙ tree-cost k P u f c written (cheapest .fold))
+
+  module _ (r : RRT ℕ) (valid : Valid r) (within : WidthAtMost k r) (represented : Represents r (report u)) where
+    rival : FoldOf (at-most k) u (fold-of r)
+    rival =
+        let shape = run-shape s small t x run in
+        let sound = sound-fold-of (at-most k) r valid within in
+        let sound-run : Sound (at-most k) u =
+        sound-within (at-most 0) (at-most k) u (omega (arith, sound-widest (at-most 0) u (shape .sound))) (shape .sound) in
+        record { sound = sound; unrolls = represents-run (at-most k) (fold-of r) u sound sound-run .0 (rw report-fold-of represented) }
+
+    no-smaller : report-size table first each (report (tree-of f)) ≤ report-size table first each r
+    no-smaller =
+        let g = fold-of r in
+        let shape = run-shape s small t x run in
+        let coded = coded-bytes g (fold-shaped k P u g shape rival .coded) in
+        let l : c ≤ cost P g = cheapest .no-cheaper (bytes g) (cost P g) coded (is-fold k narrow P u shape g rival) in
+        omega (arith, sized, cost-size table first each g ∙ ap (report-size table first each) (report-fold-of r))
+
+  pub cheapest-minimum : MinimumTree s k table first each f
+  cheapest-minimum = record { means = meaning; smallest = no-smaller }
