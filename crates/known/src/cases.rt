@@ -82,7 +82,7 @@ fn known(name: &[u8], run: &[u8], limit: usize, first: u16, each: u16, fold: &[u
         right = false;
     }
     if !right {
-        difference(name, run);
+        difference(name);
     }
 }
 
@@ -238,6 +238,6 @@ pub fn thousand() {
         right = false;
     }
     if !right {
-        difference(b"1024 a's", &out);
+        difference(b"1024 a's");
     }
 }

@@ -48,7 +48,7 @@ fn show(name: &[u8], run: &[u8], lengths: &[u8]) {
     number(b" offsets of ", lengths.len() as u64);
     word(b"\n");
     if right != lengths.len() {
-        difference(name, run);
+        difference(name);
     }
 }
 
@@ -62,7 +62,7 @@ fn siblings(name: &[u8], run: &[u8], a: usize, b: usize, equal: bool) {
         word(b": not equal\n");
     }
     if same != equal {
-        difference(name, run);
+        difference(name);
     }
 }
 

@@ -17,7 +17,7 @@ struct Expected {
 }
 
 // Prints an entry point's refusal, and says where it is another than expected.
-fn told(who: &[u8], refusal: u8, place: usize, e: Expected, right: bool, bytes: &[u8]) {
+fn told(who: &[u8], refusal: u8, place: usize, e: Expected, right: bool) {
     word(who);
     number(b" ", refusal as u64);
     number(b" at ", place as u64);
@@ -30,13 +30,13 @@ fn told(who: &[u8], refusal: u8, place: usize, e: Expected, right: bool, bytes: 
     }
     if !same {
         word(b"\n");
-        difference(who, bytes);
+        difference(who);
     }
 }
 
 fn by_run_reader(run: &[u8], e: Expected) {
     let r = read_run(run);
-    told(b", run reader", r.refusal, r.place, e, r.nodes == 0, run);
+    told(b", run reader", r.refusal, r.place, e, r.nodes == 0);
 }
 
 fn by_fold_reader(fold: &[u8], limit: usize, table: &[u16], e: Expected) {
@@ -48,7 +48,7 @@ fn by_fold_reader(fold: &[u8], limit: usize, table: &[u16], e: Expected) {
     if r.cost != 0 {
         right = false;
     }
-    told(b", fold reader", r.refusal, r.place, e, right, fold);
+    told(b", fold reader", r.refusal, r.place, e, right);
 }
 
 fn by_unroller(fold: &[u8], limit: usize, out: &mut [u8], e: Expected) {
@@ -58,7 +58,7 @@ fn by_unroller(fold: &[u8], limit: usize, out: &mut [u8], e: Expected) {
     if r.length != 0 {
         right = false;
     }
-    told(b", unroller", r.refusal, r.place, e, right, fold);
+    told(b", unroller", r.refusal, r.place, e, right);
 }
 
 // The folder, with as much work and output as is lent.
@@ -73,7 +73,7 @@ fn by_folder(
 ) {
     let c = fold_checked(run, limit, table, 1, 0, costs, choices, out);
     let r = c.answer;
-    told(b", folder", r.refusal, r.place, e, c.right, run);
+    told(b", folder", r.refusal, r.place, e, c.right);
 }
 
 // The folder with room enough.

@@ -5,9 +5,9 @@ use crate::folds::gather;
 use libc::STDOUT_FILENO;
 use reader::read_fold;
 use reader::read_run;
+use reader::wide;
 use std::num::wrapping_add_u64;
 use trying::begins;
-use trying::difference;
 use trying::fold_checked;
 
 // Prices: of the labels 1 and 2, and of a repeat.
@@ -241,11 +241,18 @@ fn compare_all(
     sums
 }
 
-// The line that says on which run the folder and the trial of every fold do not agree. A run here has at most 128 bytes.
+// The loud line of a difference: the bytes of the run on which the folder and the trial of every fold do not agree.
 fn differ(run: &[u8]) {
-    let mut line = [0u8; 320];
-    let n = difference(b"the folder and the trial of every fold", run, &mut line);
-    io::write_all(STDOUT_FILENO, &line[0..n]);
+    io::write_all(
+        STDOUT_FILENO,
+        b"difference in the folder and the trial of every fold: ",
+    );
+    let mut i = 0;
+    while i < run.len() {
+        io::print_hex(STDOUT_FILENO, wide(run[i]) as u64, 2);
+        i += 1;
+    }
+    io::write_all(STDOUT_FILENO, b"\n");
 }
 
 // One run, at some settings, against all its folds.

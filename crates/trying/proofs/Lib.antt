@@ -3,4 +3,3 @@ pub mod Says
 pub mod Fillings
 pub mod Runs
 pub mod Calls
-pub mod Puts

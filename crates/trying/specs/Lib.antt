@@ -1,3 +1,2 @@
 -- What the contracts of `trying` cite.
 pub mod Lent
-pub mod Line

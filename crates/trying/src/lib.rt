@@ -1,7 +1,5 @@
-// What the programs that try the library share: the calls that look at every entry of the lent slices, the line that shows a
-// difference, and small helpers.
+// What the programs that try the library share: the calls that look at every entry of the lent slices, and small helpers.
 mod lent;
-mod line;
 mod small;
 
 pub use lent::Checked;
@@ -10,7 +8,6 @@ pub use lent::fill_bytes;
 pub use lent::fold_checked;
 pub use lent::unrolls;
 pub use lent::untouched;
-pub use line::difference;
 pub use small::above;
 pub use small::product;
 pub use small::put_byte;
