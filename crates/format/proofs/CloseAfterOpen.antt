@@ -12,7 +12,7 @@ use lib.ListN.{length, getD, take, drop}
 use borrow.Author.Tests.{le-ltb, eqb-true, not-false}
 use Rattle.format.specs.Machine.{Rules, State, Open, a-group, a-repeat, Row, _when_, first-of, rows, refusal, read, advance, operands, is-close, in-group, in-repeat, leave-group, leave-repeat, refused}
 use Rattle.format.proofs.Machine.{None, refusal-unknown, Command, step-byte, group-byte, group-end-byte, repeat-byte, repeat-end-byte, other-byte, command, group-end-passed, repeat-passed, repeat-end-passed, total-within}
-use Rattle.format.proofs.Refusals.{Reached, at-start, passed, Because, at-command, left-open, refused-exactly}
+use Rattle.format.proofs.Refusals.{Each, first-each, Reached, at-start, passed, Because, at-command, left-open, refused-exactly}
 
 -- The commands of an open and a close of one kind, group or repeat.
 abbrev pub OneKind : (opening closing : ℕ) → Type 0
@@ -51,21 +51,11 @@ data Shuts (c : ℕ) (st : State) : Type 0 where
   shut-group : c ≡ 0x12 → in-group (st .opens) ≡ true → st .tally .siblings ≡ 0 → Shuts c st
   shut-repeat : c ≡ 0x21 → in-repeat (st .opens) ≡ true → st .tally .siblings ≡ 0 → Shuts c st
 
--- Rows of other numbers.
-abbrev Without : ℕ → List Row → Type 0
-Without n [] = Unit
-Without n (m when b ∷ rs) = (m ≢ n) × Without n rs
-
-never : (n : ℕ) → n ≢ 0 → (rs : List Row) → Without n rs → first-of rs ≡ n → ⊥
-never n some [] w e = some (sym e)
-never n some (m when true ∷ rs) w e = w .0 e
-never n some (m when false ∷ rs) w e = never n some rs (w .1) e
-
 -- Where the only row of a number answers, it applies and none above it does.
-only-row : (n : ℕ) → n ≢ 0 → (above : List Row) (b : Bool) (below : List Row) → Without n above → Without n below
-    → first-of (above ++ n when b ∷ below) ≡ n → None above × (b ≡ true)
+only-row : (n : ℕ) → n ≢ 0 → (above : List Row) (b : Bool) (below : List Row) → Each (λ m. m ≢ n) above
+    → Each (λ m. m ≢ n) below → first-of (above ++ n when b ∷ below) ≡ n → None above × (b ≡ true)
 only-row n some [] true below v w e = (tt, refl)
-only-row n some [] false below v w e = absurd (never n some below w e)
+only-row n some [] false below v w e = absurd (first-each (λ m. m ≢ n) below (omega arith) w e)
 only-row n some (m when true ∷ above) b below v w e = absurd (v .0 e)
 only-row n some (m when false ∷ above) b below v w e =
     let z = only-row n some above b below (v .1) w e in

@@ -10,11 +10,11 @@ use lib.Dec.{ltb, eqb}
 use lib.ListN.{length, getD, take, drop, length-append, length-drop, List·getD-append}
 use borrow.Author.Tests.{le-ltb, ltb-false, ne-eqb}
 use Rattle.format.specs.Limits.{limits, Prices}
-use Rattle.format.specs.Machine.{Rules, State, Row, _when_, first-of, rows, Open, a-group, a-repeat, Outcome, refused, accepted, refusal, scan, read, start, advance, is-node, is-known, operands, open-groups, in-group, leave-group, place-of, at-end}
+use Rattle.format.specs.Machine.{Rules, State, rows, Open, a-group, a-repeat, Outcome, refused, accepted, refusal, scan, read, start, advance, is-node, is-known, operands, open-groups, in-group, leave-group, place-of, at-end}
 use Rattle.format.specs.Readings.{free, run-rules}
 use Rattle.format.specs.declared.Tally.{Tally}
 use Rattle.format.proofs.Machine.{Command, step-byte, group-byte, group-end-byte, repeat-byte, repeat-end-byte, other-byte, command, refusal-unknown, step-passed, group-passed, group-end-passed, operands-there, scan-pass, scan-refuse}
-use Rattle.format.proofs.Refusals.{Reached, at-start, passed, Because, at-command, left-open, refused-exactly, accepted-exactly}
+use Rattle.format.proofs.Refusals.{first-each, Reached, at-start, passed, Because, at-command, left-open, refused-exactly, accepted-exactly}
 
 -- What the first of two lists has is not changed by the second.
 module _ (x y : List ℕ) where
@@ -133,22 +133,12 @@ reached-below r = let b = bounded r in omega arith
 pub accepted-short : (s : List ℕ) (t : Tally) (x : List ℕ) → read run-rules s ≡ accepted t x → length s ≤ 3072
 accepted-short s t x out = reached-below (accepted-exactly run-rules s t x .0 out .reached)
 
--- Rows that have another number than n.
-abbrev Without : ℕ → List Row → Type 0
-Without n [] = Unit
-Without n (m when b ∷ rs) = (m ≢ n) × Without n rs
-
-never : (n : ℕ) (rs : List Row) → n ≢ 0 → Without n rs → first-of rs ≢ n
-never n [] some w e = some (sym e)
-never n (m when true ∷ rs) some w e = w .0 e
-never n (m when false ∷ rs) some w e = never n rs some (w .1) e
-
 -- A command whose operands are there is not refused with 3, and no command has more than four.
 not-missing : (R : Rules) (st : State) (c : ℕ) (rest : List ℕ) → operands c ≤ length rest → refusal R st c rest ≢ 3
 unfolding refusal
 not-missing R st c rest h e =
     let rs = rows R st c rest in
-    never 3 (take 2 rs ++ drop 3 rs) (omega arith) (omega arith) (rw (le-ltb _ _ h) at e)
+    first-each (λ n. n ≢ 3) (take 2 rs ++ drop 3 rs) (omega arith) (omega arith) (rw (le-ltb _ _ h) at e)
 
 at-most-four : (node repeat : Bool) → cond node 1 (cond repeat 4 0) ≤ 4
 at-most-four true b = omega arith

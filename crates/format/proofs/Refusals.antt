@@ -64,19 +64,20 @@ pub refusal-exactly : (R : Rules) (st : State) (c : ℕ) (rest : List ℕ) (n : 
 unfolding refusal
 refusal-exactly R st c rest n some = first-exactly (rows R st c rest) n some
 
+-- What holds of 0 and of every row's number holds of the first that applies.
+abbrev pub Each : (ℕ → Type 0) → List Row → Type 0
+Each Q [] = Unit
+Each Q (n when b ∷ rs) = Q n × Each Q rs
+
+pub first-each : (Q : ℕ → Type 0) (rs : List Row) → Q 0 → Each Q rs → Q (first-of rs)
+first-each Q [] z q = z
+first-each Q (n when true ∷ rs) z q = q .0
+first-each Q (n when false ∷ rs) z q = first-each Q rs z (q .1)
+
 -- The numbers of the table are 1 to 10.
-abbrev UpToTen : List Row → Type 0
-UpToTen [] = Unit
-UpToTen (n when b ∷ rs) = (n ≤ 10) × UpToTen rs
-
-first-small : (rs : List Row) → UpToTen rs → first-of rs ≤ 10
-first-small [] z = omega arith
-first-small (n when true ∷ rs) z = z .0
-first-small (n when false ∷ rs) z = first-small rs (z .1)
-
 refusal-small : (R : Rules) (st : State) (c : ℕ) (rest : List ℕ) → refusal R st c rest ≤ 10
 unfolding refusal rows
-refusal-small R st c rest = first-small (rows R st c rest) (omega arith)
+refusal-small R st c rest = first-each (λ n. n ≤ 10) (rows R st c rest) (omega arith) (omega arith)
 
 open-end : (p : ℕ) (os : List Open) (st : State) → 0 < length os → at-end p os st ≡ refused 3 p
 open-end p [] st some = absurd (omega arith)
