@@ -10,7 +10,7 @@ use lib.ListN.{length, take, drop, replicate}
 use lib.Seq.{take-append-seam}
 use Rattle.format.specs.Limits.{limits, priced}
 use Rattle.format.specs.Order.{Bytes}
-use Rattle.format.specs.Forest.{bytes}
+use Rattle.format.specs.Forest.{bytes, at-most}
 use Rattle.format.specs.Machine.{Outcome, refused, accepted, read}
 use Rattle.format.specs.Readings.{run-rules, run-answer, run-reading}
 use Rattle.format.specs.Tree.{tree-of}
@@ -21,7 +21,6 @@ use Rattle.format.proofs.Bridge.{sound-widest, sound-within}
 use Rattle.optimum.specs.Cheapest.{cheapest}
 use Rattle.optimum.proofs.Cheapest.{cheapest-optimal}
 use Rattle.optimum.proofs.Demands.{run-shape, run-nodes}
-use Rattle.folder.specs.Table.{at-most}
 use Rattle.folder.specs.Folding.{Verdict, refuses, folds, of-run, folding, fold-answer, fold-output}
 use Rattle.fold.specs.Text.{three-lines, refusal-line}
 use Rattle.fold.specs.Printed.{lines-of, printed}

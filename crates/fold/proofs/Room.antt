@@ -9,7 +9,7 @@ use lib.ListN.{length, length-append}
 use Rattle.format.specs.Forest.{Forest, end, step, group, repeat, Allowed, Sound, siblings, nodes, bytes, unroll}
 use Rattle.format.proofs.Depth.{siblings-nodes}
 use Rattle.format.proofs.Forests.{nodes-unroll}
-use Rattle.folder.specs.Table.{cells}
+use Rattle.table.specs.Table.{cells}
 
 short-form : (A : Allowed) (f : Forest) → Sound A f → length (bytes f) ≤ 6 * nodes f - 4
 unfolding bytes nodes

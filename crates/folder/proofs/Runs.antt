@@ -9,17 +9,17 @@ use lib.ListN.{length, getD, drop, set, length-set, replicate, length-drop}
 use borrow.Author.Tests.{lt-ltb, le-ltb}
 use lib.Seq.{getD-set-same, getD-set-other, getD-drop, ext-getD}
 use Rattle.format.specs.Limits as limits
-use Rattle.format.specs.Forest.{Forest, end, step, group, repeat, Plain, siblings, nodes, bytes}
+use Rattle.format.specs.Forest.{Forest, end, step, group, repeat, Plain, siblings, nodes, bytes, at-most}
 use Rattle.format.specs.Tree.{tree-of}
 use Rattle.optimum.specs.Cheapest.{back, cheapest, best-cost}
 use Rattle.optimum.proofs.Cut.{front-whole}
 use Rattle.optimum.proofs.Cheapest.{best-cost-end}
-use Rattle.folder.specs.Table.{Filled, Kept, cells, cell, number, stretch, at-most, prices-of}
-use Rattle.folder.specs.Rows.{LevelReady}
-use Rattle.folder.specs.Writing.{WriteReady, FoldLength, FoldRoom, FoldWritten}
+use Rattle.table.specs.Table.{Filled, Kept, cells, cell, number, stretch}
+use Rattle.filling.specs.Filling.{prices-of, LevelReady}
+use Rattle.writer.specs.Writing.{WriteReady, FoldLength, FoldRoom, FoldWritten}
 use Rattle.folder.specs.Run.{PriceList, RunFolded}
-use Rattle.folder.proofs.Cells.{cell-in}
-use Rattle.folder.proofs.Tables.{number-first, number-last}
+use Rattle.table.proofs.Cells.{cell-in}
+use Rattle.table.proofs.Tables.{number-first, number-last}
 
 -- The prices of the counts below h are in place.
 pub record PricesUpto (first each h : ℕ) (prices : List ℕ) : Type 0 where

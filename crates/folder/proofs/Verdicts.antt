@@ -12,7 +12,7 @@ use lib.Seq.{take-at}
 use borrow.Author.Tests.{lt-ltb, ltb-true, le-ltb, eq-eqb, ne-eqb}
 use Rattle.format.specs.Limits.{limits, Prices, priced, of-repeat}
 use Rattle.format.specs.Order.{Bytes}
-use Rattle.format.specs.Forest.{nodes, bytes}
+use Rattle.format.specs.Forest.{nodes, bytes, at-most}
 use Rattle.format.specs.Machine.{Outcome, refused, accepted, read}
 use Rattle.format.specs.Readings.{run-rules, run-answer, run-reading}
 use Rattle.format.specs.Tree.{tree-of}
@@ -25,8 +25,9 @@ use Rattle.optimum.specs.Cheapest.{cheapest, best-cost}
 use Rattle.optimum.specs.Demands.{CheapestWithin, CheapestOver, MinimumTree}
 use Rattle.optimum.proofs.Demands.{run-form, run-shape, run-nodes, cheapest-small, cheapest-bytes}
 use Rattle.optimum.proofs.Minimum.{cheapest-minimum}
-use Rattle.folder.specs.Table.{Spelled, Prepared, cells, at-most, prices-of}
-use Rattle.folder.specs.Rows.{LevelReady}
+use Rattle.table.specs.Listing.{Spelled}
+use Rattle.filling.specs.Filling.{Prepared, prices-of, LevelReady}
+use Rattle.table.specs.Table.{cells}
 use Rattle.folder.specs.Folding.{Verdict, refuses, folds, of-run, folding, fold-answer, fold-output, fold-work}
 use Rattle.folder.specs.Run.{PriceList, RunFolded}
 

@@ -10,7 +10,7 @@ use Rattle.format.specs.Machine.{read}
 use Rattle.format.specs.Readings.{run-rules}
 use Rattle.format.specs.declared.Folded.{Folded}
 pub use Rattle.optimum.specs.Verdict.{Verdict, refuses, folds, of-run}
-use Rattle.folder.specs.Table.{cells}
+use Rattle.table.specs.Table.{cells}
 
 -- 11 for the table, then 12 for the limit, then the run's own refusals.
 unfoldable pub folding : List ℕ → (limit : ℕ) → (table : List ℕ) → (first each : ℕ) → Verdict

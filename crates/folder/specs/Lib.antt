@@ -1,6 +1,3 @@
--- The table of the folder and what each of its functions promises; the folder's answer.
-pub mod Table
-pub mod Rows
-pub mod Writing
+-- The folder's answer, and what its outer functions promise.
 pub mod Folding
 pub mod Run

@@ -10,7 +10,8 @@ use Rattle.format.specs.Forest.{bytes}
 use Rattle.format.specs.Tree.{tree-of}
 use Rattle.format.specs.declared.Folded.{Folded}
 use Rattle.optimum.specs.Cheapest.{cheapest, best-cost}
-use Rattle.folder.specs.Table.{cells, at-most}
+use Rattle.table.specs.Table.{cells}
+use Rattle.format.specs.Forest.{at-most}
 
 -- The list of repeat prices: entry h is first + each × (h − 2) from h = 2 on, entries 0 and 1 are 0.
 pub record PriceList (first each : ℕ) (prices : List ℕ) : Type 0 where

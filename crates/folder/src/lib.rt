@@ -1,33 +1,26 @@
 // The folder: the cheapest fold of a run under a width limit, ties by byte order. One table serves the whole tree; only lent
 // memory holds it.
-mod keys;
-mod level;
-mod listing;
-mod row;
-mod table;
-mod write;
-
 use format::Folded;
 use format::Format;
-use level::enter_tree;
+use filling::enter_tree;
 use reader::read_run;
 use reader::wide_cost;
 use table::clear;
 use table::entries;
 use table::entry;
 use table::widen;
-use write::fold_length;
-use write::put_fold;
+use writer::fold_length;
+use writer::put_fold;
 ghost use mathlib.Core.Path.{_≡_};
 ghost use Prim.Native.Nat.{_+_, _-_, _*_, _<_, _≤_};
 ghost use lib.ListN.{length, getD, take};
 ghost use Rattle.format.specs.Limits.{priced};
 ghost use Rattle.optimum.specs.Demands.{CheapestWithin, CheapestOver, MinimumTree};
-ghost use Rattle.folder.specs.Table.{cells, cell, prices-of};
+ghost use Rattle.table.specs.Table.{cells, cell};
+ghost use Rattle.filling.specs.Filling.{prices-of, LevelReady};
 ghost use Rattle.format.specs.Forest.{nodes};
 ghost use Rattle.format.specs.Tree.{tree-of};
-ghost use Rattle.folder.specs.Rows.{LevelReady};
-ghost use Rattle.folder.specs.Writing.{FoldRoom, FoldWritten};
+ghost use Rattle.writer.specs.Writing.{FoldRoom, FoldWritten};
 ghost use Rattle.folder.specs.Folding.{folding, fold-answer, fold-output, fold-work};
 ghost use Rattle.folder.specs.Run.{RunFolded, PriceList};
 

@@ -2,7 +2,7 @@
 use borrow.Author.Needs.{needs}
 use native.Mathlib.Omega.{arith}
 use Rattle.folder.proofs.Runs.{Worked, write-ready, few-nodes, cost-room, choice-room, fold-room, whole-is, folded-short, folded-whole}
-use Rattle.folder.proofs.Levels.{scratch-none}
+use Rattle.filling.proofs.Levels.{scratch-none}
 use Rattle.folder.proofs.fold_run.Statement.{statement}
 use Rattle.folder.proofs.fold_run.Tie as tie
 

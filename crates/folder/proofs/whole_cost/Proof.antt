@@ -4,7 +4,7 @@ use mathlib.Core.Path.{ap, _∙_}
 use Prim.Native.Nat.{ℕ}
 use native.Mathlib.Omega.{arith}
 use lib.ListN.{getD}
-use Rattle.folder.proofs.Cells.{cell-in}
+use Rattle.table.proofs.Cells.{cell-in}
 use Rattle.folder.proofs.whole_cost.Statement.{statement}
 use Rattle.folder.proofs.whole_cost.Tie as tie
 

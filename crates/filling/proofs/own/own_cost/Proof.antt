@@ -1,0 +1,130 @@
+-- `filling::own::own_cost` meets its contract. The first byte tells a step from a group, and what a group holds has its entry.
+use Prim.Native.Nat.{_+_, _-_, _<_, _≤_}
+use mathlib.Core.Path.{_≡_}
+use native.Mathlib.Omega.{arith}
+use borrow.Author.Needs.{needs}
+use lib.ListN.{getD, length}
+use Rattle.format.specs.Tree.{tree-of}
+use Rattle.table.specs.Table.{cell}
+use Rattle.table.proofs.Tables.{falling-most}
+use Rattle.table.proofs.Listings.{Sibling, sibling-first, sibling-long, place-most}
+use Rattle.filling.proofs.Singles.{own-step, own-inside, own-cell, own-group}
+use Rattle.filling.proofs.own.own_cost.Statement.{statement}
+use Rattle.filling.proofs.own.own_cost.Tie as tie
+
+-- Its two first bytes, and what it is by them.
+long : (S : tie.Start) → getD (S .args .offsets .now) (S .args .i) 0 + 2 ≤ length (S .args .s .now)
+long S =
+    omega (
+      arith,
+      S .pre .1 .0 .1 .offset (S .args .i) (omega arith),
+      sibling-long _ (S .pre .0) (S .args .i) (S .pre .1 .1 .0 .0),
+      place-most _ (S .pre .0) (S .args .i + 1),
+    )
+
+first : (S : tie.Start)
+    → Sibling (tree-of (S .args .s .now)) (S .args .i) (getD (S .args .s .now) (getD (S .args .offsets .now) (S .args .i) 0) 0)
+    (getD (S .args .s .now) (getD (S .args .offsets .now) (S .args .i) 0 + 1) 0)
+first S = sibling-first _ (S .pre .0) (S .args .i) (S .pre .1 .1 .0 .0) _ (S .pre .1 .0 .1 .offset (S .args .i) (omega arith))
+
+-- The interval of what a group holds is not empty, and the table has its entry.
+some : (S : tie.Start) → (getD (S .args .s .now) (getD (S .args .offsets .now) (S .args .i) 0) 0 ≡ 0x10 → ⊥)
+    → getD (S .args .numbers .now) (S .args .i + 1) 0 < getD (S .args .numbers .now) (S .args .i) 0 - 1
+some S other = own-inside _ _ _ _ (first S) _ (S .pre .0) (omega arith) (S .pre .1 .1 .1 .1) other
+
+stored : (S : tie.Start) → (getD (S .args .s .now) (getD (S .args .offsets .now) (S .args .i) 0) 0 ≡ 0x10 → ⊥)
+    → cell (getD (S .args .numbers .now) (S .args .i + 1) 0) (getD (S .args .numbers .now) (S .args .i) 0 - 1) < length (S .args .costs .now)
+stored S other = own-cell _ _ _ _ (first S) _ (S .pre .0) (omega arith) (S .pre .1 .1 .1 .1) other _ (S .pre .1 .1 .1 .0)
+
+mul-at : tie.Need-mul-at
+mul-at c = search needs
+
+shared-slice-read-at : tie.Need-shared-slice-read-at
+shared-slice-read-at c = search needs
+
+add-price : tie.Need-add-price
+add-price c = omega (arith, long (c .before .before .before .before .before .before))
+
+shared-slice-read-price : tie.Need-shared-slice-read-price
+shared-slice-read-price c = omega (arith, long (c .before .before .before .before .before .before .before))
+
+price-requires : tie.Need-price-requires
+price-requires c κs = search needs
+
+shared-slice-read-if1 : tie.Need-shared-slice-read-if1
+shared-slice-read-if1 c = omega (arith, long (c .before .before .before .before .before .before .before .before .before))
+
+returns : tie.Need-returns
+returns c =
+    own-step _ _ _ _ (first (c .before .before .before .before .before .before .before .before .before .before)) _ _ _ (c .if1 .taken) _ (c .before .before .price .ensures .0)
+
+add-entry : tie.Need-add-entry
+add-entry c = search needs
+
+mul-entry : tie.Need-mul-entry
+mul-entry c = search needs
+
+shared-slice-read-entry : tie.Need-shared-slice-read-entry
+shared-slice-read-entry c = search needs
+
+mul-entry-2 : tie.Need-mul-entry-2
+mul-entry-2 c = search needs
+
+shared-slice-read-entry-2 : tie.Need-shared-slice-read-entry-2
+shared-slice-read-entry-2 c = search needs
+
+sub-entry : tie.Need-sub-entry
+sub-entry c =
+    let S = c .before .before .before .before .before .before .before .before .before .before .before .before in
+    omega (arith, some S (c .before .before .if1 .left))
+
+entry-requires : tie.Need-entry-requires
+entry-requires c κs =
+    let S = c .before .before .before .before .before .before .before .before .before .before .before .before in
+    (some S (c .before .before .if1 .left), omega (arith, falling-most _ _ _ (S .pre .1 .1 .1 .0) (S .args .i) (omega arith)))
+
+mul-widen : tie.Need-mul-widen
+mul-widen c =
+    let S = c .before .before .before .before .before .before .before .before .before .before .before .before .before in
+    omega (arith, stored S (c .before .before .before .if1 .left), c .entry .ensures, S .good)
+
+shared-slice-read-widen : tie.Need-shared-slice-read-widen
+shared-slice-read-widen c =
+    let S = c .before .before .before .before .before .before .before .before .before .before .before .before .before .before in
+    omega (arith, stored S (c .before .before .before .before .if1 .left), c .before .entry .ensures)
+
+widen-requires : tie.Need-widen-requires
+widen-requires c κs = search needs
+
+add-result : tie.Need-add-result
+add-result c = search needs
+
+returns-2 : tie.Need-returns-2
+returns-2 c =
+    let S = c .before .before .before .before .before .before .before .before .before .before .before .before .before .before .before in
+    own-group _ _ _ _ (first S) _ (S .pre .0) (omega arith) (S .pre .1 .1 .1 .1) (c .before .before .before .before .before .if1 .left) _ _ _
+    (rw (c .before .before .before .before .before .before .before .price .ensures .0, c .widen .ensures .0, c .before .before .entry .ensures))
+
+pub own-cost-spec : {M : Type 1} → statement M
+own-cost-spec =
+    tie.close
+    (tie.spec
+    mul-at
+    shared-slice-read-at
+    add-price
+    shared-slice-read-price
+    price-requires
+    shared-slice-read-if1
+    returns
+    add-entry
+    mul-entry
+    shared-slice-read-entry
+    mul-entry-2
+    shared-slice-read-entry-2
+    sub-entry
+    entry-requires
+    mul-widen
+    shared-slice-read-widen
+    widen-requires
+    add-result
+    returns-2)

@@ -1,0 +1,61 @@
+-- What filling the table rests on: the prices, one sequence with its siblings listed, and the lent arrays that it is worked in.
+use mathlib.Core.Path.{_≡_}
+use mathlib.Core.List.{List}
+use Prim.Native.Nat.{ℕ, _+_, _-_, _<_, _≤_}
+use lib.ListN.{length, getD}
+use Rattle.format.specs.Limits.{Prices, of-repeat}
+use Rattle.format.specs.Forest.{Allowed, siblings, nodes}
+use Rattle.format.specs.Tree.{tree-of}
+use Rattle.optimum.specs.Cheapest.{back, node, best-cost}
+use Rattle.table.specs.Table.{Below, cells}
+use Rattle.table.specs.Listing.{Spelled, Placed, Numbered}
+use Rattle.solver.specs.Rows.{Matches, KeysReady}
+
+-- The prices that a table of labels and a list of repeat prices give.
+abbrev pub prices-of : (table prices : List ℕ) → Prices
+prices-of table prices =
+    record {
+      of-step = λ l. getD table l 0;
+      of-group = λ l. getD table l 0;
+      first = getD prices 2 0;
+      each = getD prices 3 0 - getD prices 2 0;
+    }
+
+-- The list has the price of each count, from labels of 16 bits and repeat prices of 16 bits.
+pub record Prepared (table prices : List ℕ) : Type 0 where
+  pub long : length prices ≡ 1025
+  pub price-of : (h : ℕ) → 2 ≤ h → h ≤ 1024 → getD prices h 0 ≡ of-repeat (prices-of table prices) h
+  pub small : (h : ℕ) → getD prices h 0 ≤ 4294836225
+  pub low : (l : ℕ) → getD table l 0 < 65536
+
+-- All that filling the stretches of one sequence rests on.
+pub record LevelReady (s : List ℕ) (b limit : ℕ) (table prices costs choices : List ℕ) : Type 0 where
+  pub spelled : Spelled s
+  pub total : b + nodes (tree-of s) ≤ 1024
+  pub cost-room : cells (b + nodes (tree-of s)) ≤ length costs
+  pub choice-room : cells (b + nodes (tree-of s)) ≤ length choices
+  pub prepared : Prepared table prices
+
+-- The cost of sibling i by itself, where the sequences inside the groups are entered.
+pub record Single (s table costs numbers : List ℕ) (i r : ℕ) : Type 0 where
+  pub costs-it : (A : Allowed) (P : Prices) (choices : List ℕ) → ((l : ℕ) → P .of-step l ≡ getD table l 0) → ((l : ℕ) → P .of-group l ≡ getD table l 0)
+      → Below A P (getD numbers (siblings (tree-of s)) 0) (tree-of s) costs choices → r ≡ best-cost A P (node i (tree-of s))
+
+-- The siblings of the sequence are listed, and the matches from sibling i on are known.
+pub record RowGround (s offsets numbers : List ℕ) (i m : ℕ) (matches : List ℕ) : Type 0 where
+  pub long-offsets : length offsets ≡ 1025
+  pub placed : Placed s offsets
+  pub long-numbers : length numbers ≡ 1025
+  pub numbered : Numbered (getD numbers m 0) (tree-of s) numbers
+  pub count : siblings (tree-of s) ≡ m
+  pub some : i < m
+  pub long-matches : length matches ≡ 1025
+  pub matched : Matches (back i (tree-of s)) matches
+
+-- The lent arrays that every sequence is worked in, one after the other.
+pub record Scratch (offsets numbers kinds matches keys : List ℕ) : Type 0 where
+  pub long-offsets : length offsets ≡ 1025
+  pub long-numbers : length numbers ≡ 1025
+  pub long-kinds : length kinds ≡ 1025
+  pub long-matches : length matches ≡ 1025
+  pub keys-ready : KeysReady keys

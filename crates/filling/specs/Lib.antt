@@ -1,0 +1,2 @@
+-- What filling the table rests on and promises.
+pub mod Filling

@@ -1,0 +1,5 @@
+// Filling the table: every sequence of the run, the innermost groups first.
+mod level;
+mod own;
+
+pub use level::enter_tree;

@@ -1,0 +1,163 @@
+-- What a row starts from: the matches grown by one sibling, and the width at which the most match.
+use mathlib.Core.Path.{_≡_, refl, sym, _∙_}
+use mathlib.Core.Logic.{_⊎_, inl, inr, ⊎-elim}
+use mathlib.Core.List.{List}
+use Prim.Native.Nat.{ℕ, _+_, _-_, _<_, _≤_}
+use native.Mathlib.Numerals.{add-one}
+use native.Mathlib.Decide.{decLt, ℕ-discrete}
+use native.Mathlib.Omega.{arith}
+use lib.ListN.{length, getD, set, length-set}
+use lib.Seq.{getD-set-same, getD-set-other}
+use Rattle.format.specs.Forest.{Forest, Allowed, siblings}
+use Rattle.optimum.specs.Cheapest.{Run, front, back, node}
+use Rattle.optimum.proofs.Cut.{back-back, siblings-back}
+use Rattle.optimum.proofs.Powers.{node-back, shift-grow}
+use Rattle.table.specs.Listing.{Classed}
+use Rattle.solver.specs.Rows.{Matched, Matches, Growing}
+use Rattle.table.proofs.Listings.{entry-more, equal-kinds, kinds-equal}
+
+-- From sibling i on there is one more than from the next on.
+further : (A : Allowed) (t : Forest) → Run A t → (i : ℕ) → i < siblings t → siblings (back i t) ≡ siblings (back (i + 1) t) + 1
+further A t r i h =
+    omega (arith, siblings-back i t (r .plain) (omega arith), siblings-back (i + 1) t (r .plain) (omega arith))
+
+-- One sibling more in front: the matches at a width grow by one, or there are none.
+module _ (A : Allowed) (t : Forest) (r : Run A t) (i : ℕ) (h : i < siblings t) (w : ℕ) where
+  matched-more : (k : ℕ) → node i t ≡ node (i + w) t → Matched (back (i + 1) t) w k → Matched (back i t) w (k + 1)
+  unfolding back
+  matched-more k e m =
+      let next = back-back i 1 (i + 1) t refl in
+      let same : node 0 (back i t) ≡ node w (back i t) = e ∙ sym (node-back i w (i + w) t refl) in
+      record {
+        shift = rw add-one (shift-grow k w (back i t) same (rw next (m .shift)));
+        bound = omega (arith, m .bound, further A t r i h);
+        stop = λ l q. m .stop (omega (arith, further A t r i h))
+            (node-back (i + 1) k (i + (k + 1)) t (omega arith)
+            ∙ sym (node-back i (k + 1) (i + (k + 1)) t refl)
+            ∙ q
+            ∙ node-back i (k + 1 + w) (i + (k + 1 + w)) t refl
+            ∙ sym (node-back (i + 1) (k + w) (i + (k + 1 + w)) t (omega arith)));
+      }
+
+  matched-none : i + w ≤ siblings t → (i + w < siblings t → node i t ≡ node (i + w) t → ⊥) → Matched (back i t) w 0
+  unfolding front back
+  matched-none l z =
+      let all = siblings-back i t (r .plain) (omega arith) in
+      record {
+        shift = refl;
+        bound = omega arith;
+        stop = λ m q. z (omega arith) (q ∙ node-back i (0 + w) (i + w) t (omega arith));
+      }
+
+-- The matches below width w are grown, the others as they were.
+pub record Grown (kinds : List ℕ) (i w : ℕ) (before after : List ℕ) : Type 0 where
+  pub long : length after ≡ 1025
+  pub low : (v : ℕ) → 0 < v → v < w → getD after v 0 + i ≤ 1024
+  pub more : (v : ℕ) → 0 < v → v < w → getD kinds i 0 ≡ getD kinds (i + v) 0 → getD after v 0 ≡ getD before v 0 + 1
+  pub none : (v : ℕ) → 0 < v → v < w → (getD kinds i 0 ≡ getD kinds (i + v) 0 → ⊥) → getD after v 0 ≡ 0
+  pub later : (v : ℕ) → w ≤ v → getD after v 0 ≡ getD before v 0
+
+pub grown-none : (kinds : List ℕ) (i : ℕ) (before : List ℕ) → length before ≡ 1025 → Grown kinds i 1 before before
+grown-none kinds i before long =
+    record {
+      long = long;
+      low = λ v h l. absurd (omega arith);
+      more = λ v h l e. absurd (omega arith);
+      none = λ v h l e. absurd (omega arith);
+      later = λ v h. refl;
+    }
+
+module _ (kinds : List ℕ) (i w : ℕ) (before after : List ℕ) (g : Grown kinds i w before after) (short : w < 1025) where
+  -- One width more.
+  pub grown-more : (x : ℕ) → getD before w 0 + i < 1024 → (getD kinds i 0 ≡ getD kinds (i + w) 0 → x ≡ getD after w 0 + 1)
+      → ((getD kinds i 0 ≡ getD kinds (i + w) 0 → ⊥) → x ≡ 0) → Grown kinds i (w + 1) before (set after w x)
+  grown-more x h p q =
+      let same = g .later w (omega arith) in
+      let few : x + i ≤ 1024 =
+      elim (ℕ-discrete (getD kinds i 0) (getD kinds (i + w) 0)) [ yes e ↦ omega (arith, p e) | no e ↦ omega (arith, q e) ] in
+      record {
+        long = simp length-set (g .long);
+        low = λ v a l. entry-more (λ u y. 0 < u → y + i ≤ 1024) after w x (omega (arith, g .long)) (λ u k b. g .low u b k) (λ b. few) v l a;
+        more = λ v a l. entry-more (λ u y. 0 < u → getD kinds i 0 ≡ getD kinds (i + u) 0 → y ≡ getD before u 0 + 1) after w x (omega (arith, g .long))
+            (λ u k b. g .more u b k) (λ b e. omega (arith, p e)) v l a;
+        none = λ v a l. entry-more (λ u y. 0 < u → (getD kinds i 0 ≡ getD kinds (i + u) 0 → ⊥) → y ≡ 0) after w x (omega (arith, g .long))
+            (λ u k b. g .none u b k) (λ b. q) v l a;
+        later = λ v l. getD-set-other after w v x 0 (λ e. omega arith) ∙ g .later v (omega arith);
+      }
+
+  -- At the last width nothing is left to match.
+  pub grown-all : (m : ℕ) → i < m → m ≤ 1024 → i + w ≡ m → Growing kinds i m before (set after w 0)
+  grown-all m some few last =
+      record {
+        long = simp length-set (g .long);
+        low = λ v a l. entry-more (λ u y. 0 < u → y + i ≤ 1024) after w 0 (omega (arith, g .long)) (λ u k b. g .low u b k) (λ b. omega arith) v (omega arith) a;
+        matches = matches;
+      }
+    where
+      matches : (A : Allowed) (t : Forest) → Run A t → siblings t ≡ m → Classed t m kinds → Matches (back (i + 1) t) before
+          → Matches (back i t) (set after w 0)
+      matches A t r n c b = record { matched = λ v h l. by-place v h l (decLt v w) }
+        where
+          by-place : (v : ℕ) → 0 < v → v ≤ siblings (back i t) → Dec (v < w) → Matched (back i t) v (getD (set after w 0) v 0)
+          by-place v h l (yes k) = rw (getD-set-other after w v 0 0 (λ e. omega arith)) (by-kind (ℕ-discrete (getD kinds i 0) (getD kinds (i + v) 0)))
+            where
+              by-kind : Dec (getD kinds i 0 ≡ getD kinds (i + v) 0) → Matched (back i t) v (getD after v 0)
+              by-kind (yes e) =
+                  rw (g .more v h k e)
+                  (matched-more A t r i (omega arith) v (getD before v 0)
+                  (equal-kinds t i (i + v) _ _ (c .class i some) (c .class (i + v) (omega arith)) e)
+                  (b .matched v h (omega (arith, further A t r i (omega arith), siblings-back i t (r .plain) (omega arith)))))
+              by-kind (no e) =
+                  rw (g .none v h k e)
+                  (matched-none A t r i (omega arith) v (omega arith)
+                  (λ a q. e (kinds-equal t i (i + v) _ _ (c .class i some) (c .class (i + v) (omega arith)) q)))
+          by-place v h l (no k) =
+              let e : v ≡ w = omega (arith, siblings-back i t (r .plain) (omega arith)) in
+              rw (e, getD-set-same after w 0 0 (omega (arith, g .long)))
+              (matched-none A t r i (omega arith) w (omega arith) (λ a q. omega arith))
+
+-- The width at which the most siblings match: none is found yet, or one below w.
+pub record Farthest (w : ℕ) (same : List ℕ) (most far : ℕ) : Type 0 where
+  pub pos : 0 < most
+  pub within : most ≤ w
+  pub is-far : far ≤ getD same most 0
+  pub all : (v : ℕ) → 0 < v → v < w → getD same v 0 ≤ far
+  pub found : (far ≡ 0) ⊎ (most < w)
+
+pub farthest-none : (same : List ℕ) → Farthest 1 same 1 0
+farthest-none same = record { pos = omega arith; within = omega arith; is-far = omega arith; all = λ v a l. absurd (omega arith); found = inl refl }
+
+module _ (w : ℕ) (same : List ℕ) (most far : ℕ) (t : Farthest w same most far) (k : ℕ) (short : w < length same) where
+  -- What is known of the widths below stays, and of w it is k.
+  upto : (far′ : ℕ) → far ≤ far′ → k ≤ far′ → (v : ℕ) → 0 < v → v < w + 1 → getD (set same w k) v 0 ≤ far′
+  upto far′ a b v p l =
+      entry-more (λ u y. 0 < u → y ≤ far′) same w k short (λ u m q. omega (arith, t .all u q m)) (λ q. b) v l p
+
+  is-still : far ≤ getD (set same w k) most 0
+  is-still = ⊎-elim
+      (λ e. omega arith)
+      (λ l. omega (arith, getD-set-other same w most k 0 (λ e. omega arith), t .is-far))
+      (t .found)
+
+  pub farthest-raised : 0 < w → far < k → Farthest (w + 1) (set same w k) w k
+  farthest-raised p h =
+      record {
+        pos = p;
+        within = omega arith;
+        is-far = rw (getD-set-same same w k 0 short) (omega arith);
+        all = upto k (omega arith) (omega arith);
+        found = inr (omega arith);
+      }
+
+  pub farthest-kept : k ≤ far → Farthest (w + 1) (set same w k) most far
+  farthest-kept h =
+      record {
+        pos = t .pos;
+        within = omega (arith, t .within);
+        is-far = is-still;
+        all = upto far (omega arith) h;
+        found = ⊎-elim inl (λ l. inr (omega arith)) (t .found);
+      }
+
+  pub farthest-most : k ≡ 0 → (v : ℕ) → 0 < v → v < w + 1 → getD (set same w k) v 0 ≤ getD (set same w k) most 0
+  farthest-most z v p l = omega (arith, upto far (omega arith) (omega arith) v p l, is-still)

@@ -1,0 +1,334 @@
+-- Solving a row: the keys that it starts from, what one more solved stretch does to those of longer ones, and the end.
+use mathlib.Core.Path.{_≡_, refl, sym, ap, _∙_}
+use mathlib.Core.Logic.{_⊎_, ⊎-elim}
+use mathlib.Core.List.{List}
+use Prim.Native.Nat.{ℕ, suc, _+_, _-_, _*_, _/_, _%_, _<_, _≤_}
+use native.Mathlib.Nat.{mul-le-mul-right}
+use native.Mathlib.Decide.{decLt, ℕ-discrete}
+use native.Mathlib.Omega.{arith}
+use lib.ListN.{length, getD}
+use Rattle.format.specs.Limits.{Prices, of-repeat}
+use Rattle.format.specs.Forest.{Forest, Allowed, siblings}
+use Rattle.optimum.specs.Cheapest.{Run, front, back, Candidate, Power, Least, usual, rank, best-cost}
+use Rattle.optimum.proofs.Cut.{back-back, run-back, siblings-back, siblings-le-nodes}
+use Rattle.optimum.proofs.Powers.{front-less, reach}
+use Rattle.optimum.proofs.Rank.{rank-usual}
+use Rattle.optimum.proofs.Least.{least-unique}
+use Rattle.table.specs.Table.{Entry, stretch, cost-at}
+use Rattle.solver.specs.Rows.{RowReady, Rowed, RowSolved, KeysReady, Advanced, Started, Settled, Pushed, push, pass, Widened, offer, too-wide, unlike, Matched, BestKey, Keyed, Came, pair-key, offer-key}
+use Rattle.solver.proofs.Offers.{copy-more, near-power, power-near}
+use Rattle.solver.proofs.Stretches.{Modest, fitting, entry-best, best-entry, best-covers, best-low, cost-low, whole-price, whole-candidate, whole-power, first-candidate, first-price, first-key, best-is, keyed-best, best-keyed, best-one, keyed-plain}
+
+-- A pair that may stand first, by its key.
+record Pair (A : Allowed) (P : Prices) (x : Forest) (k : ℕ) : Type 0 where
+  count : ℕ
+  width : ℕ
+  candidate : Candidate A x count width
+  is-key : k ≡ pair-key A P x count width
+
+module _ {costs choices numbers : List ℕ} {i m own limit : ℕ} {prices same : List ℕ} (z : RowReady costs choices numbers i m own limit prices same) where
+  modest : Modest (z .allowed) (z .prices-are) (z .tree)
+  modest = record { run = z .run; few = z .total; step-low = z .step-low; group-low = z .group-low }
+
+  from-here : i + siblings (back i (z .tree)) ≡ m
+  from-here = omega (arith, siblings-back i (z .tree) (z .run .plain) (omega (arith, z .some, z .count)), z .count)
+
+  pub few : m ≤ 1024
+  few = omega (arith, siblings-le-nodes (z .tree) (z .run .plain), z .total, z .count)
+
+  -- The table's entries of the rows further on.
+  entered : (j n : ℕ) → i < j → 0 < n → j + n ≤ m
+      → Entry (z .allowed) (z .prices-are) (stretch (z .tree) j n) (cost-at costs numbers j (j + n)) (cost-at choices numbers j (j + n))
+  entered j n l p h =
+      rw (z .numbers-are .numbered j (omega (arith, z .count)), z .numbers-are .numbered (j + n) (omega (arith, z .count)))
+      (z .rows-below .entry j n (omega arith) p (omega (arith, z .count)))
+
+  -- The cost of what follows the first c of n siblings.
+  rest-cost : (c r n : ℕ) → 0 < c → 0 < r → c + r ≡ n → i + n ≤ m
+      → cost-at costs numbers (i + c) (i + n) ≡ best-cost (z .allowed) (z .prices-are) (front r (back (i + c) (z .tree)))
+  rest-cost c r n p q e h =
+      let f : i + c + r ≡ i + n = omega arith in
+      rw (← f) (entered (i + c) r (omega arith) q (omega arith) .costs)
+
+  matched : (w : ℕ) → 0 < w → i + w ≤ m → Matched (back i (z .tree)) w (getD same w 0)
+  matched w p h = z .matches .matched w p (omega (arith, from-here))
+
+  -- No match reaches past the end.
+  pub match-low : (w : ℕ) → 0 < w → i + w ≤ m → i + w + getD same w 0 ≤ m
+  match-low w p h = let d = matched w p h in omega (arith, from-here)
+
+  -- What the row starts from: where its siblings are those of sibling i + w, the key is that row's.
+  module _ (w : ℕ) (pos : 0 < w) (near : i + w ≤ m) (keys : List ℕ) (s : Started costs choices numbers i (m - i) own w (getD same w 0) keys) where
+    started-one : BestKey (z .allowed) (z .prices-are) (stretch (z .tree) i 1) (getD keys 1 0)
+    started-one = best-one modest i (getD keys 1 0) (omega (arith, z .some, z .count)) (s .one ∙ rw (z .own-cost))
+
+    started-final : (n : ℕ) → 0 < n → n ≤ getD same w 0 → BestKey (z .allowed) (z .prices-are) (stretch (z .tree) i n) (getD keys n 0)
+    started-final n p h = by-place (decLt 1 n)
+      where
+        same-stretch : stretch (z .tree) i n ≡ stretch (z .tree) (i + w) n
+        same-stretch =
+            let d = matched w pos near in
+            front-less n (getD same w 0 - n) (getD same w 0) (back i (z .tree)) (back w (back i (z .tree))) (omega arith) (d .shift)
+            ∙ ap (front n) (back-back i w (i + w) (z .tree) refl)
+
+        by-place : Dec (1 < n) → BestKey (z .allowed) (z .prices-are) (stretch (z .tree) i n) (getD keys n 0)
+        by-place (yes l) =
+            let d = matched w pos near in
+            rw (s .copied n l h, same-stretch)
+            (entry-best _ _ _ _ _ (entered (i + w) n (omega arith) p (omega (arith, d .bound, from-here))))
+        by-place (no l) = let e : n ≡ 1 = omega arith in rw e started-one
+
+    started-keyed : (n : ℕ) → 0 < n → i + n ≤ m → Keyed (z .allowed) (z .prices-are) (z .tree) i 0 n (getD keys n 0)
+    started-keyed n p h = by-place (decLt 1 n) (decLt (getD same w 0) n)
+      where
+        by-place : Dec (1 < n) → Dec (getD same w 0 < n) → Keyed (z .allowed) (z .prices-are) (z .tree) i 0 n (getD keys n 0)
+        by-place d (no l) = best-keyed modest i 0 n (getD keys n 0) (started-final n p (omega arith))
+        by-place (no d) (yes l) = let e : n ≡ 1 = omega arith in rw e (best-keyed modest i 0 1 (getD keys 1 0) started-one)
+        by-place (yes d) (yes l) =
+            keyed-plain modest i (n - 1) n (getD keys n 0) (omega arith)
+            (s .plain n d l (omega arith) ∙ rw (z .own-cost, rest-cost 1 (n - 1) n (omega arith) (omega arith) (omega arith) h))
+
+    pub started-rowed : Rowed z (getD same w 0) 0 keys
+    started-rowed = record { final = started-final; keyed = started-keyed }
+
+  -- One solved stretch more, of d siblings.
+  module _ (span e d : ℕ) (before after : List ℕ) (next : suc e ≡ d) (more : i + d ≤ m) (r : Rowed z span e before)
+      (s : Settled costs numbers i (m - i) limit prices d (getD same d 0) span before after) where
+    abbrev k : ℕ
+    k = getD before d 0
+
+    best : BestKey (z .allowed) (z .prices-are) (stretch (z .tree) i d) (getD before d 0)
+    best = keyed-best modest i e d k (omega arith) (omega arith) (omega (arith, z .count)) (r .keyed d (omega arith) more)
+
+    covers : getD before d 0 / 1024 % 2048 * (getD before d 0 % 1024) ≡ best .count * best .width
+    covers = best-covers modest i d k best
+
+    its-cost : getD before d 0 / 2097152 ≡ best-cost (z .allowed) (z .prices-are) (stretch (z .tree) i d)
+    its-cost = best-entry modest i d k best .costs
+
+    -- The key of a repeat of it.
+    key-is : (h : ℕ) → 2 ≤ h → h ≤ 1024
+        → offer-key prices (getD before d 0 / 2097152) d h
+        ≡ rank usual (of-repeat (z .prices-are) h + best-cost (z .allowed) (z .prices-are) (stretch (z .tree) i d)) h d
+    key-is h l l′ =
+        omega (
+          arith,
+          its-cost,
+          z .priced .price-of h l l′,
+          rank-usual (of-repeat (z .prices-are) h + best-cost (z .allowed) (z .prices-are) (stretch (z .tree) i d)) h d,
+        )
+
+    -- The key of what is left put behind it.
+    module _ (n : ℕ) (some : d < n) (h : i + n ≤ m) where
+      follows : (g v : ℕ) → g * v ≡ d → Least (z .allowed) (z .prices-are) usual (best-cost (z .allowed) (z .prices-are)) (stretch (z .tree) i d) g v
+          → getD before d 0 + cost-at costs numbers (i + d) (i + n) * 2097152
+          ≡ rank usual (best-cost (z .allowed) (z .prices-are) (stretch (z .tree) i d) + best-cost (z .allowed) (z .prices-are) (front (n - d) (back (i + d) (z .tree)))) g v
+      follows g v f l =
+          rw (best-is modest i d g v k best l, rest-cost d (n - d) n (omega arith) (omega arith) (omega arith) h)
+          (first-key modest i (i + d) d (n - d) n g v refl (omega arith) (omega arith) f l)
+
+    -- No key rises.
+    push-lower : Pushed costs numbers i (m - i) d span (getD before d 0) before (s .between) → (n : ℕ) → getD (s .between) n 0 ≤ getD before n 0
+    push-lower (push from a b c f p) n = p .lower n
+    push-lower (pass f x) n = rw x (omega arith)
+
+    widen-lower : Widened limit prices (getD before d 0 / 2097152) d (getD same d 0) span (s .between) after → (n : ℕ) → getD after n 0 ≤ getD (s .between) n 0
+    widen-lower (offer from a b c f p) n = p .lower n
+    widen-lower (too-wide f x) n = rw x (omega arith)
+    widen-lower (unlike f x) n = rw x (omega arith)
+
+    lower : (n : ℕ) → getD after n 0 ≤ getD before n 0
+    lower n = omega (arith, push-lower (s .pushed) n, widen-lower (s .widened) n)
+
+    -- Those of up to `span` siblings stay.
+    push-same : (n : ℕ) → n ≤ span → Pushed costs numbers i (m - i) d span (getD before d 0) before (s .between) → getD (s .between) n 0 ≡ getD before n 0
+    push-same n l (push from a b c f p) = ⊎-elim (λ x. x) (λ x. absurd (omega arith)) (p .came n)
+    push-same n l (pass f x) = rw x
+
+    widen-same : (n : ℕ) → n ≤ span → Widened limit prices (getD before d 0 / 2097152) d (getD same d 0) span (s .between) after
+        → getD after n 0 ≡ getD (s .between) n 0
+    widen-same n l (offer from a b c f p) =
+        ⊎-elim (λ x. x) (λ x. absurd (omega (arith, mul-le-mul-right d (x .late), x .covers))) (p .came n)
+    widen-same n l (too-wide f x) = rw x
+    widen-same n l (unlike f x) = rw x
+
+    final : (n : ℕ) → 0 < n → n ≤ span → BestKey (z .allowed) (z .prices-are) (stretch (z .tree) i n) (getD after n 0)
+    final n p l = rw (widen-same n l (s .widened), push-same n l (s .pushed)) (r .final n p l)
+
+    -- Longer ones: each key is still that of a candidate,
+    module _ (n : ℕ) (pos : 0 < n) (fits : i + n ≤ m) where
+      pair-before : Pair (z .allowed) (z .prices-are) (stretch (z .tree) i n) (getD before n 0)
+      pair-before =
+          let x = r .keyed n pos fits in
+          record { count = x .count; width = x .width; candidate = x .candidate; is-key = x .is-key }
+
+      pair-between : Pushed costs numbers i (m - i) d span (getD before d 0) before (s .between) → Pair (z .allowed) (z .prices-are) (stretch (z .tree) i n) (getD (s .between) n 0)
+      pair-between (push from a b c f p) = ⊎-elim
+          (λ x. rw x pair-before)
+          (λ x.
+          let some : d < n = omega arith in
+          let g : best .count * best .width ≡ d = sym covers ∙ f in
+          rw (x .2)
+          (record {
+            count = best .count;
+            width = best .width;
+            candidate = first-candidate modest i (i + d) d (n - d) n (best .count) (best .width) refl (omega arith) (omega arith) g (best .least);
+            is-key = follows n some fits (best .count) (best .width) g (best .least)
+                ∙ rw (first-price modest i (i + d) d (n - d) n (best .count) (best .width) refl (omega arith) (omega arith) g (best .least));
+          }))
+          (p .came n)
+      pair-between (pass f x) = rw x pair-before
+
+      pair-after : Widened limit prices (getD before d 0 / 2097152) d (getD same d 0) span (s .between) after → Pair (z .allowed) (z .prices-are) (stretch (z .tree) i n) (getD after n 0)
+      pair-after (offer from a b c f p) = ⊎-elim
+          (λ x. rw x (pair-between (s .pushed)))
+          (λ (x : Came prices (getD before d 0 / 2097152) d (getD same d 0) from n (getD after n 0)).
+          let q = near-power (x .count) d (getD same d 0) (z-run) (omega arith) (omega (arith, z .limited)) (matched d (omega arith) more) (omega (arith, x .late)) (x .near) in
+          let y = reach q in
+          record {
+            count = x .count;
+            width = d;
+            candidate = whole-candidate modest i n (x .count) d q (omega (arith, x .covers));
+            is-key = x .is-key ∙ key-is (x .count) (omega (arith, x .late)) (omega (arith, few, x .covers))
+                ∙ rw (whole-price modest i n (x .count) d q (x .covers));
+          })
+          (p .came n)
+        where
+          z-run : Run (z .allowed) (back i (z .tree))
+          z-run = run-back i (z .run)
+      pair-after (too-wide f x) = rw x (pair-between (s .pushed))
+      pair-after (unlike f x) = rw x (pair-between (s .pushed))
+
+      -- and bounded by those that came with d.
+      module _ (far : span < n) where
+        whole-now : (h w : ℕ) → Power (z .allowed) (back i (z .tree)) h w → h * w ≡ n → w ≡ d
+            → Widened limit prices (getD before d 0 / 2097152) d (getD same d 0) span (s .between) after
+            → getD after n 0 ≤ rank usual (of-repeat (z .prices-are) h + best-cost (z .allowed) (z .prices-are) (stretch (z .tree) i d)) h d
+        whole-now h w q f x (offer from a b c l p) =
+            let y = reach q in
+            let q′ = rw x at q in
+            let twice = q .repeats .twice in
+            let late : from ≤ h = elim (decLt h from) [ yes u ↦ absurd (omega (arith, c h twice u, rw x at f)) | no u ↦ omega arith ] in
+            let v = p .offered h late (power-near h d (getD same d 0) (run-back i (z .run)) (matched d (omega arith) more) q′) in
+            omega (arith, rw (rw x at f) at v, key-is h twice (omega (arith, few)))
+        whole-now h w q f x (too-wide l y) = absurd (omega (arith, q .repeats .within, z .limited))
+        whole-now h w q f x (unlike l y) =
+            let v = power-near h d (getD same d 0) (run-back i (z .run)) (matched d (omega arith) more) (rw x at q) in
+            let u : 1 ≤ h - 1 = omega (arith, q .repeats .twice) in
+            absurd (omega (arith, mul-le-mul-right d u))
+
+        first-now : (g v : ℕ) → d < n → g * v ≡ d → Least (z .allowed) (z .prices-are) usual (best-cost (z .allowed) (z .prices-are)) (stretch (z .tree) i d) g v
+            → Pushed costs numbers i (m - i) d span (getD before d 0) before (s .between)
+            → getD after n 0 ≤ rank usual (best-cost (z .allowed) (z .prices-are) (stretch (z .tree) i d) + best-cost (z .allowed) (z .prices-are) (front (n - d) (back (i + d) (z .tree)))) g v
+        first-now g v some f l (push from a b c u p) =
+            omega (arith, widen-lower (s .widened) n, p .pushed n (c n some far) (omega arith), follows n some fits g v f l)
+        first-now g v some f l (pass u x) =
+            let y = least-unique (z .allowed) (z .prices-are) usual (best-cost (z .allowed) (z .prices-are)) (stretch (z .tree) i d) (best .count) (best .width) g v (fitting modest i d) (best .least) l in
+            absurd (u (covers ∙ rw (y .0, y .1) f))
+
+      keyed : Dec (span < n) → Keyed (z .allowed) (z .prices-are) (z .tree) i d n (getD after n 0)
+      keyed (no l) = best-keyed modest i d n (getD after n 0) (final n pos (omega arith))
+      keyed (yes l) =
+          let x = r .keyed n pos fits in
+          let y = pair-after (s .widened) in
+          record {
+            count = y .count;
+            width = y .width;
+            candidate = y .candidate;
+            is-key = y .is-key;
+            plain = λ j c u v. omega (arith, lower n, x .plain j c u v);
+            whole = λ h w q f u. elim (ℕ-discrete w d) [
+              | yes v ↦ rw v (whole-now l h w q f v (s .widened))
+              | no v ↦ omega (arith, lower n, x .whole h w q f (omega arith))
+            ];
+            first = λ j c c′ h w u v p q f a b. elim (ℕ-discrete c d) [
+              | yes o ↦
+                  let j′ : j ≡ i + d = omega arith in
+                  let m′ : c′ ≡ n - d = omega arith in
+                  rw (o, j′, m′) (first-now l h w (omega arith) (f ∙ o) (rw o at b) (s .pushed))
+              | no o ↦ omega (arith, lower n, x .first j c c′ h w u v p q f (omega arith) b)
+            ];
+          }
+
+    pub settled-rowed : Rowed z span d after
+    settled-rowed = record { final = final; keyed = λ n p h. keyed n p h (decLt span n) }
+
+  -- Where no more than `span` siblings match at any width, no repeat covers more than twice as many; so longer stretches have
+  -- nothing to offer.
+  module _ (span top : ℕ) (most : (w : ℕ) → 0 < w → i + w ≤ m → getD same w 0 ≤ span) (high : (c : ℕ) → c ≤ 2 * span → c ≤ m - i → c ≤ top) where
+    within : (h w : ℕ) → Power (z .allowed) (back i (z .tree)) h w → h * w ≤ top
+    within h w q =
+        let y = reach q in
+        let twice = q .repeats .twice in
+        let fits : i + w ≤ m = omega (arith, from-here) in
+        let near = power-near h w (getD same w 0) (run-back i (z .run)) (matched w (y .some) fits) q in
+        let u : 1 ≤ h - 1 = omega arith in
+        let more = copy-more (h - 1) h w (omega arith) in
+        high (h * w) (omega (arith, mul-le-mul-right w u, most w (y .some) fits)) (omega (arith, from-here))
+
+    pub rowed-past : (s : ℕ) (keys : List ℕ) → Rowed z span top keys → Rowed z span s keys
+    rowed-past s keys r =
+        record {
+          final = r .final;
+          keyed = λ n p h.
+              let x = r .keyed n p h in
+              record {
+                count = x .count;
+                width = x .width;
+                candidate = x .candidate;
+                is-key = x .is-key;
+                plain = x .plain;
+                whole = λ g w q f l. let y = reach q in x .whole g w q f (omega (arith, within g w q));
+                first = λ j c c′ g w u v a b f l d.
+                    x .first j c c′ g w u v a b f (omega (arith, within g w (whole-power modest i c g w f a (d .candidate)))) d;
+              };
+        }
+
+  -- All stretches done.
+  pub row-solved : (span : ℕ) (keys : List ℕ) → Rowed z span (m - i) keys → RowSolved z keys
+  row-solved span keys r =
+      record {
+        solved = λ n p h. keyed-best modest i (m - i) n (getD keys n 0) p (omega arith) (omega (arith, z .count)) (r .keyed n p h);
+      }
+
+  -- What a solved row enters in the table, and that it fits.
+  module _ (keys : List ℕ) (r : RowSolved z keys) (n : ℕ) (pos : 0 < n) (fits : i + n ≤ m) where
+    pub solved-entry : Entry (z .allowed) (z .prices-are) (stretch (z .tree) i n) (getD keys n 0 / 2097152) (getD keys n 0 % 2097152)
+    solved-entry = best-entry modest i n (getD keys n 0) (r .solved n pos fits)
+
+    pub solved-low : getD keys n 0 < 9007199254740992
+    solved-low = best-low modest i n (getD keys n 0) (r .solved n pos fits)
+
+  pub own-low : own < 4294967296
+  own-low = omega (arith, z .own-cost, cost-low modest i 1)
+
+-- The loop of a row.
+module _ {costs numbers : List ℕ} {i m limit : ℕ} {prices same : List ℕ} {span : ℕ} {before : List ℕ} where
+  pub advanced-none : KeysReady before → Advanced costs numbers i m limit prices same span 0 before before
+  advanced-none k = record { ready = k; rowed = λ choices own z r. r }
+
+  pub advanced-past : (top s : ℕ) (now : List ℕ) → ((w : ℕ) → 0 < w → i + w ≤ m → getD same w 0 ≤ span)
+      → ((c : ℕ) → c ≤ 2 * span → c ≤ m - i → c ≤ top) → Advanced costs numbers i m limit prices same span top before now
+      → Advanced costs numbers i m limit prices same span s before now
+  advanced-past top s now most high a =
+      record { ready = a .ready; rowed = λ choices own z r. rowed-past z span top most high s now (a .rowed choices own z r) }
+
+  pub advanced-more : (e d : ℕ) (now after : List ℕ) → suc e ≡ d → i + d ≤ m → Advanced costs numbers i m limit prices same span e before now → KeysReady after
+      → Settled costs numbers i (m - i) limit prices d (getD same d 0) span now after → Advanced costs numbers i m limit prices same span d before after
+  advanced-more e d now after next more a k s =
+      record { ready = k; rowed = λ choices own z r. settled-rowed z span e d now after next more (a .rowed choices own z r) s }
+
+-- The keys stay as they may be worked on.
+ready-lower : {before after : List ℕ} → KeysReady before → length after ≡ length before → ((c : ℕ) → getD after c 0 ≤ getD before c 0) → KeysReady after
+ready-lower k e l = record { long = e ∙ k .long; low = λ c. omega (arith, l c, k .low c) }
+
+pub pushed-ready : {costs numbers : List ℕ} {i n d span k : ℕ} {before after : List ℕ} → KeysReady before → Pushed costs numbers i n d span k before after
+    → KeysReady after
+pushed-ready r (push from a b c f p) = ready-lower r (p .same-length) (p .lower)
+pushed-ready r (pass f x) = rw x r
+
+pub widened-ready : {limit : ℕ} {prices : List ℕ} {cost d match span : ℕ} {before after : List ℕ} → KeysReady before
+    → Widened limit prices cost d match span before after → KeysReady after
+widened-ready r (offer from a b c f p) = ready-lower r (p .same-length) (p .lower)
+widened-ready r (too-wide f x) = rw x r
+widened-ready r (unlike f x) = rw x r

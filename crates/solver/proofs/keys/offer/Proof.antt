@@ -1,0 +1,123 @@
+-- `solver::keys::offer` meets its contract. The loop's invariant: the counts below h are offered. The measure is what is left of
+-- the counts, which stay below 1,026.
+use mathlib.Core.Logic.{⊎-elim}
+use Prim.Native.Nat.{_-_, _*_, _<_, _≤_}
+use native.Mathlib.Nat.{mul-le-mul}
+use native.Mathlib.Omega.{arith}
+use lib.ListN.{length}
+use Rattle.solver.proofs.Offers.{Upto, in-reach, upto-none, upto-kept, upto-set, offering}
+use Rattle.solver.proofs.keys.offer.Statement.{statement}
+use Rattle.solver.proofs.keys.offer.Tie as tie
+
+abbrev Inv-loop : tie.InvT-loop
+Inv-loop prices cost d span from keys₀ h₀ keys h = Upto prices cost d span from keys₀ keys h
+
+abbrev μ-loop : tie.MeasureT-loop
+μ-loop prices cost d span from keys₀ h₀ keys h = 1026 - h
+
+-- What is in span fits the lists.
+within : (c : tie.In-loop Inv-loop μ-loop) → (c .before .loop .h * c .before .before .args .d ≤ 1024) × (c .before .loop .h ≤ 1024)
+within c =
+    let p = c .before .before .pre .1 .1 in
+    let h = c .before .loop .h in
+    in-reach (h - 1) h (c .before .before .args .d) (c .before .before .args .span) (omega arith) (p .1) (p .2) (c .loop-test .taken)
+
+loop-holds : tie.Need-loop-holds Inv-loop μ-loop
+loop-holds c = upto-none _ _ _ _ _ _ (omega arith)
+
+sub-loop : tie.Need-sub-loop Inv-loop μ-loop
+sub-loop c = omega (arith, c .loop .inv .late)
+
+mul-loop : tie.Need-mul-loop Inv-loop μ-loop
+mul-loop c =
+    let h = c .loop .h in
+    let l : h - 1 ≤ 1024 = omega (arith, c .loop .inv .few) in
+    let m : c .before .args .d ≤ 1024 = omega arith in
+    omega (arith, mul-le-mul l m)
+
+mul-c : tie.Need-mul-c Inv-loop μ-loop
+mul-c c = let w = within c in omega arith
+
+mul-k : tie.Need-mul-k Inv-loop μ-loop
+mul-k c = let w = within c in omega arith
+
+shared-slice-read-k : tie.Need-shared-slice-read-k Inv-loop μ-loop
+shared-slice-read-k c = let w = within (c .before) in omega arith
+
+add-k : tie.Need-add-k Inv-loop μ-loop
+add-k c = omega (arith, c .before .before .before .pre .1 .0 (c .before .before .loop .h))
+
+mul-k-2 : tie.Need-mul-k-2 Inv-loop μ-loop
+mul-k-2 c = omega (arith, c .before .before .before .pre .1 .0 (c .before .before .loop .h))
+
+mul-k-3 : tie.Need-mul-k-3 Inv-loop μ-loop
+mul-k-3 c = let w = within (c .before) in omega arith
+
+add-k-2 : tie.Need-add-k-2 Inv-loop μ-loop
+add-k-2 c = let w = within (c .before) in omega arith
+
+add-k-3 : tie.Need-add-k-3 Inv-loop μ-loop
+add-k-3 c = let w = within (c .before) in omega (arith, c .before .before .before .pre .1 .0 (c .before .before .loop .h))
+
+mul-if1 : tie.Need-mul-if1 Inv-loop μ-loop
+mul-if1 c = let w = within (c .before) in omega arith
+
+slice-read-if1 : tie.Need-slice-read-if1 Inv-loop μ-loop
+slice-read-if1 c = let w = within (c .before .before) in omega (arith, c .before .before .before .loop .inv .same-length)
+
+mul-keys : tie.Need-mul-keys Inv-loop μ-loop
+mul-keys c = let w = within (c .before .before .before) in omega arith
+
+slice-write-keys : tie.Need-slice-write-keys Inv-loop μ-loop
+slice-write-keys c = let w = within (c .before .before .before) in omega (arith, c .before .before .before .before .loop .inv .same-length)
+
+add-h : tie.Need-add-h Inv-loop μ-loop
+add-h c = let w = within (c .before .before .before) in omega arith
+
+loop-less : tie.Need-loop-less Inv-loop μ-loop
+loop-less c = let w = within (c .before .before .before) in omega arith
+
+loop-again : tie.Need-loop-again Inv-loop μ-loop
+loop-again c =
+    let w = within (c .before .before .before) in
+    let L = c .before .before .before .before .loop in
+    let u = L .inv in
+    let near = c .before .before .before .loop-test .taken in
+    let fits : L .h * c .before .before .before .before .before .args .d < length (L .keys) = omega (arith, u .same-length) in
+    ⊎-elim
+    (λ x. rw (x .1) (upto-set _ _ _ _ _ _ (L .keys) (L .h) u (w .1) near fits (omega (arith, x .0 .taken))))
+    (λ x. rw (x .1) (upto-kept _ _ _ _ _ _ (L .keys) (L .h) u (w .1) (omega (arith, x .0 .left))))
+    (c .if1 .came)
+
+same-length : tie.Need-same-length Inv-loop μ-loop
+same-length c = c .before .loop .inv .same-length
+
+returns : tie.Need-returns Inv-loop μ-loop
+returns c = let L = c .before .loop in offering _ _ _ _ _ _ (L .keys) (L .h) (L .inv) (c .loop-test .left)
+
+pub offer-spec : {M : Type 1} → statement M
+offer-spec =
+    tie.close
+    (tie.spec
+    Inv-loop
+    μ-loop
+    loop-holds
+    sub-loop
+    mul-loop
+    mul-c
+    mul-k
+    shared-slice-read-k
+    add-k
+    mul-k-2
+    mul-k-3
+    add-k-2
+    add-k-3
+    mul-if1
+    slice-read-if1
+    mul-keys
+    slice-write-keys
+    add-h
+    loop-less
+    loop-again
+    same-length
+    returns)

@@ -1,0 +1,118 @@
+-- `solver::row::grow` meets its contract. The loop's invariant: the matches below width w are grown, and the width at which the most match is known.
+use mathlib.Core.Path.{refl}
+use mathlib.Core.Logic.{⊎-elim}
+use Prim.Native.Nat.{_+_, _-_, _≤_}
+use native.Mathlib.Omega.{arith}
+use lib.ListN.{length-set}
+use Rattle.solver.proofs.Growths.{Grown, grown-none, grown-more, grown-all, Farthest, farthest-none, farthest-raised, farthest-kept, farthest-most}
+use Rattle.solver.proofs.row.grow.Statement.{statement}
+use Rattle.solver.proofs.row.grow.Tie as tie
+
+abbrev Inv-loop : tie.InvT-loop
+Inv-loop kinds i m matches₀ kind most₀ far₀ w₀ matches most far w =
+    (1 ≤ w) × (i + w ≤ m) × Farthest w matches most far × Grown kinds i w matches₀ matches
+
+abbrev μ-loop : tie.MeasureT-loop
+μ-loop kinds i m matches₀ kind most₀ far₀ w₀ matches most far w = m - w
+
+mul-kind : tie.Need-mul-kind Inv-loop μ-loop
+mul-kind c = omega arith
+
+shared-slice-read-kind : tie.Need-shared-slice-read-kind Inv-loop μ-loop
+shared-slice-read-kind c = omega arith
+
+loop-holds : tie.Need-loop-holds Inv-loop μ-loop
+loop-holds c = (omega arith, omega arith, farthest-none _, grown-none _ _ _ (c .before .before .before .pre .0 .1))
+
+add-loop : tie.Need-add-loop Inv-loop μ-loop
+add-loop c = omega arith
+
+add-longer : tie.Need-add-longer Inv-loop μ-loop
+add-longer c = omega arith
+
+mul-longer : tie.Need-mul-longer Inv-loop μ-loop
+mul-longer c = omega arith
+
+shared-slice-read-longer : tie.Need-shared-slice-read-longer Inv-loop μ-loop
+shared-slice-read-longer c = omega arith
+
+mul-longer-2 : tie.Need-mul-longer-2 Inv-loop μ-loop
+mul-longer-2 c = omega arith
+
+slice-read-longer : tie.Need-slice-read-longer Inv-loop μ-loop
+slice-read-longer c = omega arith
+
+longer-requires : tie.Need-longer-requires Inv-loop μ-loop
+longer-requires c κs =
+    let L = c .before .before .before .loop in
+    omega (arith, L .inv .3 .later (L .w) (omega arith), c .before .before .before .before .before .before .before .pre .1 (L .w) (omega arith) (omega arith))
+
+mul-matches : tie.Need-mul-matches Inv-loop μ-loop
+mul-matches c = omega arith
+
+slice-write-matches : tie.Need-slice-write-matches Inv-loop μ-loop
+slice-write-matches c = omega arith
+
+add-w : tie.Need-add-w Inv-loop μ-loop
+add-w c = omega arith
+
+loop-less : tie.Need-loop-less Inv-loop μ-loop
+loop-less c = omega arith
+
+loop-again : tie.Need-loop-again Inv-loop μ-loop
+loop-again c =
+    let S = c .before .before .before .before .before .before .before .before .before in
+    let L = c .before .before .before .before .before .loop in
+    let r = c .before .longer .ensures in (
+      omega arith,
+      omega arith,
+      ⊎-elim
+          (λ x. rw (x .1, x .2) (farthest-raised _ _ _ _ (L .inv .2) _ (omega arith) (omega arith) (x .0 .taken)))
+          (λ x. rw (x .1, x .2) (farthest-kept _ _ _ _ (L .inv .2) _ (omega arith) (x .0 .left)))
+          (c .if1 .came),
+      grown-more _ _ _ _ _ (L .inv .3) (omega arith) _ (S .pre .1 (L .w) (omega arith) (omega arith)) (r .0) (r .1),
+    )
+
+mul-matches-2 : tie.Need-mul-matches-2 Inv-loop μ-loop
+mul-matches-2 c = omega arith
+
+slice-write-matches-2 : tie.Need-slice-write-matches-2 Inv-loop μ-loop
+slice-write-matches-2 c = omega arith
+
+same-length : tie.Need-same-length Inv-loop μ-loop
+same-length c = simp length-set (omega arith)
+
+returns : tie.Need-returns Inv-loop μ-loop
+returns c =
+    let S = c .before .before .before .before .before in
+    let L = c .before .loop in
+    let f = L .inv .2 in (
+      grown-all _ _ _ _ _ (L .inv .3) (omega arith) (S .args .m) (omega arith) (omega arith) (omega arith),
+      ((f .pos, omega (arith, f .within)), λ v p l. farthest-most _ _ _ _ f 0 (omega arith) refl v p (omega arith)),
+    )
+
+pub grow-spec : {M : Type 1} → statement M
+grow-spec =
+    tie.close
+    (tie.spec
+    Inv-loop
+    μ-loop
+    mul-kind
+    shared-slice-read-kind
+    loop-holds
+    add-loop
+    add-longer
+    mul-longer
+    shared-slice-read-longer
+    mul-longer-2
+    slice-read-longer
+    longer-requires
+    mul-matches
+    slice-write-matches
+    add-w
+    loop-less
+    loop-again
+    mul-matches-2
+    slice-write-matches-2
+    same-length
+    returns)

@@ -1,0 +1,123 @@
+-- `solver::row::settle` meets its contract: what the two branches did is what the contract names.
+use mathlib.Core.Path.{refl, sym, _∙_}
+use mathlib.Core.Logic.{⊎-elim}
+use Prim.Native.Nat.{_-_, _/_, _≤_}
+use native.Mathlib.Decide.{decLe}
+use native.Mathlib.Omega.{arith}
+use lib.ListN.{getD}
+use borrow.Author.Needs.{needs}
+use Rattle.solver.specs.Rows.{KeysReady, Pushed, push, pass, Widened, offer, too-wide, unlike, Settled}
+use Rattle.table.proofs.Tables.{falling-less}
+use Rattle.solver.proofs.Solving.{pushed-ready, widened-ready}
+use Rattle.solver.proofs.row.settle.Statement.{statement}
+use Rattle.solver.proofs.row.settle.Tie as tie
+
+-- The function's start, from where the first branch joins.
+abbrev start : tie.Joined1 → tie.Start
+start c = c .before .before .before .before .before .before .before
+
+-- What the first branch did.
+pushed-now : (c : tie.Joined1)
+    → (let a = c .before .before .before .before .before .before .before .args in
+    Pushed (a .costs .now) (a .numbers .now) (a .i) (a .m - a .i) (a .d) (a .span) (getD (a .keys .now) (a .d) 0) (a .keys .now) (c .if1 .keys))
+pushed-now c = ⊎-elim
+    (λ x. let p = x .1 .ensures in push (x .1 .result) (p .0) (p .1) (p .3) (omega arith) (rw (x .6) (x .3 .ensures)))
+    (λ x. pass (λ y. omega arith) (x .1))
+    (c .if1 .came)
+
+ready-now : (c : tie.Joined1) → KeysReady (c .if1 .keys)
+ready-now c = pushed-ready (start c .pre .1 .0 .0) (pushed-now c)
+
+settled : (c : tie.Joined1)
+    → (let a = c .before .before .before .before .before .before .before .args in
+    (after : _) → Widened (a .limit) (a .prices .now) (getD (a .keys .now) (a .d) 0 / 2097152) (a .d) (a .matched) (a .span) (c .if1 .keys) after
+    → KeysReady after
+    × Settled (a .costs .now) (a .numbers .now) (a .i) (a .m - a .i) (a .limit) (a .prices .now) (a .d) (a .matched) (a .span) (a .keys .now) after)
+settled c after w = (widened-ready (ready-now c) w, record { between = c .if1 .keys; pushed = pushed-now c; widened = w })
+
+mul-key : tie.Need-mul-key
+mul-key c = search needs
+
+slice-read-key : tie.Need-slice-read-key
+slice-read-key c = search needs
+
+covered-requires : tie.Need-covered-requires
+covered-requires c κs = search needs
+
+sub-push : tie.Need-sub-push
+sub-push c = search needs
+
+past-requires : tie.Need-past-requires
+past-requires c κs = search needs
+
+push-requires : tie.Need-push-requires
+push-requires c κs =
+    let S = c .before .before .before .before .before .before .before .before .before in
+    let p = S .pre in (
+      falling-less _ (omega arith) (p .0),
+      (p .1 .0 .0 .long, omega arith, c .before .past .ensures .0, c .before .past .ensures .2, p .1 .0 .0 .low (S .args .d), omega arith),
+    )
+
+matched-within-requires : tie.Need-matched-within-requires
+matched-within-requires c κs = search needs
+
+count-past-requires : tie.Need-count-past-requires
+count-past-requires c κs = search needs
+
+offer-requires : tie.Need-offer-requires
+offer-requires c κs =
+    let J = c .before .before .before .before in
+    let p = start J .pre in
+    let k = c .before .count-past .ensures in (
+      (p .1 .0 .1, ready-now J .long),
+      (p .1 .0 .2, (omega (arith, p .1 .0 .0 .low (start J .args .d)), omega arith, omega arith, k .0, k .1)),
+    )
+
+-- Where siblings match for a repeat, the limit allows its width.
+not-too-wide : (c : tie.Then2) → (let a = start (c .before .before) .args in a .d ≤ a .limit)
+not-too-wide c =
+    let a = start (c .before .before) .args in
+    elim (decLe (a .d) (a .limit)) [
+      | yes l ↦ l
+      | no l ↦ absurd (omega (arith, c .before .matched-within .ensures .1 (omega arith)))
+    ]
+
+returns : tie.Need-returns
+returns c =
+    let J = c .before .before .before .before .before .before .before in
+    let k = c .before .before .before .before .count-past in
+    settled J _ (offer (k .result) (k .ensures .0) (k .ensures .2) (k .ensures .3) (not-too-wide (c .before .before .before .before .before)) (c .before .before .offer .ensures))
+
+same-length : tie.Need-same-length
+same-length c = returns c .0 .long ∙ sym (c .before .before .before .before .before .before .before .before .before .before .before .before .before .before .pre .1 .0 .0 .long)
+
+returns-2 : tie.Need-returns-2
+returns-2 c =
+    let a = start (c .before .before) .args in
+    let e = c .before .matched-within .ensures in
+    settled (c .before .before) _
+    (elim (decLe (a .d) (a .limit)) [
+      | yes l ↦ unlike (omega (arith, e .0 l)) refl
+      | no l ↦ too-wide (omega arith) refl
+    ])
+
+same-length-2 : tie.Need-same-length-2
+same-length-2 c = returns-2 c .0 .long ∙ sym (c .before .before .before .before .before .before .before .before .before .pre .1 .0 .0 .long)
+
+pub settle-spec : {M : Type 1} → statement M
+settle-spec =
+    tie.close
+    (tie.spec
+    mul-key
+    slice-read-key
+    covered-requires
+    sub-push
+    past-requires
+    push-requires
+    matched-within-requires
+    count-past-requires
+    offer-requires
+    same-length
+    returns
+    same-length-2
+    returns-2)

@@ -1,0 +1,89 @@
+-- `solver::row::solve` meets its contract. The loop's invariant: the stretches of fewer than d siblings have done their part. The
+-- measure is what is left of those that a repeat may cover.
+use mathlib.Core.Path.{_≡_, sym, _∙_}
+use Prim.Native.Nat.{_+_, _-_, _≤_}
+use native.Mathlib.Omega.{arith}
+use Rattle.solver.specs.Rows.{Advanced}
+use Rattle.solver.proofs.Solving.{advanced-none, advanced-more, advanced-past}
+use Rattle.solver.proofs.row.solve.Statement.{statement}
+use Rattle.solver.proofs.row.solve.Tie as tie
+
+abbrev Inv-loop : tie.InvT-loop
+Inv-loop costs numbers i m limit prices matches span keys₀ top d₀ keys d =
+    (1 ≤ d) × (d ≤ top + 1) × Advanced costs numbers i m limit prices matches span (d - 1) keys₀ keys
+
+abbrev μ-loop : tie.MeasureT-loop
+μ-loop costs numbers i m limit prices matches span keys₀ top d₀ keys d = top + 1 - d
+
+mul-smaller : tie.Need-mul-smaller Inv-loop μ-loop
+mul-smaller c = omega arith
+
+sub-smaller : tie.Need-sub-smaller Inv-loop μ-loop
+sub-smaller c = omega arith
+
+smaller-requires : tie.Need-smaller-requires Inv-loop μ-loop
+smaller-requires c κs = tt
+
+loop-holds : tie.Need-loop-holds Inv-loop μ-loop
+loop-holds c = (omega arith, omega arith, advanced-none (c .before .before .before .before .before .before .pre .1 .0 .0))
+
+mul-settle : tie.Need-mul-settle Inv-loop μ-loop
+mul-settle c = omega (arith, c .before .before .smaller .ensures)
+
+shared-slice-read-settle : tie.Need-shared-slice-read-settle Inv-loop μ-loop
+shared-slice-read-settle c = omega (arith, c .before .before .before .smaller .ensures)
+
+settle-requires : tie.Need-settle-requires Inv-loop μ-loop
+settle-requires c κs =
+    let p = c .before .before .before .before .before .before .before .before .before .before .pre in
+    let few = c .before .before .before .before .smaller .ensures in
+    let L = c .before .before .before .loop in (
+      p .0,
+      ((L .inv .2 .ready, p .1 .0 .1, p .1 .0 .2), (omega arith, omega arith, p .1 .1 .1 .1 (L .d) (omega arith) (omega arith), omega arith)),
+    )
+
+add-d : tie.Need-add-d Inv-loop μ-loop
+add-d c = omega (arith, c .before .before .before .before .before .before .before .smaller .ensures)
+
+loop-less : tie.Need-loop-less Inv-loop μ-loop
+loop-less c = omega arith
+
+loop-again : tie.Need-loop-again Inv-loop μ-loop
+loop-again c =
+    let L = c .before .before .before .before .before .before .loop in
+    let s = c .before .before .settle .ensures in
+    let few = c .before .before .before .before .before .before .before .smaller .ensures in
+    let e : L .d + 1 - 1 ≡ L .d = omega arith in (
+      omega arith,
+      omega arith,
+      rw e (advanced-more (L .d - 1) (L .d) _ _ (omega arith) (omega arith) (L .inv .2) (s .0) (s .1)),
+    )
+
+returns : tie.Need-returns Inv-loop μ-loop
+returns c =
+    let S = c .before .before .before .before .before .before .before .before in
+    let top = c .before .before .smaller in
+    let e : c .before .loop .d - 1 ≡ top .result = omega arith in
+    advanced-past (top .result) (S .args .m - S .args .i) _ (S .pre .1 .1 .1 .0) (top .ensures .2) (rw e at (c .before .loop .inv .2))
+
+same-length : tie.Need-same-length Inv-loop μ-loop
+same-length c = c .before .loop .inv .2 .ready .long ∙ sym (c .before .before .before .before .before .before .before .before .pre .1 .0 .0 .long)
+
+pub solve-spec : {M : Type 1} → statement M
+solve-spec =
+    tie.close
+    (tie.spec
+    Inv-loop
+    μ-loop
+    mul-smaller
+    sub-smaller
+    smaller-requires
+    loop-holds
+    mul-settle
+    shared-slice-read-settle
+    settle-requires
+    add-d
+    loop-less
+    loop-again
+    same-length
+    returns)

@@ -1,0 +1,2 @@
+-- What solving a row rests on and promises.
+pub mod Rows

@@ -1,0 +1,168 @@
+-- One row of the table: all stretches that begin at one sibling. T is the sequence from that sibling on.
+use mathlib.Core.Path.{_≡_}
+use mathlib.Core.Logic.{_⊎_}
+use mathlib.Core.List.{List}
+use Prim.Native.Nat.{ℕ, _+_, _-_, _*_, _/_, _%_, _<_, _≤_}
+use lib.ListN.{length, getD}
+use Rattle.format.specs.Limits.{Prices, of-repeat}
+use Rattle.format.specs.Forest.{Forest, Allowed, siblings, nodes}
+use Rattle.optimum.specs.Cheapest.{Run, front, back, node, rank, usual, price, Candidate, Power, Least, best-cost}
+use Rattle.table.specs.Table.{Entered, cost-at, stretch}
+use Rattle.table.specs.Listing.{Numbered, Classed}
+
+-- The price of each count, as a list.
+pub record Priced (P : Prices) (prices : List ℕ) : Type 0 where
+  pub long : length prices ≡ 1025
+  pub price-of : (h : ℕ) → 2 ≤ h → h ≤ 1024 → getD prices h 0 ≡ of-repeat P h
+  pub small : (h : ℕ) → getD prices h 0 ≤ 4294836225
+
+-- k siblings from the first on equal the one w further, and no more.
+pub record Matched (T : Forest) (w k : ℕ) : Type 0 where
+  pub shift : front k T ≡ front k (back w T)
+  pub bound : k + w ≤ siblings T
+  pub stop : k + w < siblings T → node k T ≡ node (k + w) T → ⊥
+
+-- The matches at every width.
+pub record Matches (T : Forest) (same : List ℕ) : Type 0 where
+  pub matched : (w : ℕ) → 0 < w → w ≤ siblings T → Matched T w (getD same w 0)
+
+-- The key of a pair that may stand first in the stretch x: its rank at the least costs of the parts.
+abbrev pub pair-key : Allowed → Prices → Forest → (h w : ℕ) → ℕ
+pair-key A P x h w = rank usual (price P (best-cost A P) x h w) h w
+
+-- No key is higher.
+abbrev pub top-key : ℕ
+top-key = 4611686018427387904
+
+-- A key of a stretch: that of its least pair.
+pub record BestKey (A : Allowed) (P : Prices) (t : Forest) (k : ℕ) : Type 0 where
+  pub count : ℕ
+  pub width : ℕ
+  pub least : Least A P usual (best-cost A P) t count width
+  pub is-rank : k ≡ rank usual (best-cost A P t) count width
+
+-- A key that one of the candidates of the n siblings from sibling i on has, and that is at most those of the plain node, of the
+-- repeats of width up to s that cover all, and of those that cover no more than s, are cheapest by themselves and leave something.
+pub record Keyed (A : Allowed) (P : Prices) (t : Forest) (i s n k : ℕ) : Type 0 where
+  pub count : ℕ
+  pub width : ℕ
+  pub candidate : Candidate A (stretch t i n) count width
+  pub is-key : k ≡ pair-key A P (stretch t i n) count width
+  pub plain : (j m : ℕ) → i + 1 ≡ j → 1 + m ≡ n → k ≤ rank usual (best-cost A P (node i t) + best-cost A P (front m (back j t))) 0 0
+  pub whole : (h w : ℕ) → Power A (back i t) h w → h * w ≡ n → w ≤ s → k ≤ rank usual (of-repeat P h + best-cost A P (front w (back i t))) h w
+  pub first : (j c m h w : ℕ) → i + c ≡ j → c + m ≡ n → 0 < c → 0 < m → h * w ≡ c → c ≤ s → Least A P usual (best-cost A P) (stretch t i c) h w
+      → k ≤ rank usual (best-cost A P (stretch t i c) + best-cost A P (front m (back j t))) h w
+
+-- The key of the repeat of count h and width d, whose body costs `cost`, by itself.
+abbrev pub offer-key : List ℕ → (cost d h : ℕ) → ℕ
+offer-key prices cost d h = (cost + getD prices h 0) * 2097152 + (h * 1024 + d)
+
+-- A key at cover c that one of the counts from `from` on gave.
+pub record Came (prices : List ℕ) (cost d span from c k : ℕ) : Type 0 where
+  pub count : ℕ
+  pub late : from ≤ count
+  pub near : (count - 1) * d ≤ span
+  pub covers : count * d ≡ c
+  pub is-key : k ≡ offer-key prices cost d count
+
+-- What offering the repeats of width d, from the count `from` on, does to the keys.
+pub record Offering (prices : List ℕ) (cost d span from : ℕ) (before after : List ℕ) : Type 0 where
+  pub same-length : length after ≡ length before
+  pub lower : (c : ℕ) → getD after c 0 ≤ getD before c 0
+  pub offered : (g : ℕ) → from ≤ g → (g - 1) * d ≤ span → getD after (g * d) 0 ≤ offer-key prices cost d g
+  pub came : (c : ℕ) → (getD after c 0 ≡ getD before c 0) ⊎ Came prices cost d span from c (getD after c 0)
+
+-- What a repeat that covers c siblings at the key k does to the keys of `from` to n siblings, the rest's cost added.
+pub record Pushing (costs numbers : List ℕ) (i n c k from : ℕ) (before after : List ℕ) : Type 0 where
+  pub same-length : length after ≡ length before
+  pub lower : (d : ℕ) → getD after d 0 ≤ getD before d 0
+  pub pushed : (d : ℕ) → from ≤ d → d ≤ n → getD after d 0 ≤ k + cost-at costs numbers (i + c) (i + d) * 2097152
+  pub came : (d : ℕ) → (getD after d 0 ≡ getD before d 0)
+      ⊎ ((from ≤ d) × (d ≤ n) × (getD after d 0 ≡ k + cost-at costs numbers (i + c) (i + d) * 2097152))
+
+-- The keys of a row before any repeat is offered: those of the row of sibling i + w as far as the two are the same, and those of
+-- the plain node with the rest.
+pub record Started (costs choices numbers : List ℕ) (i n own w span : ℕ) (keys : List ℕ) : Type 0 where
+  pub long : length keys ≡ 1025
+  pub low : (c : ℕ) → getD keys c 0 ≤ top-key
+  pub one : getD keys 1 0 ≡ own * 2097152
+  pub copied : (c : ℕ) → 1 < c → c ≤ span → getD keys c 0 ≡ cost-at costs numbers (i + w) (i + w + c) * 2097152 + cost-at choices numbers (i + w) (i + w + c)
+  pub plain : (c : ℕ) → 1 < c → span < c → c ≤ n → getD keys c 0 ≡ (own + cost-at costs numbers (i + 1) (i + c)) * 2097152
+
+-- The first n keys are those of another row.
+pub record Copied (costs choices numbers : List ℕ) (j n : ℕ) (before after : List ℕ) : Type 0 where
+  pub long : length after ≡ length before
+  pub low : (c : ℕ) → getD after c 0 ≤ top-key
+  pub copied : (c : ℕ) → 0 < c → c ≤ n → getD after c 0 ≡ cost-at costs numbers j (j + c) * 2097152 + cost-at choices numbers j (j + c)
+
+-- The entries from `from` to n are those of the plain node with the rest, the ones before as they were.
+pub record Plainly (costs numbers : List ℕ) (i n own from : ℕ) (before after : List ℕ) : Type 0 where
+  pub long : length after ≡ length before
+  pub low : (c : ℕ) → getD after c 0 ≤ top-key
+  pub kept : (c : ℕ) → c < from → getD after c 0 ≡ getD before c 0
+  pub plain : (c : ℕ) → from ≤ c → c ≤ n → getD after c 0 ≡ (own + cost-at costs numbers (i + 1) (i + c)) * 2097152
+
+-- What a solved stretch of d siblings does to the keys of longer ones. It is followed by what is left where its key is that of a
+-- repeat that covers it,
+pub data Pushed (costs numbers : List ℕ) (i n d span k : ℕ) (before after : List ℕ) : Type 0 where
+  push : (from : ℕ) → d < from → span < from → ((c : ℕ) → d < c → span < c → from ≤ c) → k / 1024 % 2048 * (k % 1024) ≡ d
+      → Pushing costs numbers i n d k from before after → Pushed costs numbers i n d span k before after
+  pass : (k / 1024 % 2048 * (k % 1024) ≡ d → ⊥) → after ≡ before → Pushed costs numbers i n d span k before after
+
+-- and repeated where that is allowed and siblings match.
+pub data Widened (limit : ℕ) (prices : List ℕ) (cost d match span : ℕ) (before after : List ℕ) : Type 0 where
+  offer : (from : ℕ) → 2 ≤ from → span < from * d → ((g : ℕ) → 2 ≤ g → g < from → g * d ≤ span) → d ≤ limit
+      → Offering prices cost d match from before after → Widened limit prices cost d match span before after
+  too-wide : limit < d → after ≡ before → Widened limit prices cost d match span before after
+  unlike : match < d → after ≡ before → Widened limit prices cost d match span before after
+
+pub record Settled (costs numbers : List ℕ) (i n limit : ℕ) (prices : List ℕ) (d match span : ℕ) (before after : List ℕ) : Type 0 where
+  pub between : List ℕ
+  pub pushed : Pushed costs numbers i n d span (getD before d 0) before between
+  pub widened : Widened limit prices (getD before d 0 / 2097152) d match span between after
+
+-- All that the search of the row of sibling i rests on.
+pub record RowReady (costs choices numbers : List ℕ) (i m own limit : ℕ) (prices same : List ℕ) : Type 0 where
+  pub tree : Forest
+  pub allowed : Allowed
+  pub prices-are : Prices
+  pub base : ℕ
+  pub run : Run allowed tree
+  pub count : siblings tree ≡ m
+  pub total : nodes tree ≤ 1024
+  pub some : i < m
+  pub limited : allowed .widest ≡ limit
+  pub priced : Priced prices-are prices
+  pub step-low : (l : ℕ) → prices-are .of-step l < 65536
+  pub group-low : (l : ℕ) → prices-are .of-group l < 65536
+  pub numbers-are : Numbered base tree numbers
+  pub rows-below : Entered allowed prices-are base tree (i + 1) costs choices
+  pub own-cost : own ≡ best-cost allowed prices-are (node i tree)
+  pub matches : Matches (back i tree) same
+
+-- The keys of a row after the stretches of up to s siblings: those of up to `span` siblings are final.
+pub record Rowed {costs choices numbers : List ℕ} {i m own limit : ℕ} {prices same : List ℕ} (z : RowReady costs choices numbers i m own limit prices same)
+    (span s : ℕ) (keys : List ℕ) : Type 0 where
+  pub final : (n : ℕ) → 0 < n → n ≤ span → BestKey (z .allowed) (z .prices-are) (stretch (z .tree) i n) (getD keys n 0)
+  pub keyed : (n : ℕ) → 0 < n → i + n ≤ m → Keyed (z .allowed) (z .prices-are) (z .tree) i s n (getD keys n 0)
+
+-- The keys as they may be worked on.
+pub record KeysReady (keys : List ℕ) : Type 0 where
+  pub long : length keys ≡ 1025
+  pub low : (c : ℕ) → getD keys c 0 ≤ top-key
+
+-- The stretches of up to s siblings have done their part, whatever tree and prices the row was asked for.
+pub record Advanced (costs numbers : List ℕ) (i m limit : ℕ) (prices same : List ℕ) (span s : ℕ) (before after : List ℕ) : Type 0 where
+  pub ready : KeysReady after
+  pub rowed : (choices : List ℕ) (own : ℕ) (z : RowReady costs choices numbers i m own limit prices same) → Rowed z span 0 before → Rowed z span s after
+
+-- The row is solved.
+pub record RowSolved {costs choices numbers : List ℕ} {i m own limit : ℕ} {prices same : List ℕ} (z : RowReady costs choices numbers i m own limit prices same)
+    (keys : List ℕ) : Type 0 where
+  pub solved : (n : ℕ) → 0 < n → i + n ≤ m → BestKey (z .allowed) (z .prices-are) (stretch (z .tree) i n) (getD keys n 0)
+
+-- What growing the matches from sibling i + 1 to sibling i does.
+pub record Growing (kinds : List ℕ) (i m : ℕ) (before after : List ℕ) : Type 0 where
+  pub long : length after ≡ 1025
+  pub low : (w : ℕ) → 0 < w → i + w ≤ m → getD after w 0 + i ≤ 1024
+  pub matches : (A : Allowed) (t : Forest) → Run A t → siblings t ≡ m → Classed t m kinds → Matches (back (i + 1) t) before → Matches (back i t) after

@@ -1,0 +1,7 @@
+// Solving one row of the table: the cheapest folds of all stretches that begin at one sibling.
+mod keys;
+mod row;
+
+pub use row::grow;
+pub use row::solve;
+pub use row::start_row;

@@ -1,0 +1,4 @@
+-- What the proofs of the functions share.
+pub mod Cells
+pub mod Tables
+pub mod Listings

@@ -1,0 +1,3 @@
+-- The table and the listing of siblings.
+pub mod Table
+pub mod Listing

@@ -1,0 +1,81 @@
+-- The triangular table of the whole run. The nodes of a run are numbered from its end, against the order of their bytes, so a
+-- stretch of siblings of any sequence is an interval of numbers, and no two sequences share one: one table serves the whole tree.
+-- The stretches that begin at one sibling end at one number, so a row's entries lie together.
+use mathlib.Core.Path.{_≡_}
+use mathlib.Core.List.{List}
+use Prim.Native.Nat.{ℕ, _+_, _-_, _*_, _/_, _<_, _≤_}
+use lib.ListN.{length, getD}
+use Rattle.format.specs.Limits.{Prices}
+use Rattle.format.specs.Forest.{Forest, end, step, group, repeat, Allowed, siblings, nodes, bytes}
+use Rattle.optimum.specs.Cheapest.{front, back, node, usual, Least, best-cost}
+
+-- The entries for n nodes, and the entry of the interval from p up to q.
+abbrev pub cells : ℕ → ℕ
+cells n = n * (n + 1) / 2
+
+abbrev pub cell : (p q : ℕ) → ℕ
+cell p q = q * (q - 1) / 2 + p
+
+-- The number of sibling i of a sequence behind whose end b nodes of the run follow: the nodes of the run from that sibling on.
+abbrev pub number : ℕ → Forest → ℕ → ℕ
+number b t i = b + nodes (back i t)
+
+-- The stretch of d siblings from sibling i on.
+abbrev pub stretch : Forest → (i d : ℕ) → Forest
+stretch t i d = front d (back i t)
+
+-- A choice in one number: count and width of the repeat that comes first, 0 for the plain node.
+abbrev pub packed : (h w : ℕ) → ℕ
+packed h w = h * 1024 + w
+
+-- The entry of an interval holds the cost of the cheapest fold of its stretch, and the pair of least rank.
+pub record Entry (A : Allowed) (P : Prices) (t : Forest) (cost choice : ℕ) : Type 0 where
+  pub costs : cost ≡ best-cost A P t
+  pub count : ℕ
+  pub width : ℕ
+  pub chosen : choice ≡ packed count width
+  pub least : Least A P usual (best-cost A P) t count width
+
+-- All stretches of one sequence from sibling i on are entered.
+pub record Entered (A : Allowed) (P : Prices) (b : ℕ) (t : Forest) (i : ℕ) (costs choices : List ℕ) : Type 0 where
+  pub entry : (j d : ℕ) → i ≤ j → 0 < d → j + d ≤ siblings t
+      → Entry A P (stretch t j d) (getD costs (cell (number b t (j + d)) (number b t j)) 0) (getD choices (cell (number b t (j + d)) (number b t j)) 0)
+
+-- The sequences inside a sequence's groups are entered, and theirs. What follows a group follows its children.
+abbrev pub Below : Allowed → Prices → ℕ → Forest → (costs choices : List ℕ) → Type 0
+Below A P b end cs ks = Unit
+Below A P b (step l f) cs ks = Below A P b f cs ks
+Below A P b (group l g f) cs ks = Entered A P (b + nodes f) g 0 cs ks × Below A P (b + nodes f) g cs ks × Below A P b f cs ks
+Below A P b (repeat h w g f) cs ks = Unit
+
+-- A whole tree is entered: its top sequence and all that lies below.
+pub record Filled (A : Allowed) (P : Prices) (b : ℕ) (t : Forest) (costs choices : List ℕ) : Type 0 where
+  pub top : Entered A P b t 0 costs choices
+  pub below : Below A P b t costs choices
+
+-- Only entries of intervals within [b, b + n) have changed.
+pub record Kept (b n : ℕ) (before after : List ℕ) : Type 0 where
+  pub same-length : length after ≡ length before
+  pub outside : (x : ℕ) → ((p q : ℕ) → b ≤ p → p < q → q ≤ b + n → x ≡ cell p q → ⊥) → getD after x 0 ≡ getD before x 0
+
+-- Only entries of stretches of the sequence t have changed.
+pub record KeptOthers (b : ℕ) (t : Forest) (before after : List ℕ) : Type 0 where
+  pub same-length : length after ≡ length before
+  pub others : (x : ℕ) → ((i j : ℕ) → i < j → j ≤ siblings t → x ≡ cell (number b t j) (number b t i) → ⊥) → getD after x 0 ≡ getD before x 0
+
+-- The first m + 1 numbers fall, and the table has their intervals.
+pub record Falling (numbers : List ℕ) (m room : ℕ) : Type 0 where
+  pub short : m < length numbers
+  pub fall : (i j : ℕ) → i < j → j ≤ m → getD numbers j 0 < getD numbers i 0
+  pub first : getD numbers 0 0 ≤ 1024
+  pub fits : cells (getD numbers 0 0) ≤ room
+
+-- A row is entered: the stretches of 1 to n siblings from sibling i on, and nothing else.
+pub record Stored (numbers : List ℕ) (i n : ℕ) (row : ℕ → ℕ) (before after : List ℕ) : Type 0 where
+  pub same-length : length after ≡ length before
+  pub entered : (d : ℕ) → 0 < d → d ≤ n → getD after (cell (getD numbers (i + d) 0) (getD numbers i 0)) 0 ≡ row d
+  pub others : (x : ℕ) → ((d : ℕ) → 0 < d → d ≤ n → x ≡ cell (getD numbers (i + d) 0) (getD numbers i 0) → ⊥) → getD after x 0 ≡ getD before x 0
+
+-- The cost of the stretch from sibling i up to j, as the table has it.
+abbrev pub cost-at : (costs numbers : List ℕ) (i j : ℕ) → ℕ
+cost-at costs numbers i j = getD costs (cell (getD numbers j 0) (getD numbers i 0)) 0

@@ -1,0 +1,2 @@
+-- What the writer rests on and promises.
+pub mod Writing
