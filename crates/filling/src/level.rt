@@ -1,14 +1,14 @@
 // Filling the table: the stretches of one sequence, after the sequences inside its groups.
+use crate::own::own_cost;
+use format::Format;
+use reader::node_at;
+use solver::grow;
+use solver::solve;
+use solver::start_row;
 use table::classify;
 use table::count_nodes;
 use table::list_siblings;
-use solver::grow;
-use crate::own::own_cost;
-use solver::solve;
-use solver::start_row;
 use table::store_row;
-use format::Format;
-use reader::node_at;
 ghost use Prim.Native.Nat.{ℕ, _+_, _<_, _≤_};
 ghost use lib.ListN.{getD};
 ghost use Rattle.format.specs.Forest.{nodes, at-most};

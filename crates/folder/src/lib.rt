@@ -1,8 +1,8 @@
 // The folder: the cheapest fold of a run under a width limit, ties by byte order. One table serves the whole tree; only lent
 // memory holds it.
+use filling::enter_tree;
 use format::Folded;
 use format::Format;
-use filling::enter_tree;
 use reader::read_run;
 use reader::wide_cost;
 use table::clear;

@@ -8,7 +8,7 @@ use native.Mathlib.Omega.{arith}
 use lib.ListN.{length, getD, set, length-set}
 use lib.Seq.{getD-set-same, getD-set-other}
 use Rattle.solver.specs.Rows.{Copied, Plainly, Pushing, Started, KeysReady, top-key}
-use Rattle.table.specs.Table.{cost-at}
+use Rattle.table.specs.Table.{entry-at}
 use Rattle.table.proofs.Listings.{entry-more, entry-all}
 
 -- The places from `from` up to below d have something of which Q holds, the others what they had.
@@ -45,7 +45,7 @@ module _ (Q : ℕ → ℕ → Type 0) (from : ℕ) (before : List ℕ) where
 
 -- The keys of another row.
 abbrev pub OfRow : (costs choices numbers : List ℕ) (j : ℕ) → ℕ → ℕ → Type 0
-OfRow costs choices numbers j c x = (x ≤ top-key) × (x ≡ cost-at costs numbers j (j + c) * 2097152 + cost-at choices numbers j (j + c))
+OfRow costs choices numbers j c x = (x ≤ top-key) × (x ≡ entry-at costs numbers j (j + c) * 2097152 + entry-at choices numbers j (j + c))
 
 pub copied-all : (costs choices numbers : List ℕ) (j n d : ℕ) (before now : List ℕ) → ((c : ℕ) → getD before c 0 ≤ top-key) → n < d
     → Put (OfRow costs choices numbers j) 1 d before now → Copied costs choices numbers j n before now
@@ -58,7 +58,7 @@ copied-all costs choices numbers j n d before now low past p =
 
 -- Those of the plain node with what follows it.
 abbrev pub OfPlain : (costs numbers : List ℕ) (i own : ℕ) → ℕ → ℕ → Type 0
-OfPlain costs numbers i own c x = (x ≤ top-key) × (x ≡ (own + cost-at costs numbers (i + 1) (i + c)) * 2097152)
+OfPlain costs numbers i own c x = (x ≤ top-key) × (x ≡ (own + entry-at costs numbers (i + 1) (i + c)) * 2097152)
 
 pub plainly-all : (costs numbers : List ℕ) (i n own from d : ℕ) (before now : List ℕ) → ((c : ℕ) → getD before c 0 ≤ top-key) → n < d
     → Put (OfPlain costs numbers i own) from d before now → Plainly costs numbers i n own from before now
@@ -72,7 +72,7 @@ plainly-all costs numbers i n own from d before now low past p =
 
 -- The lesser of what was there and what is pushed.
 abbrev pub push-key : (costs numbers : List ℕ) (i c k : ℕ) → ℕ → ℕ
-push-key costs numbers i c k d = k + cost-at costs numbers (i + c) (i + d) * 2097152
+push-key costs numbers i c k d = k + entry-at costs numbers (i + c) (i + d) * 2097152
 
 abbrev pub OfPush : (costs numbers : List ℕ) (i n c k : ℕ) (before : List ℕ) → ℕ → ℕ → Type 0
 OfPush costs numbers i n c k before d x =

@@ -14,7 +14,7 @@ use Rattle.optimum.proofs.Cut.{back-back, run-back, siblings-back, siblings-le-
 use Rattle.optimum.proofs.Powers.{front-less, reach}
 use Rattle.optimum.proofs.Rank.{rank-usual}
 use Rattle.optimum.proofs.Least.{least-unique}
-use Rattle.table.specs.Table.{Entry, stretch, cost-at}
+use Rattle.table.specs.Table.{Entry, stretch, entry-at}
 use Rattle.solver.specs.Rows.{RowReady, Rowed, RowSolved, KeysReady, Advanced, Started, Settled, Pushed, push, pass, Widened, offer, too-wide, unlike, Matched, BestKey, Keyed, Came, pair-key, offer-key}
 use Rattle.solver.proofs.Offers.{copy-more, near-power, power-near}
 use Rattle.solver.proofs.Stretches.{Modest, fitting, entry-best, best-entry, best-covers, best-low, cost-low, whole-price, whole-candidate, whole-power, first-candidate, first-price, first-key, best-is, keyed-best, best-keyed, best-one, keyed-plain}
@@ -38,14 +38,14 @@ module _ {costs choices numbers : List ℕ} {i m own limit : ℕ} {prices same :
 
   -- The table's entries of the rows further on.
   entered : (j n : ℕ) → i < j → 0 < n → j + n ≤ m
-      → Entry (z .allowed) (z .prices-are) (stretch (z .tree) j n) (cost-at costs numbers j (j + n)) (cost-at choices numbers j (j + n))
+      → Entry (z .allowed) (z .prices-are) (stretch (z .tree) j n) (entry-at costs numbers j (j + n)) (entry-at choices numbers j (j + n))
   entered j n l p h =
       rw (z .numbers-are .numbered j (omega (arith, z .count)), z .numbers-are .numbered (j + n) (omega (arith, z .count)))
       (z .rows-below .entry j n (omega arith) p (omega (arith, z .count)))
 
   -- The cost of what follows the first c of n siblings.
   rest-cost : (c r n : ℕ) → 0 < c → 0 < r → c + r ≡ n → i + n ≤ m
-      → cost-at costs numbers (i + c) (i + n) ≡ best-cost (z .allowed) (z .prices-are) (front r (back (i + c) (z .tree)))
+      → entry-at costs numbers (i + c) (i + n) ≡ best-cost (z .allowed) (z .prices-are) (front r (back (i + c) (z .tree)))
   rest-cost c r n p q e h =
       let f : i + c + r ≡ i + n = omega arith in
       rw (← f) (entered (i + c) r (omega arith) q (omega arith) .costs)
@@ -121,7 +121,7 @@ module _ {costs choices numbers : List ℕ} {i m own limit : ℕ} {prices same :
     -- The key of what is left put behind it.
     module _ (n : ℕ) (some : d < n) (h : i + n ≤ m) where
       follows : (g v : ℕ) → g * v ≡ d → Least (z .allowed) (z .prices-are) usual (best-cost (z .allowed) (z .prices-are)) (stretch (z .tree) i d) g v
-          → getD before d 0 + cost-at costs numbers (i + d) (i + n) * 2097152
+          → getD before d 0 + entry-at costs numbers (i + d) (i + n) * 2097152
           ≡ rank usual (best-cost (z .allowed) (z .prices-are) (stretch (z .tree) i d) + best-cost (z .allowed) (z .prices-are) (front (n - d) (back (i + d) (z .tree)))) g v
       follows g v f l =
           rw (best-is modest i d g v k best l, rest-cost d (n - d) n (omega arith) (omega arith) (omega arith) h)

@@ -7,7 +7,7 @@ use lib.ListN.{length, getD}
 use Rattle.format.specs.Limits.{Prices, of-repeat}
 use Rattle.format.specs.Forest.{Forest, Allowed, siblings, nodes}
 use Rattle.optimum.specs.Cheapest.{Run, front, back, node, rank, usual, price, Candidate, Power, Least, best-cost}
-use Rattle.table.specs.Table.{Entered, cost-at, stretch}
+use Rattle.table.specs.Table.{Entered, entry-at, stretch}
 use Rattle.table.specs.Listing.{Numbered, Classed}
 
 -- The price of each count, as a list.
@@ -76,9 +76,9 @@ pub record Offering (prices : List ℕ) (cost d span from : ℕ) (before after :
 pub record Pushing (costs numbers : List ℕ) (i n c k from : ℕ) (before after : List ℕ) : Type 0 where
   pub same-length : length after ≡ length before
   pub lower : (d : ℕ) → getD after d 0 ≤ getD before d 0
-  pub pushed : (d : ℕ) → from ≤ d → d ≤ n → getD after d 0 ≤ k + cost-at costs numbers (i + c) (i + d) * 2097152
+  pub pushed : (d : ℕ) → from ≤ d → d ≤ n → getD after d 0 ≤ k + entry-at costs numbers (i + c) (i + d) * 2097152
   pub came : (d : ℕ) → (getD after d 0 ≡ getD before d 0)
-      ⊎ ((from ≤ d) × (d ≤ n) × (getD after d 0 ≡ k + cost-at costs numbers (i + c) (i + d) * 2097152))
+      ⊎ ((from ≤ d) × (d ≤ n) × (getD after d 0 ≡ k + entry-at costs numbers (i + c) (i + d) * 2097152))
 
 -- The keys of a row before any repeat is offered: those of the row of sibling i + w as far as the two are the same, and those of
 -- the plain node with the rest.
@@ -86,21 +86,21 @@ pub record Started (costs choices numbers : List ℕ) (i n own w span : ℕ) (ke
   pub long : length keys ≡ 1025
   pub low : (c : ℕ) → getD keys c 0 ≤ top-key
   pub one : getD keys 1 0 ≡ own * 2097152
-  pub copied : (c : ℕ) → 1 < c → c ≤ span → getD keys c 0 ≡ cost-at costs numbers (i + w) (i + w + c) * 2097152 + cost-at choices numbers (i + w) (i + w + c)
-  pub plain : (c : ℕ) → 1 < c → span < c → c ≤ n → getD keys c 0 ≡ (own + cost-at costs numbers (i + 1) (i + c)) * 2097152
+  pub copied : (c : ℕ) → 1 < c → c ≤ span → getD keys c 0 ≡ entry-at costs numbers (i + w) (i + w + c) * 2097152 + entry-at choices numbers (i + w) (i + w + c)
+  pub plain : (c : ℕ) → 1 < c → span < c → c ≤ n → getD keys c 0 ≡ (own + entry-at costs numbers (i + 1) (i + c)) * 2097152
 
 -- The first n keys are those of another row.
 pub record Copied (costs choices numbers : List ℕ) (j n : ℕ) (before after : List ℕ) : Type 0 where
   pub long : length after ≡ length before
   pub low : (c : ℕ) → getD after c 0 ≤ top-key
-  pub copied : (c : ℕ) → 0 < c → c ≤ n → getD after c 0 ≡ cost-at costs numbers j (j + c) * 2097152 + cost-at choices numbers j (j + c)
+  pub copied : (c : ℕ) → 0 < c → c ≤ n → getD after c 0 ≡ entry-at costs numbers j (j + c) * 2097152 + entry-at choices numbers j (j + c)
 
 -- The entries from `from` to n are those of the plain node with the rest, the ones before as they were.
 pub record Plainly (costs numbers : List ℕ) (i n own from : ℕ) (before after : List ℕ) : Type 0 where
   pub long : length after ≡ length before
   pub low : (c : ℕ) → getD after c 0 ≤ top-key
   pub kept : (c : ℕ) → c < from → getD after c 0 ≡ getD before c 0
-  pub plain : (c : ℕ) → from ≤ c → c ≤ n → getD after c 0 ≡ (own + cost-at costs numbers (i + 1) (i + c)) * 2097152
+  pub plain : (c : ℕ) → from ≤ c → c ≤ n → getD after c 0 ≡ (own + entry-at costs numbers (i + 1) (i + c)) * 2097152
 
 -- What a solved stretch of d siblings does to the keys of longer ones. It is followed by what is left where its key is that of a
 -- repeat that covers it,

@@ -1,3 +1,4 @@
 -- The table and the listing of siblings.
+pub mod Keys
 pub mod Table
 pub mod Listing

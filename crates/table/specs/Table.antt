@@ -7,7 +7,8 @@ use Prim.Native.Nat.{ℕ, _+_, _-_, _*_, _/_, _<_, _≤_}
 use lib.ListN.{length, getD}
 use Rattle.format.specs.Limits.{Prices}
 use Rattle.format.specs.Forest.{Forest, end, step, group, repeat, Allowed, siblings, nodes, bytes}
-use Rattle.optimum.specs.Cheapest.{front, back, node, usual, Least, best-cost}
+use Rattle.table.specs.Keys.{packed, key}
+use Rattle.optimum.specs.Cheapest.{front, back, usual, Least, best-cost}
 
 -- The entries for n nodes, and the entry of the interval from p up to q.
 abbrev pub cells : ℕ → ℕ
@@ -23,10 +24,6 @@ number b t i = b + nodes (back i t)
 -- The stretch of d siblings from sibling i on.
 abbrev pub stretch : Forest → (i d : ℕ) → Forest
 stretch t i d = front d (back i t)
-
--- A choice in one number: count and width of the repeat that comes first, 0 for the plain node.
-abbrev pub packed : (h w : ℕ) → ℕ
-packed h w = h * 1024 + w
 
 -- The entry of an interval holds the cost of the cheapest fold of its stretch, and the pair of least rank.
 pub record Entry (A : Allowed) (P : Prices) (t : Forest) (cost choice : ℕ) : Type 0 where
@@ -76,6 +73,18 @@ pub record Stored (numbers : List ℕ) (i n : ℕ) (row : ℕ → ℕ) (before a
   pub entered : (d : ℕ) → 0 < d → d ≤ n → getD after (cell (getD numbers (i + d) 0) (getD numbers i 0)) 0 ≡ row d
   pub others : (x : ℕ) → ((d : ℕ) → 0 < d → d ≤ n → x ≡ cell (getD numbers (i + d) 0) (getD numbers i 0) → ⊥) → getD after x 0 ≡ getD before x 0
 
--- The cost of the stretch from sibling i up to j, as the table has it.
-abbrev pub cost-at : (costs numbers : List ℕ) (i j : ℕ) → ℕ
-cost-at costs numbers i j = getD costs (cell (getD numbers j 0) (getD numbers i 0)) 0
+-- The cost or choice of the stretch from sibling i up to j, as the table has it.
+abbrev pub entry-at : (work numbers : List ℕ) (i j : ℕ) → ℕ
+entry-at work numbers i j = getD work (cell (getD numbers j 0) (getD numbers i 0)) 0
+
+-- The interval from the number of sibling j up to the number q has an entry in a table of that room.
+abbrev pub Held : (numbers : List ℕ) (q j room : ℕ) → Type 0
+Held numbers q j room = (j < length numbers) × (getD numbers j 0 < q) × (q ≤ 1024) × (cell (getD numbers j 0) q < room)
+
+-- The key of the stretch from sibling i up to j, as the table has it, and what that stretch adds to the key of an item that it follows:
+-- its cost alone.
+abbrev pub key-at : (costs choices numbers : List ℕ) (i j : ℕ) → ℕ
+key-at costs choices numbers i j = key (entry-at costs numbers i j) (entry-at choices numbers i j)
+
+abbrev pub rest-key : (costs choices numbers : List ℕ) (i j : ℕ) → ℕ
+rest-key costs choices numbers i j = key (entry-at costs numbers i j) 0

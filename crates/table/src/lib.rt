@@ -1,8 +1,22 @@
 // The table that folding fills: one entry for each stretch of siblings, in lent slices, and the listing of a sequence's siblings that
 // says which entry is whose.
+mod keys;
 mod listing;
 mod triangle;
 
+use format::Format;
+pub use keys::Key;
+pub use keys::choice_of;
+pub use keys::cost_digit;
+pub use keys::count_digit;
+pub use keys::covered;
+pub use keys::key_at;
+pub use keys::key_of;
+pub use keys::rest_key;
+pub use keys::width_digit;
+pub use listing::classify;
+pub use listing::count_nodes;
+pub use listing::list_siblings;
 pub use triangle::clear;
 pub use triangle::entries;
 pub use triangle::entry;
@@ -10,6 +24,10 @@ pub use triangle::look;
 pub use triangle::read;
 pub use triangle::store_row;
 pub use triangle::widen;
-pub use listing::classify;
-pub use listing::count_nodes;
-pub use listing::list_siblings;
+
+// The lists that a sequence is worked in: a place for each of its siblings and one behind the last.
+pub struct Lists {}
+
+impl Lists {
+    pub const LENGTH: usize = Format::NODES + 1;
+}

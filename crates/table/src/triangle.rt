@@ -1,9 +1,12 @@
 // The triangular table: entries of intervals of node numbers, in lent slices.
+use crate::keys::choice_digits;
+use crate::keys::cost_digit;
 ghost use mathlib.Core.Path.{_≡_};
 ghost use mathlib.Core.List.{_++_};
-ghost use Prim.Native.Nat.{ℕ, _+_, _/_, _%_, _<_, _≤_};
+ghost use Prim.Native.Nat.{ℕ, _+_, _/_, _<_, _≤_};
 ghost use lib.ListN.{length, getD, drop, replicate};
-ghost use Rattle.table.specs.Table.{cell, cells, Falling, Stored};
+ghost use Rattle.table.specs.Keys.{cost-digit, choice-digits};
+ghost use Rattle.table.specs.Table.{cell, cells, entry-at, Held, Falling, Stored};
 
 pub fn widen(x: u32) -> u64
     ensures { λ r. ⌜ (r ≡ x) × (r < 4294967296) ⌝ }
@@ -29,7 +32,7 @@ pub fn entry(p: usize, q: usize) -> usize
 
 // The cost or choice of the stretch from the sibling of number q up to sibling j.
 pub fn read(w: &[u32], numbers: &[usize], q: usize, j: usize) -> u64
-    requires { ⌜ (j < length (now numbers)) × (getD (now numbers) j 0 < q) × (q ≤ 1024) × (cell (getD (now numbers) j 0) q < length (now w)) ⌝ }
+    requires { ⌜ Held (now numbers) q j (length (now w)) ⌝ }
     ensures { λ r. ⌜ (r ≡ getD (now (w .entry)) (cell (getD (now (numbers .entry)) j 0) q) 0) × (r < 4294967296) ⌝ }
 {
     widen(w[entry(numbers[j], q)])
@@ -39,7 +42,7 @@ pub fn read(w: &[u32], numbers: &[usize], q: usize, j: usize) -> u64
 pub fn look(w: &[u32], numbers: &[usize], i: usize, j: usize) -> u64
     requires { ⌜ Falling (now numbers) j (length (now w)) ⌝ }
     requires { ⌜ i < j ⌝ }
-    ensures { λ r. ⌜ (r ≡ getD (now (w .entry)) (cell (getD (now (numbers .entry)) j 0) (getD (now (numbers .entry)) i 0)) 0) × (r < 4294967296) ⌝ }
+    ensures { λ r. ⌜ (r ≡ entry-at (now (w .entry)) (now (numbers .entry)) i j) × (r < 4294967296) ⌝ }
 {
     read(w, numbers, numbers[i], j)
 }
@@ -56,16 +59,16 @@ pub fn store_row(
     requires { ⌜ Falling (now numbers) (i + n) (length (now costs)) × Falling (now numbers) (i + n) (length (now choices)) ⌝ }
     requires { ⌜ n < length (now keys) ⌝ }
     requires { ⌜ ((d : ℕ) → 0 < d → d ≤ n → getD (now keys) d 0 < 9007199254740992) ⌝ }
-    ensures costs { λ _. ⌜ Stored (now (numbers .entry)) i n (λ d. getD (now (keys .entry)) d 0 / 2097152) (now (costs .entry)) (now (costs .exit)) ⌝ }
-    ensures choices { λ _. ⌜ Stored (now (numbers .entry)) i n (λ d. getD (now (keys .entry)) d 0 % 2097152) (now (choices .entry)) (now (choices .exit)) ⌝ }
+    ensures costs { λ _. ⌜ Stored (now (numbers .entry)) i n (λ d. cost-digit (getD (now (keys .entry)) d 0)) (now (costs .entry)) (now (costs .exit)) ⌝ }
+    ensures choices { λ _. ⌜ Stored (now (numbers .entry)) i n (λ d. choice-digits (getD (now (keys .entry)) d 0)) (now (choices .entry)) (now (choices .exit)) ⌝ }
 {
     let q = numbers[i];
     let mut d = 1;
     while d <= n {
         let at = entry(numbers[i + d], q);
         let key = keys[d];
-        costs[at] = (key / 2097152) as u32;
-        choices[at] = (key % 2097152) as u32;
+        costs[at] = cost_digit(key) as u32;
+        choices[at] = choice_digits(key) as u32;
         d += 1;
     }
 }

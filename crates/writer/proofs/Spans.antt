@@ -18,7 +18,8 @@ use Rattle.optimum.proofs.Cut.{join-cut, front-add, front-front, front-whole, b
 use Rattle.optimum.proofs.Powers.{reach, spans-usual}
 use Rattle.optimum.proofs.Least.{least-one}
 use Rattle.optimum.proofs.Cheapest.{cheapest-optimal, is-cheapest, least-builds, optimal-end}
-use Rattle.table.specs.Table.{Entry, cell, number, packed, stretch, Falling}
+use Rattle.table.specs.Keys.{packed}
+use Rattle.table.specs.Table.{Entry, cell, number, stretch, Falling}
 use Rattle.table.specs.Listing.{Placed, Numbered}
 use Rattle.table.proofs.Cells.{cells-mono}
 use Rattle.table.proofs.Tables.{falling-numbered, number-last, number-within, number-after-group, below-at}

@@ -1,7 +1,7 @@
 // Writing the cheapest fold by the choices in the table: its length first, then its bytes.
+use format::Format;
 use table::list_siblings;
 use table::look;
-use format::Format;
 ghost use mathlib.Core.Path.{_≡_};
 ghost use Prim.Native.Nat.{_+_, _-_, _<_, _≤_};
 ghost use lib.ListN.{length};

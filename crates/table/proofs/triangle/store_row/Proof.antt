@@ -1,8 +1,9 @@
 -- `table::triangle::store_row` meets its contract. The loop's invariant: the stretches of fewer than d siblings are stored.
 use mathlib.Core.Path.{_≡_}
-use Prim.Native.Nat.{ℕ, _+_, _-_, _/_, _%_, _≤_, _<_}
+use Prim.Native.Nat.{ℕ, _+_, _-_, _≤_, _<_}
 use native.Mathlib.Omega.{arith}
 use lib.ListN.{length, getD}
+use Rattle.table.specs.Keys.{cost-digit, choice-digits}
 use Rattle.table.specs.Table.{Falling, Stored}
 use Rattle.table.proofs.Tables.{falling-cell, falling-read, stored-none, stored-more}
 use Rattle.table.proofs.triangle.store_row.Statement.{statement}
@@ -12,17 +13,21 @@ abbrev Inv-loop : tie.InvT-loop
 Inv-loop costs₀ choices₀ numbers i n keys q d₀ costs choices d =
     (1 ≤ d)
     × (d ≤ n + 1)
-    × Stored numbers i (d - 1) (λ e. getD keys e 0 / 2097152) costs₀ costs
-    × Stored numbers i (d - 1) (λ e. getD keys e 0 % 2097152) choices₀ choices
+    × Stored numbers i (d - 1) (λ e. cost-digit (getD keys e 0)) costs₀ costs
+    × Stored numbers i (d - 1) (λ e. choice-digits (getD keys e 0)) choices₀ choices
 
 abbrev μ-loop : tie.MeasureT-loop
 μ-loop costs₀ choices₀ numbers i n keys q d₀ costs choices d = n + 1 - d
 
+-- The function's start, from where an entry's place is known.
+abbrev start : tie.After-entry Inv-loop μ-loop → tie.Start Inv-loop μ-loop
+start c = c .before .before .before .before .before .before .before .before .before
+
 -- Both tables have the entry.
 in-table : (c : tie.After-entry Inv-loop μ-loop)
-    → (c .entry .result < length (c .before .before .before .before .before .before .before .before .before .args .costs .now)) × (c .entry .result < length (c .before .before .before .before .before .before .before .before .before .args .choices .now))
+    → (c .entry .result < length (start c .args .costs .now)) × (c .entry .result < length (start c .args .choices .now))
 in-table c =
-    let S = c .before .before .before .before .before .before .before .before .before in
+    let S = start c in
     let L = c .before .before .before .loop in
     let fits : (room : ℕ) → Falling (S .args .numbers .now) (S .args .i + S .args .n) room → c .entry .result < room =
     λ room r. omega (arith, falling-cell _ _ _ r (S .args .i) (S .args .i + L .d) (omega arith) (omega arith), c .entry .ensures) in
@@ -58,23 +63,31 @@ mul-key c = omega arith
 shared-slice-read-key : tie.Need-shared-slice-read-key Inv-loop μ-loop
 shared-slice-read-key c = omega arith
 
+cost-digit-requires : tie.Need-cost-digit-requires Inv-loop μ-loop
+cost-digit-requires c κs = tt
+
 cast-costs : tie.Need-cast-costs Inv-loop μ-loop
-cast-costs c = omega (arith, c .before .before .before .before .before .before .before .before .before .before .pre .1 .1 (c .before .before .before .before .loop .d) (omega arith) (omega arith))
+cast-costs c =
+    let L = c .before .before .before .before .before .loop in
+    omega (arith, c .cost-digit .ensures, start (c .before .before) .pre .1 .1 (L .d) (omega arith) (omega arith))
 
 mul-costs : tie.Need-mul-costs Inv-loop μ-loop
-mul-costs c = omega (arith, in-table (c .before), c .before .before .before .before .before .before .before .before .before .before .good)
+mul-costs c = omega (arith, in-table (c .before .before), start (c .before .before) .good)
 
 slice-write-costs : tie.Need-slice-write-costs Inv-loop μ-loop
-slice-write-costs c = omega (arith, in-table (c .before), c .before .before .before .before .loop .inv .2 .same-length)
+slice-write-costs c = omega (arith, in-table (c .before .before), c .before .before .before .before .before .loop .inv .2 .same-length)
+
+choice-digits-requires : tie.Need-choice-digits-requires Inv-loop μ-loop
+choice-digits-requires c κs = tt
 
 cast-choices : tie.Need-cast-choices Inv-loop μ-loop
-cast-choices c = omega arith
+cast-choices c = omega (arith, c .choice-digits .ensures)
 
 mul-choices : tie.Need-mul-choices Inv-loop μ-loop
-mul-choices c = omega (arith, in-table (c .before), c .before .before .before .before .before .before .before .before .before .before .good)
+mul-choices c = omega (arith, in-table (c .before .before .before), start (c .before .before .before) .good)
 
 slice-write-choices : tie.Need-slice-write-choices Inv-loop μ-loop
-slice-write-choices c = omega (arith, in-table (c .before), c .before .before .before .before .loop .inv .3 .same-length)
+slice-write-choices c = omega (arith, in-table (c .before .before .before), c .before .before .before .before .before .before .loop .inv .3 .same-length)
 
 add-d : tie.Need-add-d Inv-loop μ-loop
 add-d c = omega arith
@@ -84,14 +97,16 @@ loop-less c = omega arith
 
 loop-again : tie.Need-loop-again Inv-loop μ-loop
 loop-again c =
-    let S = c .before .before .before .before .before .before .before .before .before .before in
-    let L = c .before .before .before .before .loop in
+    let E = c .before .before .before in
+    let S = start E in
+    let L = E .before .before .before .loop in
     let e : L .d + 1 - 1 ≡ L .d = omega arith in
-    let m = S .args .i + S .args .n in (
+    let m = S .args .i + S .args .n in
+    let at = E .entry .ensures in (
       omega arith,
       omega arith,
-      rw (e, c .before .entry .ensures) (stored-more _ _ (L .d - 1) _ _ _ _ m (omega arith) (omega arith) (S .pre .0 .0) (L .inv .2)),
-      rw (e, c .before .entry .ensures) (stored-more _ _ (L .d - 1) _ _ _ _ m (omega arith) (omega arith) (S .pre .0 .1) (L .inv .3)),
+      rw (e, at, c .before .cost-digit .ensures) (stored-more _ _ (L .d - 1) _ _ _ _ m (omega arith) (omega arith) (S .pre .0 .0) (L .inv .2)),
+      rw (e, at, c .choice-digits .ensures .0) (stored-more _ _ (L .d - 1) _ _ _ _ m (omega arith) (omega arith) (S .pre .0 .1) (L .inv .3)),
     )
 
 same-length : tie.Need-same-length Inv-loop μ-loop
@@ -121,9 +136,11 @@ store-row-spec =
     entry-requires
     mul-key
     shared-slice-read-key
+    cost-digit-requires
     cast-costs
     mul-costs
     slice-write-costs
+    choice-digits-requires
     cast-choices
     mul-choices
     slice-write-choices

@@ -1,0 +1,33 @@
+-- Keys: cost, count and width of a first item as the digits of one number, so that the least key is that of the cheapest fold, and
+-- of the first in byte order among equals. A choice is a key without its cost: count and width of the repeat that comes first, 0 for
+-- the plain node.
+use Prim.Native.Nat.{ℕ, _+_, _*_, _/_, _%_}
+use Rattle.optimum.specs.Cheapest.{usual}
+
+-- Every choice is below this.
+abbrev pub choice-base : ℕ
+choice-base = usual .counts * usual .widths
+
+-- The choice of a count and a width, and the key of a cost and a choice.
+abbrev pub packed : (count width : ℕ) → ℕ
+packed h w = h * usual .widths + w
+
+abbrev pub key : (cost choice : ℕ) → ℕ
+key c x = c * choice-base + x
+
+-- The digits.
+abbrev pub cost-digit : ℕ → ℕ
+cost-digit k = k / choice-base
+
+abbrev pub choice-digits : ℕ → ℕ
+choice-digits k = k % choice-base
+
+abbrev pub count-digit : ℕ → ℕ
+count-digit k = k / usual .widths % usual .counts
+
+abbrev pub width-digit : ℕ → ℕ
+width-digit k = k % usual .widths
+
+-- The siblings that the repeat in a key covers, 0 for the plain node.
+abbrev pub cover : ℕ → ℕ
+cover k = count-digit k * width-digit k

@@ -1,0 +1,83 @@
+// Keys: cost, count and width as the digits of one number, the names and bases of the digits, and the keys that the table has.
+use crate::triangle::read;
+ghost use mathlib.Core.Path.{_≡_};
+ghost use Prim.Native.Nat.{_<_, _≤_};
+ghost use lib.ListN.{length, getD};
+ghost use Rattle.table.specs.Keys.{packed, key, cost-digit, choice-digits, count-digit, width-digit, cover};
+ghost use Rattle.table.specs.Table.{Held, cell};
+
+// The bases of the digits, from the last one on. A choice is the count and the width.
+pub struct Key {}
+
+impl Key {
+    pub const WIDTHS: u64 = 1024;
+
+    pub const COUNTS: u64 = 2048;
+
+    pub const CHOICES: u64 = Key::COUNTS * Key::WIDTHS;
+}
+
+// The choice of a repeat, by count and width.
+pub fn choice_of(count: usize, width: usize) -> u64
+    requires { ⌜ (count ≤ 1024) × (width ≤ 1024) ⌝ }
+    ensures { λ r. ⌜ (r ≡ packed count width) × (r ≤ 1049600) ⌝ }
+{
+    (count as u64) * Key::WIDTHS + (width as u64)
+}
+
+// The key of a cost and a choice.
+pub fn key_of(cost: u64, choice: u64) -> u64
+    requires { ⌜ (cost ≤ 2203318091776) × (choice < 4294967296) ⌝ }
+    ensures { λ r. ⌜ r ≡ key cost choice ⌝ }
+{
+    cost * Key::CHOICES + choice
+}
+
+pub fn cost_digit(key: u64) -> u64
+    ensures { λ r. ⌜ r ≡ cost-digit key ⌝ }
+{
+    key / Key::CHOICES
+}
+
+pub fn choice_digits(key: u64) -> u64
+    ensures { λ r. ⌜ (r ≡ choice-digits key) × (r < 4294967296) ⌝ }
+{
+    key % Key::CHOICES
+}
+
+pub fn count_digit(key: u64) -> usize
+    ensures { λ r. ⌜ (r ≡ count-digit key) × (r < 2048) ⌝ }
+{
+    (key / Key::WIDTHS % Key::COUNTS) as usize
+}
+
+pub fn width_digit(key: u64) -> usize
+    ensures { λ r. ⌜ (r ≡ width-digit key) × (r < 1024) ⌝ }
+{
+    (key % Key::WIDTHS) as usize
+}
+
+// The siblings that the repeat in a key covers, 0 for the plain node.
+pub fn covered(key: u64) -> usize
+    ensures { λ r. ⌜ r ≡ cover key ⌝ }
+{
+    count_digit(key) * width_digit(key)
+}
+
+// The key of the stretch from the sibling of number q up to sibling j, as the table has it.
+pub fn key_at(costs: &[u32], choices: &[u32], numbers: &[usize], q: usize, j: usize) -> u64
+    requires { ⌜ Held (now numbers) q j (length (now costs)) ⌝ }
+    requires { ⌜ Held (now numbers) q j (length (now choices)) ⌝ }
+    ensures { λ r. ⌜ r ≡ key (getD (now (costs .entry)) (cell (getD (now (numbers .entry)) j 0) q) 0) (getD (now (choices .entry)) (cell (getD (now (numbers .entry)) j 0) q) 0) ⌝ }
+{
+    key_of(read(costs, numbers, q, j), read(choices, numbers, q, j))
+}
+
+// What that stretch adds to the key of an item that it follows: its cost. What a rest adds is said here alone, and by both slices.
+pub fn rest_key(costs: &[u32], choices: &[u32], numbers: &[usize], q: usize, j: usize) -> u64
+    requires { ⌜ Held (now numbers) q j (length (now costs)) ⌝ }
+    requires { ⌜ Held (now numbers) q j (length (now choices)) ⌝ }
+    ensures { λ r. ⌜ (r ≡ key (getD (now (costs .entry)) (cell (getD (now (numbers .entry)) j 0) q) 0) 0) × (r < 9007199254740992) ⌝ }
+{
+    key_of(read(costs, numbers, q, j), 0)
+}
