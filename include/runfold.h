@@ -79,9 +79,9 @@ uint8_t runfold_read_run(const uint8_t *run, size_t run_len, uint64_t *answer, s
  * on, as many as the result says; 0 where the run reader refuses the run or no node starts there. Writes nothing. */
 size_t runfold_part(const uint8_t *run, size_t run_len, size_t at);
 
-/* The fold reader: refusals 1, 3 to 12, or the nodes and the bytes of the run and the fold's cost. `costs` prices the labels
+/* The fold reader: refusals 1, 3 to 12, or the nodes and the bytes of the run and the fold's cost. `table` prices the labels
  * and has 256 entries; a repeat of count h costs first + each * (h - 2). Writes `answer` alone. */
-uint8_t runfold_read_fold(const uint8_t *fold, size_t fold_len, size_t limit, const uint16_t *costs, size_t costs_len,
+uint8_t runfold_read_fold(const uint8_t *fold, size_t fold_len, size_t limit, const uint16_t *table, size_t table_len,
                           uint16_t first, uint16_t each, uint64_t *answer, size_t answer_len);
 
 /* The unroller: refusals 1, 3 to 10, 12 and 14, or the length of the run. On success the run stands in the first bytes of

@@ -31,8 +31,8 @@ mod declared {
             fold: *const u8,
             fold_len: usize,
             limit: usize,
-            costs: *const u16,
-            costs_len: usize,
+            table: *const u16,
+            table_len: usize,
             first: u16,
             each: u16,
             answer: *mut u64,
@@ -81,14 +81,14 @@ pub mod raw {
         unsafe { declared::runfold_part(run.as_ptr(), run.len(), at) }
     }
 
-    pub fn read_fold(fold: &[u8], limit: usize, costs: &[u16], first: u16, each: u16, answer: &mut [u64]) -> u8 {
+    pub fn read_fold(fold: &[u8], limit: usize, table: &[u16], first: u16, each: u16, answer: &mut [u64]) -> u8 {
         unsafe {
             declared::runfold_read_fold(
                 fold.as_ptr(),
                 fold.len(),
                 limit,
-                costs.as_ptr(),
-                costs.len(),
+                table.as_ptr(),
+                table.len(),
                 first,
                 each,
                 answer.as_mut_ptr(),

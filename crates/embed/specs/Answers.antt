@@ -24,13 +24,13 @@ unfolding kept
 entries a r = kept a a (r .refusal ∷ r .place ∷ r .nodes ∷ r .length ∷ r .cost ∷ drop 5 a)
 
 -- The run reader gives the nodes.
-abbrev pub of-run : RunReading → FoldReading
-of-run r = record { refusal = r .refusal; place = r .place; nodes = r .nodes; length = 0; cost = 0 }
+abbrev pub from-run-reading : RunReading → FoldReading
+from-run-reading r = record { refusal = r .refusal; place = r .place; nodes = r .nodes; length = 0; cost = 0 }
 
 -- The unroller gives the length written.
-abbrev pub of-unroll : Unrolled → FoldReading
-of-unroll r = record { refusal = r .refusal; place = r .place; nodes = 0; length = r .length; cost = 0 }
+abbrev pub from-unrolled : Unrolled → FoldReading
+from-unrolled r = record { refusal = r .refusal; place = r .place; nodes = 0; length = r .length; cost = 0 }
 
 -- The folder gives the length written and the cost.
-abbrev pub of-fold : Folded → FoldReading
-of-fold r = record { refusal = r .refusal; place = r .place; nodes = 0; length = r .length; cost = r .cost }
+abbrev pub from-folded : Folded → FoldReading
+from-folded r = record { refusal = r .refusal; place = r .place; nodes = 0; length = r .length; cost = r .cost }

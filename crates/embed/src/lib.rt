@@ -18,7 +18,7 @@ ghost use Rattle.format.specs.Parts.{part-of};
 ghost use Rattle.optimum.specs.Demands.{CheapestWithin, CheapestOver, MinimumTree};
 ghost use Rattle.unroller.specs.Unrolling.{unroll-answer, unroll-output};
 ghost use Rattle.folder.specs.Folding.{folding, fold-answer, fold-output, fold-work};
-ghost use Rattle.embed.specs.Answers.{status, kept, entries, of-run, of-unroll, of-fold};
+ghost use Rattle.embed.specs.Answers.{status, kept, entries, from-run-reading, from-unrolled, from-folded};
 
 // The entries of an answer.
 const ENTRIES: usize = 5;
@@ -41,7 +41,7 @@ fn store(answer: &mut [u64], a: FoldReading)
 #[no_mangle]
 pub extern "C" fn runfold_read_run(run: &[u8], answer: &mut [u64]) -> u8
     ensures returned { λ r. ⌜ r ≡ status (now (answer .entry)) (run-reading (now (run .entry)) .refusal) ⌝ }
-    ensures answered { λ _. ⌜ now (answer .exit) ≡ entries (now (answer .entry)) (of-run (run-reading (now (run .entry)))) ⌝ }
+    ensures answered { λ _. ⌜ now (answer .exit) ≡ entries (now (answer .entry)) (from-run-reading (run-reading (now (run .entry)))) ⌝ }
 {
     if answer.len() < ENTRIES {
         return SHORT;
@@ -75,19 +75,19 @@ pub extern "C" fn runfold_part(run: &[u8], at: usize) -> usize
 pub extern "C" fn runfold_read_fold(
     fold: &[u8],
     limit: usize,
-    costs: &[u16],
+    table: &[u16],
     first: u16,
     each: u16,
     answer: &mut [u64],
 ) -> u8
-    ensures returned { λ r. ⌜ r ≡ status (now (answer .entry)) (fold-reading (now (fold .entry)) limit (now (costs .entry)) first each .refusal) ⌝ }
-    ensures answered { λ _. ⌜ now (answer .exit) ≡ entries (now (answer .entry)) (fold-reading (now (fold .entry)) limit (now (costs .entry)) first each) ⌝ }
-    ensures meant { λ r. ⌜ (r ≡ 0 → MeansAtCost limit (now (costs .entry)) first each (now (fold .entry)) (getD (now (answer .exit)) 3 0) (getD (now (answer .exit)) 4 0)) ⌝ }
+    ensures returned { λ r. ⌜ r ≡ status (now (answer .entry)) (fold-reading (now (fold .entry)) limit (now (table .entry)) first each .refusal) ⌝ }
+    ensures answered { λ _. ⌜ now (answer .exit) ≡ entries (now (answer .entry)) (fold-reading (now (fold .entry)) limit (now (table .entry)) first each) ⌝ }
+    ensures meant { λ r. ⌜ (r ≡ 0 → MeansAtCost limit (now (table .entry)) first each (now (fold .entry)) (getD (now (answer .exit)) 3 0) (getD (now (answer .exit)) 4 0)) ⌝ }
 {
     if answer.len() < ENTRIES {
         return SHORT;
     }
-    let r = read_fold(fold, limit, costs, first, each);
+    let r = read_fold(fold, limit, table, first, each);
     store(answer, r);
     r.refusal
 }
@@ -101,7 +101,7 @@ pub extern "C" fn runfold_unroll(
     answer: &mut [u64],
 ) -> u8
     ensures returned { λ r. ⌜ r ≡ status (now (answer .entry)) (unroll-answer (measured (now (fold .entry)) limit) (length (now (out .entry))) .refusal) ⌝ }
-    ensures answered { λ _. ⌜ now (answer .exit) ≡ entries (now (answer .entry)) (of-unroll (unroll-answer (measured (now (fold .entry)) limit) (length (now (out .entry))))) ⌝ }
+    ensures answered { λ _. ⌜ now (answer .exit) ≡ entries (now (answer .entry)) (from-unrolled (unroll-answer (measured (now (fold .entry)) limit) (length (now (out .entry))))) ⌝ }
     ensures written { λ _. ⌜ now (out .exit) ≡ kept (now (answer .entry)) (now (out .entry)) (unroll-output (measured (now (fold .entry)) limit) (now (out .entry))) ⌝ }
     ensures meant { λ r. ⌜ (r ≡ 0 → Means limit (now (fold .entry)) (take (getD (now (answer .exit)) 3 0) (now (out .exit)))) ⌝ }
 {
@@ -136,7 +136,7 @@ pub extern "C" fn runfold_fold(
     answer: &mut [u64],
 ) -> u8
     ensures returned { λ r. ⌜ r ≡ status (now (answer .entry)) (fold-answer (folding (now (run .entry)) limit (now (table .entry)) first each) (length (now (costs .entry))) (length (now (choices .entry))) (length (now (out .entry))) .refusal) ⌝ }
-    ensures answered { λ _. ⌜ now (answer .exit) ≡ entries (now (answer .entry)) (of-fold (fold-answer (folding (now (run .entry)) limit (now (table .entry)) first each) (length (now (costs .entry))) (length (now (choices .entry))) (length (now (out .entry))))) ⌝ }
+    ensures answered { λ _. ⌜ now (answer .exit) ≡ entries (now (answer .entry)) (from-folded (fold-answer (folding (now (run .entry)) limit (now (table .entry)) first each) (length (now (costs .entry))) (length (now (choices .entry))) (length (now (out .entry))))) ⌝ }
     ensures written { λ _. ⌜ now (out .exit) ≡ kept (now (answer .entry)) (now (out .entry)) (fold-output (folding (now (run .entry)) limit (now (table .entry)) first each) (length (now (costs .entry))) (length (now (choices .entry))) (now (out .entry))) ⌝ }
     ensures costs_cleared { λ _. ⌜ now (costs .exit) ≡ kept (now (answer .entry)) (now (costs .entry)) (fold-work (folding (now (run .entry)) limit (now (table .entry)) first each) (length (now (costs .entry))) (length (now (choices .entry))) (now (costs .entry))) ⌝ }
     ensures choices_cleared { λ _. ⌜ now (choices .exit) ≡ kept (now (answer .entry)) (now (choices .entry)) (fold-work (folding (now (run .entry)) limit (now (table .entry)) first each) (length (now (costs .entry))) (length (now (choices .entry))) (now (choices .entry))) ⌝ }

@@ -9,9 +9,9 @@ use borrow.Author.Tests.{lt-ltb, le-ltb}
 use native.Mathlib.Numerals.{add-one}
 use lib.ListN.{length, length-append, getD, set, take}
 use lib.Seq.{take-suc, take-length}
-use Rattle.fold.specs.Put.{Put}
+use Rattle.fold.specs.PutText.{PutText}
 use Rattle.fold.proofs.Puts.{put-one, put-two, put-both, put-same, put-length}
-use Rattle.fold.specs.Text.{digit, digits, decimal, hexadecimal, of-fold, line}
+use Rattle.fold.specs.Text.{digit, digits, decimal, hexadecimal, fold-text, line}
 
 -- One digit; several: those ahead of the last, then the last.
 digits-one : (k n : ℕ) → n < 10 → digits (suc k) n ≡ digit n ∷ []
@@ -74,45 +74,45 @@ hexadecimal-next (a ∷ s) b =
     ap (λ (t : List ℕ). digit (a / 16) ∷ digit (a % 16) ∷ t) (hexadecimal-next s b)
 
 -- A fold that is not empty is its digits.
-pub of-fold-some : (s : List ℕ) → 0 < length s → of-fold s ≡ hexadecimal s
-unfolding of-fold
-of-fold-some [] h = absurd (omega arith)
-of-fold-some (b ∷ s) h = refl
+pub fold-text-some : (s : List ℕ) → 0 < length s → fold-text s ≡ hexadecimal s
+unfolding fold-text
+fold-text-some [] h = absurd (omega arith)
+fold-text-some (b ∷ s) h = refl
 
-pub of-fold-none : (s : List ℕ) → length s ≡ 0 → of-fold s ≡ 45 ∷ []
-unfolding of-fold
-of-fold-none [] h = refl
-of-fold-none (b ∷ s) h = absurd (omega arith)
+pub fold-text-none : (s : List ℕ) → length s ≡ 0 → fold-text s ≡ 45 ∷ []
+unfolding fold-text
+fold-text-none [] h = refl
+fold-text-none (b ∷ s) h = absurd (omega arith)
 
-pub of-fold-length : (s : List ℕ) → length (of-fold s) ≤ 1 + 2 * length s
-unfolding of-fold
-of-fold-length [] = omega arith
-of-fold-length (b ∷ s) = omega (arith, hexadecimal-length (b ∷ s))
+pub fold-text-length : (s : List ℕ) → length (fold-text s) ≤ 1 + 2 * length s
+unfolding fold-text
+fold-text-length [] = omega arith
+fold-text-length (b ∷ s) = omega (arith, hexadecimal-length (b ∷ s))
 
 -- A digit written behind what is there: the only one of a number, its last one, the two of one byte more.
-pub put-only : (x : List ℕ) (i n d : ℕ) → n < 10 → d ≡ digit n → i < length x → Put x (set x i d) i (decimal n) (i + 1)
+pub put-only : (x : List ℕ) (i n d : ℕ) → n < 10 → d ≡ digit n → i < length x → PutText x (set x i d) i (decimal n) (i + 1)
 put-only x i n d small e room = put-same (ap (λ (b : ℕ). b ∷ []) e ∙ sym (decimal-one n small)) (put-one x i d room)
 
-pub put-last : {x y : List ℕ} {i j : ℕ} (n d : ℕ) → 10 ≤ n → d ≡ digit (n % 10) → Put x y i (decimal (n / 10)) j → j < length x
-    → Put x (set y j d) i (decimal n) (j + 1)
+pub put-last : {x y : List ℕ} {i j : ℕ} (n d : ℕ) → 10 ≤ n → d ≡ digit (n % 10) → PutText x y i (decimal (n / 10)) j → j < length x
+    → PutText x (set y j d) i (decimal n) (j + 1)
 put-last {y = y} {j = j} n d large e p room =
     put-same (ap (λ (b : ℕ). decimal (n / 10) ++ b ∷ []) e ∙ sym (decimal-more n large)) (put-both p (put-one y j d (omega (arith, put-length p))))
 
 pub put-byte : {x y : List ℕ} {i j : ℕ} (s : List ℕ) (k high low : ℕ) → high ≡ digit (getD s k 0 / 16)
-    → low ≡ digit (getD s k 0 % 16) → Put x y i (hexadecimal (take k s)) j → k < length s → j + 1 < length x
-    → Put x (set (set y j high) (j + 1) low) i (hexadecimal (take (k + 1) s)) (j + 2)
+    → low ≡ digit (getD s k 0 % 16) → PutText x y i (hexadecimal (take k s)) j → k < length s → j + 1 < length x
+    → PutText x (set (set y j high) (j + 1) low) i (hexadecimal (take (k + 1) s)) (j + 2)
 put-byte {y = y} {j = j} s k high low e f p h room =
     let two : hexadecimal (take k s) ++ high ∷ low ∷ [] ≡ hexadecimal (take (k + 1) s) =
     rw (e, f) (sym (rw (add-one, take-suc s k 0 h) (hexadecimal-next (take k s) (getD s k 0)))) in
     put-same two (put-both p (put-two y j high low (omega (arith, put-length p))))
 
-pub put-every : {x y : List ℕ} {i j : ℕ} (s : List ℕ) (k : ℕ) → k ≡ length s → Put x y i (hexadecimal (take k s)) j
-    → Put x y i (hexadecimal s) j
+pub put-every : {x y : List ℕ} {i j : ℕ} (s : List ℕ) (k : ℕ) → k ≡ length s → PutText x y i (hexadecimal (take k s)) j
+    → PutText x y i (hexadecimal s) j
 put-every s k e p = put-same (ap (λ (n : ℕ). hexadecimal (take n s)) e ∙ ap hexadecimal (take-length s)) p
 
 -- The line of a number of 64 bits is at most 21 bytes longer than its word.
 pub line-reached : {x y : List ℕ} {i j : ℕ} (word : List ℕ) (n : ℕ) → n < 18446744073709551616
-    → Put x y i (line word (decimal n)) j → j ≤ i + length word + 21
+    → PutText x y i (line word (decimal n)) j → j ≤ i + length word + 21
 line-reached word n small p =
     omega (
       arith,

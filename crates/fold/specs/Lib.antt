@@ -1,4 +1,4 @@
 -- What the contracts of the fold program cite.
 pub mod Text
-pub mod Put
+pub mod PutText
 pub mod Printed

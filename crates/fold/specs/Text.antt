@@ -24,10 +24,10 @@ hexadecimal [] = []
 hexadecimal (b ∷ s) = digit (b / 16) ∷ digit (b % 16) ∷ hexadecimal s
 
 -- The bytes of a fold, `-` if there are none.
-unfoldable pub of-fold : List ℕ → List ℕ
+unfoldable pub fold-text : List ℕ → List ℕ
 unfolding hexadecimal
-of-fold [] = 45 ∷ []
-of-fold (b ∷ s) = hexadecimal (b ∷ s)
+fold-text [] = 45 ∷ []
+fold-text (b ∷ s) = hexadecimal (b ∷ s)
 
 -- A line: a word, a text and the end of the line.
 abbrev pub line : (word text : List ℕ) → List ℕ
@@ -52,7 +52,7 @@ at-word = 32 ∷ 97 ∷ 116 ∷ 32 ∷ []
 -- The three lines of a fold.
 abbrev pub three-lines : (nodes cost : ℕ) → (fold : List ℕ) → List ℕ
 three-lines nodes cost fold =
-    line nodes-word (decimal nodes) ++ line cost-word (decimal cost) ++ line fold-word (of-fold fold)
+    line nodes-word (decimal nodes) ++ line cost-word (decimal cost) ++ line fold-word (fold-text fold)
 
 -- The one line of a refusal.
 abbrev pub refusal-line : (number place : ℕ) → List ℕ

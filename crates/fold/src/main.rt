@@ -11,13 +11,13 @@ use text::put_refusal;
 use text::put_report;
 ghost use Prim.Native.Nat.{_≤_};
 ghost use lib.ListN.{length};
-ghost use Rattle.fold.specs.Put.{Put};
+ghost use Rattle.fold.specs.PutText.{PutText};
 ghost use Rattle.fold.specs.Printed.{printed};
 
 // The text that is printed for a run. Unit costs: every label 1, first 1, each 0. The work serves 100 nodes.
 fn answer(run: &[u8], text: &mut [u8]) -> usize
     requires { ⌜ 8252 ≤ length (now text) ⌝ }
-    ensures { λ r. ⌜ Put (now (text .entry)) (now (text .exit)) 0 (printed (now (run .entry))) r ⌝ }
+    ensures { λ r. ⌜ PutText (now (text .entry)) (now (text .exit)) 0 (printed (now (run .entry))) r ⌝ }
 {
     let table = [1u16; 256];
     let mut costs = [0u32; 5050];

@@ -3,8 +3,8 @@
 ghost use mathlib.Core.Path.{_≡_};
 ghost use Prim.Native.Nat.{_+_, _*_, _≤_, _<_};
 ghost use lib.ListN.{length};
-ghost use Rattle.fold.specs.Text.{digit, decimal, hexadecimal, of-fold, line, three-lines, refusal-line};
-ghost use Rattle.fold.specs.Put.{Put};
+ghost use Rattle.fold.specs.Text.{digit, decimal, hexadecimal, fold-text, line, three-lines, refusal-line};
+ghost use Rattle.fold.specs.PutText.{PutText};
 
 // The digit of a number below 16: `0` to `9`, then `A` to `F`.
 fn digit_of(d: u8) -> u8
@@ -20,7 +20,7 @@ fn digit_of(d: u8) -> u8
 // Some bytes as they stand.
 fn put_bytes(bytes: &[u8], out: &mut [u8], at: usize) -> usize
     requires { ⌜ at + length (now bytes) ≤ length (now out) ⌝ }
-    ensures { λ r. ⌜ Put (now (out .entry)) (now (out .exit)) at (now (bytes .entry)) r ⌝ }
+    ensures { λ r. ⌜ PutText (now (out .entry)) (now (out .exit)) at (now (bytes .entry)) r ⌝ }
 {
     let mut i = 0;
     while i < bytes.len() {
@@ -33,7 +33,7 @@ fn put_bytes(bytes: &[u8], out: &mut [u8], at: usize) -> usize
 // A number in decimal: the digits ahead of the last, then the last.
 fn put_decimal(n: u64, out: &mut [u8], at: usize) -> usize
     requires { ⌜ at + length (decimal n) ≤ length (now out) ⌝ }
-    ensures { λ r. ⌜ Put (now (out .entry)) (now (out .exit)) at (decimal n) r ⌝ }
+    ensures { λ r. ⌜ PutText (now (out .entry)) (now (out .exit)) at (decimal n) r ⌝ }
 {
     if n < 10 {
         out[at] = digit_of(n as u8);
@@ -47,7 +47,7 @@ fn put_decimal(n: u64, out: &mut [u8], at: usize) -> usize
 // Each byte by its two digits in capital hexadecimal.
 fn put_hexadecimal(bytes: &[u8], out: &mut [u8], at: usize) -> usize
     requires { ⌜ at + 2 * length (now bytes) ≤ length (now out) ⌝ }
-    ensures { λ r. ⌜ Put (now (out .entry)) (now (out .exit)) at (hexadecimal (now (bytes .entry))) r ⌝ }
+    ensures { λ r. ⌜ PutText (now (out .entry)) (now (out .exit)) at (hexadecimal (now (bytes .entry))) r ⌝ }
 {
     let mut i = 0;
     let mut to = at;
@@ -62,9 +62,9 @@ fn put_hexadecimal(bytes: &[u8], out: &mut [u8], at: usize) -> usize
 }
 
 // A fold's bytes in capital hexadecimal, `-` if there are none.
-fn put_fold(fold: &[u8], out: &mut [u8], at: usize) -> usize
+fn put_fold_text(fold: &[u8], out: &mut [u8], at: usize) -> usize
     requires { ⌜ at + 1 + 2 * length (now fold) ≤ length (now out) ⌝ }
-    ensures { λ r. ⌜ Put (now (out .entry)) (now (out .exit)) at (of-fold (now (fold .entry))) r ⌝ }
+    ensures { λ r. ⌜ PutText (now (out .entry)) (now (out .exit)) at (fold-text (now (fold .entry))) r ⌝ }
 {
     if fold.len() == 0 {
         out[at] = 45;
@@ -76,7 +76,7 @@ fn put_fold(fold: &[u8], out: &mut [u8], at: usize) -> usize
 // The line of a number: a word, the number and the end of the line.
 fn put_number(word: &[u8], n: u64, out: &mut [u8], at: usize) -> usize
     requires { ⌜ at + length (now word) + 21 ≤ length (now out) ⌝ }
-    ensures { λ r. ⌜ Put (now (out .entry)) (now (out .exit)) at (line (now (word .entry)) (decimal n)) r ⌝ }
+    ensures { λ r. ⌜ PutText (now (out .entry)) (now (out .exit)) at (line (now (word .entry)) (decimal n)) r ⌝ }
 {
     let number = put_bytes(word, out, at);
     let end = put_decimal(n, out, number);
@@ -86,19 +86,19 @@ fn put_number(word: &[u8], n: u64, out: &mut [u8], at: usize) -> usize
 // The three lines of a fold: the run's nodes, the fold's cost and its bytes.
 pub fn put_report(nodes: u64, cost: u64, fold: &[u8], out: &mut [u8]) -> usize
     requires { ⌜ 60 + 2 * length (now fold) ≤ length (now out) ⌝ }
-    ensures { λ r. ⌜ Put (now (out .entry)) (now (out .exit)) 0 (three-lines nodes cost (now (fold .entry))) r ⌝ }
+    ensures { λ r. ⌜ PutText (now (out .entry)) (now (out .exit)) 0 (three-lines nodes cost (now (fold .entry))) r ⌝ }
 {
     let second = put_number(b"nodes ", nodes, out, 0);
     let third = put_number(b"cost ", cost, out, second);
     let bytes = put_bytes(b"fold ", out, third);
-    let end = put_fold(fold, out, bytes);
+    let end = put_fold_text(fold, out, bytes);
     put_bytes(b"\n", out, end)
 }
 
 // The one line of a refusal: number and place.
 pub fn put_refusal(number: u64, place: u64, out: &mut [u8]) -> usize
     requires { ⌜ 60 ≤ length (now out) ⌝ }
-    ensures { λ r. ⌜ Put (now (out .entry)) (now (out .exit)) 0 (refusal-line number place) r ⌝ }
+    ensures { λ r. ⌜ PutText (now (out .entry)) (now (out .exit)) 0 (refusal-line number place) r ⌝ }
 {
     let first = put_bytes(b"refused ", out, 0);
     let behind = put_decimal(number, out, first);

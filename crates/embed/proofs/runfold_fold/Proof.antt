@@ -7,7 +7,7 @@ use native.Mathlib.Omega.{arith}
 use lib.ListN.{take}
 use Rattle.format.specs.Limits.{priced}
 use Rattle.optimum.specs.Demands.{CheapestWithin, MinimumTree}
-use Rattle.embed.specs.Answers.{of-fold}
+use Rattle.embed.specs.Answers.{from-folded}
 use Rattle.embed.proofs.Entries.{short-status, short-kept, short-entries, long-kept, stored, of-stored}
 use Rattle.embed.proofs.runfold_fold.Statement.{statement}
 use Rattle.embed.proofs.runfold_fold.Tie as tie
@@ -60,8 +60,8 @@ returns-2 c =
     let long = entry .if1 .left in
     let said = done .fold .ensures in
     let five = after .store .ensures in
-    let answer = of-fold (done .fold .result) in
-    let numbers = stored a long _ answer _ (ap of-fold (said .0)) five in
+    let answer = from-folded (done .fold .result) in
+    let numbers = stored a long _ answer _ (ap from-folded (said .0)) five in
     let table = args .table .now in
     let demand = said .1 .1 .1 .1 in
     let out = done .fold .last .1 .1 .1 .1 .1 .1 .1 .0 in

@@ -27,7 +27,7 @@ returns-2 c =
     let said = done .read-fold .ensures in
     let five = c .before .before .store .ensures in
     let numbers = stored (a .answer .now) (done .before .if1 .left) _ (done .read-fold .result) _ (said .0) five in
-    let Q = MeansAtCost (a .limit) (a .costs .now) (a .first) (a .each) (a .fold .now) in
+    let Q = MeansAtCost (a .limit) (a .table .now) (a .first) (a .each) (a .fold .now) in
     (numbers .0, (numbers .1, λ z. of-stored Q _ (done .read-fold .result) _ five (said .1 z)))
 
 pub runfold-read-fold-spec : {M : Type 1} → statement M

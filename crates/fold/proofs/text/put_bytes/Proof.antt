@@ -3,13 +3,13 @@ use Prim.Native.Nat.{_≤_, _+_, _-_}
 use native.Mathlib.Nat.{add-zero}
 use native.Mathlib.Omega.{arith}
 use lib.ListN.{length, take}
-use Rattle.fold.specs.Put.{Put}
+use Rattle.fold.specs.PutText.{PutText}
 use Rattle.fold.proofs.Puts.{put-none, put-next, put-whole, put-length}
 use Rattle.fold.proofs.text.put_bytes.Statement.{statement}
 use Rattle.fold.proofs.text.put_bytes.Tie as tie
 
 abbrev Inv-loop : tie.InvT-loop
-Inv-loop bytes out₀ at i₀ out i = (i ≤ length bytes) × Put out₀ out at (take i bytes) (at + i)
+Inv-loop bytes out₀ at i₀ out i = (i ≤ length bytes) × PutText out₀ out at (take i bytes) (at + i)
 
 abbrev μ-loop : tie.MeasureT-loop
 μ-loop bytes out₀ at i₀ out i = length bytes - i

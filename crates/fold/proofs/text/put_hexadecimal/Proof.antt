@@ -6,14 +6,14 @@ use Rattle.fold.proofs.Digits.{put-byte, put-every}
 use native.Mathlib.Omega.{arith}
 use lib.ListN.{length, take, length-set}
 use Rattle.fold.specs.Text.{hexadecimal}
-use Rattle.fold.specs.Put.{Put}
+use Rattle.fold.specs.PutText.{PutText}
 use Rattle.fold.proofs.Puts.{put-none, put-length}
 use Rattle.fold.proofs.text.put_hexadecimal.Statement.{statement}
 use Rattle.fold.proofs.text.put_hexadecimal.Tie as tie
 
 abbrev Inv-loop : tie.InvT-loop
 Inv-loop bytes out₀ at i₀ to₀ out i to =
-    (i ≤ length bytes) × (to ≡ at + 2 * i) × Put out₀ out at (hexadecimal (take i bytes)) to
+    (i ≤ length bytes) × (to ≡ at + 2 * i) × PutText out₀ out at (hexadecimal (take i bytes)) to
 
 abbrev μ-loop : tie.MeasureT-loop
 μ-loop bytes out₀ at i₀ to₀ out i to = length bytes - i

@@ -6,7 +6,7 @@ use lib.ListN.{length}
 use lib.Seq.{sets}
 
 -- The whole text stands in the output from a place on, all else is as it was, and r is the place behind it.
-pub record Put (before after : List ℕ) (at : ℕ) (text : List ℕ) (r : ℕ) : Type 0 where
+pub record PutText (before after : List ℕ) (at : ℕ) (text : List ℕ) (r : ℕ) : Type 0 where
   pub reached : r ≡ at + length text
   pub within : r ≤ length before
   pub written : after ≡ sets before at text
