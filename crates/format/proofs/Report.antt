@@ -2,20 +2,19 @@
 -- for the bytes that the fold reader accepts. The report's definitions decide: its index i − (j − 1)h near Proposition 4,
 -- where i − j(h − 1) is meant, plays no part.
 use mathlib.Core.Path.{_≡_, refl, sym, ap, ap₂, _∙_}
-use mathlib.Core.Bool.{Bool, true, false, not, cond}
 use mathlib.Core.Logic.{_↔_, _≢_}
 use mathlib.Core.List.{List}
 use Prim.Native.Nat.{ℕ, zero, suc, _≤_, _<_}
 use native.Mathlib.Nat.{mul-le-mul-right}
 use native.Mathlib.Omega.{arith}
-use lib.Dec.{ltb, eqb}
 use lib.ListN.{length}
 use Rattle.format.specs.Limits.{limits, Prices, of-repeat, priced}
 use Rattle.format.specs.Forest.{Forest, end, step, group, repeat, join, copies, unroll, siblings, cost, bytes, Plain, Allowed, at-most, Sound}
 use Rattle.format.specs.Machine.{Outcome, refused, accepted, read}
 use Rattle.format.specs.Order.{Bytes}
 use Rattle.format.specs.Tree.{tree-of}
-use Rattle.format.specs.Readings.{fold-rules, fold-answer, limited, fold-outcome, fold-reading}
+use Rattle.format.specs.Readings.{fold-rules, fold-answer, fold-outcome, fold-reading}
+use Rattle.format.specs.Head.{Head, full-head}
 use Rattle.format.specs.Shape.{Reads, tally-of}
 use Rattle.format.specs.Report.{RRT, empty, letter, repetition, count, Valid, append, row, Represents, Width, WidthAtMost, size}
 use Rattle.format.specs.Meaning.{report, report-of, TrueWidths, Means, report-size, MeansAtCost}
@@ -24,6 +23,7 @@ use Rattle.format.specs.declared.FoldReading.{FoldReading}
 use Rattle.format.proofs.Forests.{siblings-unroll, plain-unroll, sound-unroll}
 use Rattle.format.proofs.Bridge.{parses}
 use Rattle.format.proofs.Refusals.{refused-some}
+use Rattle.format.proofs.Heads.{headed-accepted, headed-each}
 use Rattle.format.proofs.Tree.{tree-of-bytes}
 use Rattle.format.proofs.Runs.{unrolled-run, run-tree}
 use Rattle.format.proofs.Expansion.{expand, represents, width}
@@ -218,50 +218,36 @@ pub cost-size : (table : List ℕ) (first each : ℕ) (f : Forest) → cost (pri
 unfolding report-size
 cost-size table first each f = cost-report (priced table first each) (λ l. refl) f
 
--- What is accepted behind a test passed it, and what is refused there has a number.
-behind-test : (b : Bool) (n : ℕ) (o : Outcome) (t : Tally) (x : List ℕ) → cond b (refused n 0) o ≡ accepted t x → o ≡ accepted t x
-behind-test true n o t x e = let z : _≡_ {A = ℕ} 0 1 = cc in absurd (omega arith)
-behind-test false n o t x e = e
+-- A fold at an entry point: what is accepted is read, and what is refused has a number.
+module _ (h : Head) (P : Prices) (s : List ℕ) where
+  pub outcome-read : (t : Tally) (x : List ℕ) → fold-outcome h P s ≡ accepted t x → read (fold-rules (h .limit) P) s ≡ accepted t x
+  unfolding fold-outcome
+  outcome-read t x e = headed-accepted limits h (read (fold-rules (h .limit) P) s) t x e
 
-numbered : (b : Bool) (n : ℕ) (o : Outcome) → n ≢ 0 → ((m p : ℕ) → o ≡ refused m p → m ≢ 0) → (m p : ℕ) → cond b (refused n 0) o ≡ refused m p → m ≢ 0
-numbered true n o some rest m p e = λ z. some (cc)
-numbered false n o some rest m p e = rest m p e
+  pub outcome-some : (n p : ℕ) → fold-outcome h P s ≡ refused n p → n ≢ 0
+  unfolding fold-outcome
+  outcome-some n p e =
+      headed-each limits h (read (fold-rules (h .limit) P) s) (λ m. m ≢ 0) (omega arith) (omega arith) (refused-some (fold-rules (h .limit) P) s) n p e
 
-module _ (s : List ℕ) (k : ℕ) where
-  pub limited-read : (P : Prices) (t : Tally) (x : List ℕ) → limited s k P ≡ accepted t x → read (fold-rules k P) s ≡ accepted t x
-  unfolding limited
-  limited-read P t x e = behind-test (ltb (limits .width) k) 12 _ t x e
+-- What the fold reader's success says.
+module _ (s : List ℕ) (k : ℕ) (table : List ℕ) (first each : ℕ) (small : Bytes s) (r : FoldReading) (answered : r ≡ fold-reading s k table first each) (success : r .refusal ≡ 0) where
+  abbrev P : Prices
+  P = priced table first each
 
-  pub limited-some : (P : Prices) (n p : ℕ) → limited s k P ≡ refused n p → n ≢ 0
-  unfolding limited
-  limited-some P n p e = numbered (ltb (limits .width) k) 12 _ (omega arith) (refused-some (fold-rules k P) s) n p e
-
-  module _ (table : List ℕ) (first each : ℕ) where
-    outcome-read : (t : Tally) (x : List ℕ) → fold-outcome s k table first each ≡ accepted t x → read (fold-rules k (priced table first each)) s ≡ accepted t x
-    unfolding fold-outcome
-    outcome-read t x e = limited-read (priced table first each) t x (behind-test (not (eqb (length table) 256)) 11 _ t x e)
-
-    outcome-some : (n p : ℕ) → fold-outcome s k table first each ≡ refused n p → n ≢ 0
-    unfolding fold-outcome
-    outcome-some n p e = numbered (not (eqb (length table) 256)) 11 _ (omega arith) (limited-some (priced table first each)) n p e
-
-    -- What the fold reader's success says.
-    module _ (small : Bytes s) (r : FoldReading) (answered : r ≡ fold-reading s k table first each) (success : r .refusal ≡ 0) where
-      pub reading-means : MeansAtCost k table first each s (r .length) (r .cost)
-      unfolding fold-reading
-      reading-means = by-outcome (fold-outcome s k table first each) refl
-        where
-          by-outcome : (o : Outcome) → fold-outcome s k table first each ≡ o → MeansAtCost k table first each s (r .length) (r .cost)
-          by-outcome (refused n p) e =
-              let q = answered ∙ ap fold-answer e in
-              absurd (outcome-some n p e (sym (ap (λ (y : FoldReading). y .refusal) q) ∙ success))
-          by-outcome (accepted t x) e =
-              let P : Prices = priced table first each in
-              let q = answered ∙ ap fold-answer e in
-              let a = outcome-read t x e in
-              record {
-                text = x;
-                means = accepted-means k P s small t x a;
-                long = accepted-length k P s small t x a ∙ sym (ap (λ (y : FoldReading). y .length) q);
-                weighed = ap (λ (y : FoldReading). y .cost) q ∙ accepted-cost k P s small t x a ∙ cost-size table first each (tree-of s);
-              }
+  pub reading-means : MeansAtCost k table first each s (r .length) (r .cost)
+  unfolding fold-reading
+  reading-means = by-outcome (fold-outcome (full-head table k) P s) refl
+    where
+      by-outcome : (o : Outcome) → fold-outcome (full-head table k) P s ≡ o → MeansAtCost k table first each s (r .length) (r .cost)
+      by-outcome (refused n p) e =
+          let q = answered ∙ ap fold-answer e in
+          absurd (outcome-some (full-head table k) P s n p e (sym (ap (λ (y : FoldReading). y .refusal) q) ∙ success))
+      by-outcome (accepted t x) e =
+          let q = answered ∙ ap fold-answer e in
+          let a = outcome-read (full-head table k) P s t x e in
+          record {
+            text = x;
+            means = accepted-means k P s small t x a;
+            long = accepted-length k P s small t x a ∙ sym (ap (λ (y : FoldReading). y .length) q);
+            weighed = ap (λ (y : FoldReading). y .cost) q ∙ accepted-cost k P s small t x a ∙ cost-size table first each (tree-of s);
+          }

@@ -6,7 +6,7 @@ pub use Rattle.format.specs.declared.Limits.{Limits}
 
 -- What the format bounds: the associated constants of its type, which `Format::limits` gives, are these numbers.
 abbrev pub limits : Limits
-limits = record { nodes = 1024; groups = 8; repeats = 10; width = 1024 }
+limits = record { nodes = 1024; groups = 8; repeats = 10; width = 1024; labels = 256 }
 
 -- The weights of the report's length: of a step's label, of a group's label, and of a repeat, first + each × (h − 2) for h copies.
 pub record Prices : Type 0 where

@@ -1,12 +1,11 @@
 -- What the readers answer: document 01's numbers, places and values for every input.
 use mathlib.Core.Path.{_≡_}
-use mathlib.Core.Bool.{true, false, not, cond}
+use mathlib.Core.Bool.{true, false}
 use mathlib.Core.List.{List, []}
 use Prim.Native.Nat.{ℕ}
-use lib.Dec.{ltb, eqb}
-use lib.ListN.{length}
 use Rattle.format.specs.Limits.{limits, Prices, priced}
 use Rattle.format.specs.Machine.{Rules, Outcome, refused, accepted, read}
+use Rattle.format.specs.Head.{Head, headed, limit-head, full-head}
 use Rattle.format.specs.declared.Tally.{Tally}
 use Rattle.format.specs.declared.RunReading.{RunReading}
 use Rattle.format.specs.declared.FoldReading.{FoldReading}
@@ -44,21 +43,16 @@ abbrev pub fold-answer : Outcome → FoldReading
 fold-answer (refused n p) = record { refusal = n; place = p; nodes = 0; length = 0; cost = 0 }
 fold-answer (accepted t x) = record { refusal = 0; place = 0; nodes = t .nodes; length = t .size; cost = t .cost }
 
--- A fold at a width limit and prices: 12 for the limit, then the commands.
-unfoldable pub limited : List ℕ → (limit : ℕ) → Prices → Outcome
-unfolding read
-limited s k P = cond (ltb (limits .width) k) (refused 12 0) (read (fold-rules k P) s)
+-- A fold at an entry point with this head: the checks of the head, then the commands at its limit.
+unfoldable pub fold-outcome : Head → Prices → List ℕ → Outcome
+unfolding headed read
+fold-outcome h P s = headed limits h (read (fold-rules (h .limit) P) s)
 
 -- A fold at a width limit, without costs.
 abbrev pub measured : List ℕ → (limit : ℕ) → Outcome
-measured s k = limited s k free
+measured s k = fold-outcome (limit-head k) free s
 
--- The fold reader: 11 for the table, then the limit and the commands.
-unfoldable pub fold-outcome : List ℕ → (limit : ℕ) → (table : List ℕ) → (first each : ℕ) → Outcome
-unfolding limited
-fold-outcome s k table first each =
-    cond (not (eqb (length table) 256)) (refused 11 0) (limited s k (priced table first each))
-
+-- The fold reader.
 unfoldable pub fold-reading : List ℕ → (limit : ℕ) → (table : List ℕ) → (first each : ℕ) → FoldReading
 unfolding fold-outcome
-fold-reading s k table first each = fold-answer (fold-outcome s k table first each)
+fold-reading s k table first each = fold-answer (fold-outcome (full-head table k) (priced table first each) s)

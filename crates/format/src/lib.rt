@@ -3,13 +3,24 @@
 
 ghost use mathlib.Core.Path.{_≡_};
 ghost use Rattle.format.specs.Limits.{limits};
+ghost use Rattle.format.specs.Machine.{first-of};
+ghost use Rattle.format.specs.Head.{head-checks};
 
-// What the format bounds: the nodes of a run, the groups and the repeats open at a time, the width limit.
+// What the format bounds: the nodes of a run, the groups and the repeats open at a time, the width limit; and the entries
+// that a label table has.
 pub struct Limits {
     pub nodes: usize,
     pub groups: usize,
     pub repeats: usize,
     pub width: usize,
+    pub labels: usize,
+}
+
+// What is checked before the first command, of what an entry point takes: the entries of the lent label table and the width
+// limit. Of what it does not take an entry point hands what no check refuses.
+pub struct Head {
+    pub labels: usize,
+    pub limit: usize,
 }
 
 // The format of runs and folds. A run is an ordered forest, a fold its repetition representation (source 001).
@@ -24,6 +35,8 @@ impl Format {
     pub const REPEATS: usize = 10;
     // The largest width limit.
     pub const WIDTH: usize = 1024;
+    // The entries of a label table.
+    pub const LABELS: usize = 256;
 
     // A step: its label follows.
     pub const STEP: u8 = 0x10;
@@ -45,8 +58,22 @@ impl Format {
             groups: Format::GROUPS,
             repeats: Format::REPEATS,
             width: Format::WIDTH,
+            labels: Format::LABELS,
         }
     }
+}
+
+// The refusal of a head: 11 for the table, then 12 for the limit; 0 where neither applies.
+pub fn head_refusal(bounds: Limits, head: Head) -> u8
+    ensures { λ r. ⌜ r ≡ first-of (head-checks bounds head) ⌝ }
+{
+    if head.labels != bounds.labels {
+        return 11;
+    }
+    if bounds.width < head.limit {
+        return 12;
+    }
+    0
 }
 
 // What is counted while a sequence is read: the siblings of the innermost level, and of all that was read the nodes,

@@ -1,5 +1,5 @@
 -- From the walk over the top sequence to the reading of the whole input, and to the readers' answers.
-use mathlib.Core.Path.{_≡_, refl, _∙_}
+use mathlib.Core.Path.{_≡_, refl, sym, _∙_}
 use mathlib.Core.Bool.{Bool, true, false}
 use mathlib.Core.List.{List, []}
 use mathlib.Core.Logic.{_≢_}
@@ -7,15 +7,19 @@ use Prim.Native.Nat.{ℕ, _+_, _<_, _≤_}
 use native.Mathlib.Omega.{arith}
 use lib.Dec.{eqb}
 use lib.ListN.{length, getD, drop}
-use borrow.Author.Tests.{ne-eqb, eq-eqb, eqb-true, eqb-false, lt-ltb, le-ltb}
-use Rattle.format.specs.Limits.{Prices, priced}
-use Rattle.format.specs.Machine.{Rules, read, refusal}
+use borrow.Author.Tests.{eqb-true, eqb-false}
+use Rattle.format.specs.Limits.{limits, Prices, priced}
+use Rattle.format.specs.Machine.{Rules, read, refusal, first-of}
+use Rattle.format.specs.Head.{head-checks, headed, full-head}
 use Rattle.format.specs.Order.{Bytes}
 use Rattle.format.specs.Meaning.{MeansAtCost}
-use Rattle.format.specs.Readings.{run-rules, run-reading, fold-rules, limited, fold-reading, fold-answer}
+use Rattle.format.specs.Readings.{run-rules, run-answer, run-reading, fold-rules, fold-outcome, fold-reading, fold-answer}
 use Rattle.format.specs.declared.Tally.{Tally}
+use Rattle.format.specs.declared.Head.{Head}
+use Rattle.format.specs.declared.RunReading.{RunReading}
 use Rattle.format.specs.declared.FoldReading.{FoldReading}
 use Rattle.format.proofs.Machine.{refusal-group-end, refusal-repeat-end}
+use Rattle.format.proofs.Heads.{headed-refused, headed-passed}
 use Rattle.format.proofs.Report.{reading-means}
 use Rattle.reader.specs.Walk.{from, rules-of, Sequence, OpenAt, Whole, outcome}
 use Rattle.reader.specs.declared.command.Terms.{Terms}
@@ -95,28 +99,28 @@ answered R s w walked = by-test (eqb (w .refusal) 0) refl
     by-test true e = rw (e, walked .reads (eqb-true _ _ e) .1)
     by-test false e = rw (e, walked .refuses (eqb-false _ _ e))
 
--- The answer about a fold at a limit and prices.
-module _ (s : List ℕ) (k : ℕ) (P : Prices) where
-  pub limit-over : 1024 < k → record { refusal = 12; place = 0; nodes = 0; length = 0; cost = 0 } ≡ fold-answer (limited s k P)
-  unfolding limited
-  limit-over e = rw (lt-ltb _ _ e)
+-- The answers at an entry point: by the head's refusal, or by what follows.
+module _ (h : Head) (n : ℕ) (checked : n ≡ first-of (head-checks limits h)) where
+  pub admit-refused : (s : List ℕ) → n ≢ 0 → record { refusal = n; place = 0; nodes = 0 } ≡ run-answer (headed limits h (read run-rules s))
+  admit-refused s some = rw (headed-refused limits h (read run-rules s) n checked some)
 
-  pub limit-kept : k ≤ 1024 → (w : Walk) → Whole (fold-rules k P) s w → fold-answer (outcome w) ≡ fold-answer (limited s k P)
-  unfolding limited
-  limit-kept within w walked = rw (le-ltb _ _ within) (answered (fold-rules k P) s w walked)
+  pub admit-read : (s : List ℕ) → n ≡ 0 → (r : RunReading) → r ≡ run-reading s → r ≡ run-answer (headed limits h (read run-rules s))
+  unfolding run-reading
+  admit-read s none r e = e ∙ rw (headed-passed limits h (read run-rules s) (sym none ∙ checked))
+
+  module _ (P : Prices) (s : List ℕ) where
+    pub fold-refused : n ≢ 0 → record { refusal = n; place = 0; nodes = 0; length = 0; cost = 0 } ≡ fold-answer (fold-outcome h P s)
+    unfolding fold-outcome
+    fold-refused some = rw (headed-refused limits h (read (fold-rules (h .limit) P) s) n checked some)
+
+    pub fold-read : n ≡ 0 → (w : Walk) → Whole (fold-rules (h .limit) P) s w → fold-answer (outcome w) ≡ fold-answer (fold-outcome h P s)
+    unfolding fold-outcome
+    fold-read none w walked =
+        rw (headed-passed limits h (read (fold-rules (h .limit) P) s) (sym none ∙ checked)) (answered (fold-rules (h .limit) P) s w walked)
 
 -- The fold reader's answer: it is the reading, and on success means what the report says.
-module _ (s table : List ℕ) (k first each : ℕ) (small : Bytes s) where
-  abbrev Answers : FoldReading → Type 0
-  Answers r = (r ≡ fold-reading s k table first each) × (r .refusal ≡ 0 → MeansAtCost k table first each s (r .length) (r .cost))
-
-  with-meaning : (r : FoldReading) → r ≡ fold-reading s k table first each → Answers r
-  with-meaning r e = (e, reading-means s k table first each small r e)
-
-  pub table-refused : (length table ≡ 256 → ⊥) → Answers (record { refusal = 11; place = 0; nodes = 0; length = 0; cost = 0 })
-  unfolding fold-reading
-  table-refused e = with-meaning _ (rw (ne-eqb _ _ e))
-
-  pub table-passed : length table ≡ 256 → (r : FoldReading) → r ≡ fold-answer (limited s k (priced table first each)) → Answers r
-  unfolding fold-reading
-  table-passed e r q = with-meaning r (q ∙ rw (eq-eqb _ _ e))
+pub with-meaning : (s table : List ℕ) (k first each : ℕ) → Bytes s → (r : FoldReading)
+    → r ≡ fold-answer (fold-outcome (full-head table k) (priced table first each) s)
+    → (r ≡ fold-reading s k table first each) × (r .refusal ≡ 0 → MeansAtCost k table first each s (r .length) (r .cost))
+unfolding fold-reading
+with-meaning s table k first each small r e = (e, reading-means s k table first each small r e)

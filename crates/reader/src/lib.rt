@@ -14,16 +14,20 @@ pub use command::wide;
 pub use command::wide_cost;
 use format::FoldReading;
 use format::Format;
+use format::Head;
 use format::RunReading;
 use format::Tally;
+use format::head_refusal;
 use node::node_end;
 pub use node::opens_node;
 use node::starts_at;
 use walk::sequence;
 ghost use mathlib.Core.Path.{_≡_};
 ghost use mathlib.Core.Bool.{true};
-ghost use Rattle.format.specs.Limits.{priced};
-ghost use Rattle.format.specs.Readings.{run-reading, limited, measured, fold-reading, fold-answer};
+ghost use Rattle.format.specs.Limits.{limits, priced};
+ghost use Rattle.format.specs.Machine.{read};
+ghost use Rattle.format.specs.Head.{headed};
+ghost use Rattle.format.specs.Readings.{run-rules, run-answer, run-reading, fold-outcome, measured, fold-reading, fold-answer};
 ghost use Rattle.format.specs.Meaning.{MeansAtCost};
 ghost use Rattle.format.specs.Parts.{node-part, part-of};
 ghost use Rattle.reader.specs.Walk.{Sane, Whole, outcome, rules-of};
@@ -87,6 +91,21 @@ pub fn read_run(run: &[u8]) -> RunReading
     }
 }
 
+// The admission of a run at an entry point with this head: the checks of the head, then the run's own refusals; or the nodes.
+pub fn admit(run: &[u8], head: Head) -> RunReading
+    ensures { λ r. ⌜ r ≡ run-answer (headed limits head (read run-rules (now (run .entry)))) ⌝ }
+{
+    let refusal = head_refusal(Format::limits(), head);
+    if refusal != 0 {
+        return RunReading {
+            refusal,
+            place: 0,
+            nodes: 0,
+        };
+    }
+    read_run(run)
+}
+
 // The node that stands at an offset, with all it holds; what is left where it does not end.
 pub fn node_at(s: &[u8], at: usize) -> &[u8]
     ensures { λ r. ⌜ now r ≡ node-part (now (s .entry)) at ⌝ }
@@ -145,14 +164,15 @@ fn answer(w: Walk) -> FoldReading
     }
 }
 
-// A fold at a width limit and costs, whatever the table's length: refusals 12, 1 and 3 to 10, or the nodes and the bytes of the
-// run and the fold's cost.
-fn read_limited(fold: &[u8], limit: usize, costs: &[u16], first: u16, each: u16) -> FoldReading
-    ensures { λ r. ⌜ r ≡ fold-answer (limited (now (fold .entry)) limit (priced (now (costs .entry)) first each)) ⌝ }
+// A fold at an entry point with this head: the checks of the head, then refusals 1 and 3 to 10; or the nodes and the bytes of
+// the run and the fold's cost.
+fn read_headed(fold: &[u8], head: Head, costs: &[u16], first: u16, each: u16) -> FoldReading
+    ensures { λ r. ⌜ r ≡ fold-answer (fold-outcome head (priced (now (costs .entry)) first each) (now (fold .entry))) ⌝ }
 {
-    if Format::WIDTH < limit {
+    let number = head_refusal(Format::limits(), head);
+    if number != 0 {
         return FoldReading {
-            refusal: 12,
+            refusal: number,
             place: 0,
             nodes: 0,
             length: 0,
@@ -161,7 +181,7 @@ fn read_limited(fold: &[u8], limit: usize, costs: &[u16], first: u16, each: u16)
     }
     let a = Terms {
         folds: true,
-        widest: limit,
+        widest: head.limit,
         first: wide_cost(first),
         each: wide_cost(each),
     };
@@ -173,7 +193,11 @@ pub fn measure(fold: &[u8], limit: usize) -> FoldReading
     ensures { λ r. ⌜ r ≡ fold-answer (measured (now (fold .entry)) limit) ⌝ }
 {
     let free: [u16; 0] = [0; 0];
-    read_limited(fold, limit, &free, 0, 0)
+    let head = Head {
+        labels: Format::LABELS,
+        limit,
+    };
+    read_headed(fold, head, &free, 0, 0)
 }
 
 // The fold reader: refusals 11, 12, 1 and 3 to 10, or the nodes and the bytes of the run and the fold's cost. What it accepts
@@ -182,14 +206,9 @@ pub fn read_fold(fold: &[u8], limit: usize, costs: &[u16], first: u16, each: u16
     ensures answered { λ r. ⌜ r ≡ fold-reading (now (fold .entry)) limit (now (costs .entry)) first each ⌝ }
     ensures meant { λ r. ⌜ (r .refusal ≡ 0 → MeansAtCost limit (now (costs .entry)) first each (now (fold .entry)) (r .length) (r .cost)) ⌝ }
 {
-    if costs.len() != 256 {
-        return FoldReading {
-            refusal: 11,
-            place: 0,
-            nodes: 0,
-            length: 0,
-            cost: 0,
-        };
-    }
-    read_limited(fold, limit, costs, first, each)
+    let head = Head {
+        labels: costs.len(),
+        limit,
+    };
+    read_headed(fold, head, costs, first, each)
 }

@@ -13,6 +13,7 @@ use borrow.Author.Tests.{lt-ltb, le-ltb}
 use Rattle.format.specs.Forest.{bytes}
 use Rattle.format.specs.Machine.{Outcome, refused, accepted}
 use Rattle.format.specs.Order.{Bytes}
+use Rattle.format.specs.Head.{limit-head}
 use Rattle.format.specs.Readings.{free, fold-rules, fold-answer, measured}
 use Rattle.format.specs.Shape.{Reads}
 use Rattle.format.specs.Meaning.{Means}
@@ -20,7 +21,7 @@ use Rattle.format.specs.declared.FoldReading.{FoldReading}
 use Rattle.format.specs.declared.Tally.{Tally}
 use Rattle.format.specs.declared.Unrolled.{Unrolled}
 use Rattle.format.proofs.Bridge.{parses}
-use Rattle.format.proofs.Report.{accepted-means, accepted-length, limited-read, limited-some}
+use Rattle.format.proofs.Report.{accepted-means, accepted-length, outcome-read, outcome-some}
 use Rattle.unroller.specs.Unrolling.{unroll-answer, unroll-output}
 use Rattle.unroller.specs.Writing.{Sequence, Put}
 use Rattle.unroller.specs.declared.write.Place.{Place}
@@ -44,11 +45,11 @@ module _ (s : List ℕ) (k : ℕ) where
       by-room t x m false b e f z =
           let long : r .length ≡ length x = ap (λ (u : Unrolled). u .length) (rw b at e) in
           rw (long, rw b at f, take-at x (drop (length x) before) (length x) refl)
-          (accepted-means k free s small t x (limited-read s k free t x m))
+          (accepted-means k free s small t x (outcome-read (limit-head k) free s t x m))
 
       by-outcome : (o : Outcome) → measured s k ≡ o → r ≡ unroll-answer o (length before) → after ≡ unroll-output o before
           → r .refusal ≡ 0 → Means k s (take (r .length) after)
-      by-outcome (refused n p) m e f z = absurd (limited-some s k free n p m (sym (ap (λ (u : Unrolled). u .refusal) e) ∙ z))
+      by-outcome (refused n p) m e f z = absurd (outcome-some (limit-head k) free s n p m (sym (ap (λ (u : Unrolled). u .refusal) e) ∙ z))
       by-outcome (accepted t x) m e f z = by-room t x m (ltb (length before) (length x)) refl e f z
 
 -- A fold that was measured and not refused: it is the byte form of a tree, and n is the length of its run.
@@ -70,10 +71,10 @@ module _ (s : List ℕ) (small : Bytes s) (k : ℕ) (m : FoldReading) (reads : m
       go : (o : Outcome) → measured s k ≡ o → Measured s k (m .length)
       go (refused n p) q =
           let same : m ≡ fold-answer (refused n p) = reads ∙ ap fold-answer q in
-          absurd (limited-some s k free n p q (rw same at e))
+          absurd (outcome-some (limit-head k) free s n p q (rw same at e))
       go (accepted t x) q =
           let same : m ≡ fold-answer (accepted t x) = reads ∙ ap fold-answer q in
-          let r = limited-read s k free t x q in
+          let r = outcome-read (limit-head k) free s t x q in
           record {
             tally = t;
             text = x;

@@ -1,0 +1,67 @@
+-- Laws of what is checked before the first command: what a head's refusal answers, and what a passed head says.
+use mathlib.Core.Path.{_≡_, refl, sym, _∙_}
+use mathlib.Core.Bool.{Bool, true, false, cond}
+use mathlib.Core.List.{List}
+use mathlib.Core.Logic.{_≢_}
+use Prim.Native.Nat.{ℕ, zero, suc, _≤_}
+use native.Mathlib.Omega.{arith}
+use lib.Dec.{eqb}
+use borrow.Author.Tests.{ltb-false}
+use Rattle.format.specs.Limits.{Limits}
+use Rattle.format.specs.Machine.{first-of, Outcome, refused, accepted, unless, place-of}
+use Rattle.format.specs.Head.{Head, head-checks, headed}
+use Rattle.format.specs.declared.Tally.{Tally}
+use Rattle.format.proofs.Machine.{first-none}
+use Rattle.format.proofs.Refusals.{first-each}
+
+-- The place is 0 whatever the number.
+place-none : (n : ℕ) → place-of n 0 0 ≡ 0
+place-none n = same (eqb n 3)
+  where
+    same : (b : Bool) → _≡_ {A = ℕ} (cond b 0 0) 0
+    same true = refl
+    same false = refl
+
+-- What is answered behind a check of that number.
+behind : (n : ℕ) (o : Outcome) → n ≢ 0 → unless n 0 0 o ≡ refused n 0
+behind zero o some = absurd (some refl)
+behind (suc n) o some = rw place-none
+
+module _ (L : Limits) (h : Head) (o : Outcome) where
+  pub headed-refused : (n : ℕ) → n ≡ first-of (head-checks L h) → n ≢ 0 → headed L h o ≡ refused n 0
+  unfolding headed
+  headed-refused n e some = rw (← e) (behind n o some)
+
+  pub headed-passed : 0 ≡ first-of (head-checks L h) → headed L h o ≡ o
+  unfolding headed
+  headed-passed e = rw (← e)
+
+  -- What is accepted has a head that no check refuses.
+  module _ (t : Tally) (x : List ℕ) (out : headed L h o ≡ accepted t x) where
+    passed : 0 ≡ first-of (head-checks L h)
+    passed = go (first-of (head-checks L h)) refl
+      where
+        go : (n : ℕ) → first-of (head-checks L h) ≡ n → 0 ≡ n
+        go zero e = refl
+        go (suc n) e = cc (out, headed-refused (suc n) (sym e) (omega arith))
+
+    pub headed-accepted : o ≡ accepted t x
+    headed-accepted = sym (headed-passed passed) ∙ out
+
+    pub headed-narrow : h .limit ≤ L .width
+    unfolding head-checks
+    headed-narrow = ltb-false _ _ (first-none (head-checks L h) (omega arith) (sym passed) .1 .0)
+
+  -- What holds of 11 and 12, and of the numbers of what follows, holds of the refusal's number.
+  pub headed-each : (Q : ℕ → Type 0) → Q 11 → Q 12 → ((m e : ℕ) → o ≡ refused m e → Q m) → (n p : ℕ) → headed L h o ≡ refused n p → Q n
+  unfolding head-checks
+  headed-each Q eleven twelve rest n p out = go (first-of (head-checks L h)) refl number
+    where
+      number : first-of (head-checks L h) ≢ 0 → Q (first-of (head-checks L h))
+      number = first-each (λ m. m ≢ 0 → Q m) (head-checks L h) (λ z. absurd (z refl)) (λ z. eleven, (λ z. twelve, tt))
+
+      go : (m : ℕ) → first-of (head-checks L h) ≡ m → (m ≢ 0 → Q m) → Q n
+      go zero e q = rest n p (sym (headed-passed (sym e)) ∙ out)
+      go (suc m) e q =
+          let same : suc m ≡ n = cc (out, headed-refused (suc m) (sym e) (omega arith)) in
+          rw same at (q (omega arith))

@@ -1,0 +1,26 @@
+-- What is checked at an entry point before the first command: of the lent label table and of the width limit.
+use mathlib.Core.Bool.{not}
+use mathlib.Core.List.{List, [], _∷_}
+use Prim.Native.Nat.{ℕ}
+use lib.Dec.{ltb, eqb}
+use lib.ListN.{length}
+use Rattle.format.specs.Limits.{Limits, limits}
+use Rattle.format.specs.Machine.{Row, _when_, first-of, Outcome, unless}
+pub use Rattle.format.specs.declared.Head.{Head}
+
+-- Document 01's refusals 11 and 12, in its order.
+unfoldable pub head-checks : Limits → Head → List Row
+head-checks L h = 11 when not (eqb (h .labels) (L .labels)) ∷ 12 when ltb (L .width) (h .limit) ∷ []
+
+-- The first head check that applies, at place 0, else what follows.
+unfoldable pub headed : Limits → Head → Outcome → Outcome
+unfolding head-checks
+headed L h next = unless (first-of (head-checks L h)) 0 0 next
+
+-- The head of an entry point that takes a limit and no table: it hands as many labels as no check refuses.
+abbrev pub limit-head : (limit : ℕ) → Head
+limit-head k = record { labels = limits .labels; limit = k }
+
+-- The head of an entry point that takes a table and a limit.
+abbrev pub full-head : (table : List ℕ) → (limit : ℕ) → Head
+full-head table k = record { labels = length table; limit = k }

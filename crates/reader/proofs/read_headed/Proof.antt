@@ -1,0 +1,53 @@
+-- `read_headed` meets its contract.
+use borrow.Author.Needs.{needs}
+use mathlib.Core.Path.{_∙_}
+use Rattle.reader.proofs.Wholes.{fold-refused, fold-read}
+use Rattle.reader.proofs.read_headed.Statement.{statement}
+use Rattle.reader.proofs.read_headed.Tie as tie
+
+limits-requires : tie.Need-limits-requires
+limits-requires c κs = search needs
+
+head-refusal-requires : tie.Need-head-refusal-requires
+head-refusal-requires c κs = search needs
+
+returns : tie.Need-returns
+returns c =
+    let checked = c .before in
+    let a = checked .before .before .before .before .args in
+    fold-refused (a .head) (checked .head-refusal .result) (rw (checked .before .limits .ensures) at (checked .head-refusal .ensures)) _ (a .fold .now) (c .if1 .taken)
+
+wide-cost-requires : tie.Need-wide-cost-requires
+wide-cost-requires c κs = search needs
+
+wide-cost-requires-2 : tie.Need-wide-cost-requires-2
+wide-cost-requires-2 c κs = search needs
+
+whole-requires : tie.Need-whole-requires
+whole-requires c κs = search needs
+
+answer-requires : tie.Need-answer-requires
+answer-requires c κs = search needs
+
+returns-2 : tie.Need-returns-2
+returns-2 c =
+    let first = c .before .before .before in
+    let checked = first .before .before in
+    let a = checked .before .before .before .before .args in
+    c .answer .ensures
+    ∙ fold-read (a .head) (checked .head-refusal .result) (rw (checked .before .limits .ensures) at (checked .head-refusal .ensures)) _ (a .fold .now) (first .before .if1 .left)
+    (c .before .whole .result)
+    (rw (first .wide-cost .ensures .0, c .before .before .wide-cost2 .ensures .0) at (c .before .whole .ensures))
+
+pub read-headed-spec : {M : Type 1} → statement M
+read-headed-spec =
+    tie.close
+    (tie.spec
+    limits-requires
+    head-refusal-requires
+    returns
+    wide-cost-requires
+    wide-cost-requires-2
+    whole-requires
+    answer-requires
+    returns-2)
