@@ -3,11 +3,10 @@ use mathlib.Core.Path.{_≡_, refl, sym, ap, _∙_}
 use mathlib.Core.Logic.{_⊎_, inl, inr, ⊎-map, _↔_}
 use mathlib.Core.List.{List, [], _++_}
 use Prim.Native.Nat.{ℕ}
-use Rattle.format.specs.Limits.{limits, Prices}
 use Rattle.format.specs.Order.{Bytes, Before}
 use Rattle.format.specs.Forest.{unroll, Allowed}
 use Rattle.format.specs.Machine.{Rules, accepted}
-use Rattle.format.specs.Readings.{fold-rules, WellFormed}
+use Rattle.format.specs.Readings.{WellFormed}
 use Rattle.format.specs.Difference.{DiffersFirst}
 use Rattle.format.specs.Shape.{Reads}
 use Rattle.format.specs.declared.Tally.{Tally}
@@ -15,9 +14,8 @@ use Rattle.format.proofs.Bridge.{parses, bytes-injective}
 use Rattle.format.proofs.Order.{irreflexive, asymmetric, differs-before, compare-first, no-beginning}
 
 -- A well-formed fold of the run x reads as a tree.
-spelled : (P : Prices) (f x : List ℕ) → Bytes f → (a : WellFormed P f) → a .text ≡ x
-    → Reads (fold-rules (limits .width) P) f (a .tally) x
-spelled P f x small a e = parses (fold-rules (limits .width) P) f small (a .tally) x (a .reading ∙ ap (accepted (a .tally)) e)
+spelled : (R : Rules) (f x : List ℕ) → Bytes f → (a : WellFormed R f) → a .text ≡ x → Reads R f (a .tally) x
+spelled R f x small a e = parses R f small (a .tally) x (a .reading ∙ ap (accepted (a .tally)) e)
 
 -- The two trees of one run.
 module _ {R : Rules} {f g x : List ℕ} {t u : Tally} (a : Reads R f t x) (b : Reads R g u x) where
@@ -47,14 +45,14 @@ decided (inr (inl d)) h = d
 decided (inr (inr d)) h = absurd (asymmetric h (differs-before d))
 
 -- NO WELL-FORMED FOLD OF A RUN IS THE BEGINNING OF ANOTHER ONE OF IT.
-pub no-fold-begins-another : (P : Prices) (f g z : List ℕ) → Bytes f → Bytes g → (a : WellFormed P f) (b : WellFormed P g)
+pub no-fold-begins-another : (R : Rules) (f g z : List ℕ) → Bytes f → Bytes g → (a : WellFormed R f) (b : WellFormed R g)
     → a .text ≡ b .text → g ≡ f ++ z → (f ≡ g) × (z ≡ [])
-no-fold-begins-another P f g z small small' a b e = begins (spelled P f (b .text) small a e) (spelled P g (b .text) small' b refl) z
+no-fold-begins-another R f g z small small' a b e = begins (spelled R f (b .text) small a e) (spelled R g (b .text) small' b refl) z
 
 -- THE FIRST DIFFERENCE DECIDES: two well-formed folds of a run are the same or differ first at a command, and byte order is: a
 -- plain node before a repeat there, then the smaller count, then the smaller width.
-pub first-difference-decides : (P : Prices) (f g : List ℕ) → Bytes f → Bytes g → (a : WellFormed P f) (b : WellFormed P g)
+pub first-difference-decides : (R : Rules) (f g : List ℕ) → Bytes f → Bytes g → (a : WellFormed R f) (b : WellFormed R g)
     → a .text ≡ b .text → ((f ≡ g) ⊎ (DiffersFirst f g ⊎ DiffersFirst g f)) × (Before f g ↔ DiffersFirst f g)
-first-difference-decides P f g small small' a b e =
-    let d = differ (spelled P f (b .text) small a e) (spelled P g (b .text) small' b refl) in
+first-difference-decides R f g small small' a b e =
+    let d = differ (spelled R f (b .text) small a e) (spelled R g (b .text) small' b refl) in
     (d, (decided d, differs-before))

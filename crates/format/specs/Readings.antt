@@ -22,12 +22,16 @@ run-rules = record { limits = limits; folds = false; widest = 0; prices = free }
 abbrev pub fold-rules : ℕ → Prices → Rules
 fold-rules k P = record { limits = limits; folds = true; widest = k; prices = P }
 
--- A fold is well formed when none of refusals 1 and 3 to 10 applies to it at limit 1,024. The prices decide nothing but the
--- cost that is counted.
-pub record WellFormed (P : Prices) (s : List ℕ) : Type 0 where
+-- The rules of the format: those of folds at the largest width limit.
+abbrev pub format-rules : Prices → Rules
+format-rules P = fold-rules (limits .width) P
+
+-- Bytes are well formed by rules that refuse nothing in them: by the format's, none of refusals 1 and 3 to 10 applies at the
+-- largest width limit. The prices decide nothing but the cost that is counted.
+pub record WellFormed (R : Rules) (s : List ℕ) : Type 0 where
   pub tally : Tally
   pub text : List ℕ
-  pub reading : read (fold-rules (limits .width) P) s ≡ accepted tally text
+  pub reading : read R s ≡ accepted tally text
 
 -- The run reader.
 abbrev pub run-answer : Outcome → RunReading

@@ -9,7 +9,7 @@ use Rattle.format.specs.Limits.{limits, Prices}
 use Rattle.format.specs.Order.{Bytes, Before}
 use Rattle.format.specs.Forest.{Forest, end, step, group, repeat, join, copies, unroll, nodes, cost, bytes, Allowed, at-most, Sound, Coded, group-depth, widest-of}
 use Rattle.format.specs.Machine.{accepted, read}
-use Rattle.format.specs.Readings.{run-rules, fold-rules}
+use Rattle.format.specs.Readings.{run-rules, fold-rules, format-rules}
 use Rattle.format.specs.Shape.{Shaped, Reads, tally-of}
 use Rattle.format.specs.Tree.{tree-of}
 use Rattle.format.specs.declared.Tally.{Tally}
@@ -72,11 +72,11 @@ fold-shaped k P u f s o =
     }
 
 -- Bytes that are a fold of the run within the limit are the byte form of a fold of its tree.
-module _ (k : ℕ) (P : Prices) (u : Forest) (g : List ℕ) (c : ℕ) (small : Bytes g) (w : FoldWithin (bytes u) k P g c) where
-  pub form : Reads (fold-rules (limits .width) P) g (w .formed .tally) (bytes u)
+module _ (k : ℕ) (P : Prices) (u : Forest) (g : List ℕ) (c : ℕ) (small : Bytes g) (w : FoldWithin (bytes u) k (format-rules P) g c) where
+  pub form : Reads (format-rules P) g (w .formed .tally) (bytes u)
   form =
       let r = w .formed in
-      parses (fold-rules (limits .width) P) g small (r .tally) (bytes u) (rw (w .unrolls) at (r .reading))
+      parses (format-rules P) g small (r .tally) (bytes u) (rw (w .unrolls) at (r .reading))
 
   pub tree-fold : FoldOf (at-most k) u (form .tree)
   tree-fold =
@@ -104,7 +104,7 @@ module _ (k : ℕ) (narrow : k ≤ limits .width) (P : Prices) (u : Forest) (run
       (sound-within (at-most 0) A u (omega (arith, sound-widest (at-most 0) u s)) s)
 
   -- The byte form of any fold of the tree is a fold of the run within the limit.
-  pub is-fold : (f : Forest) → FoldOf A u f → FoldWithin (bytes u) k P (bytes f) (cost P f)
+  pub is-fold : (f : Forest) → FoldOf A u f → FoldWithin (bytes u) k (format-rules P) (bytes f) (cost P f)
   unfolding tally-of
   is-fold f o =
       let wide : FoldOf (at-most (limits .width)) u f =
@@ -113,14 +113,14 @@ module _ (k : ℕ) (narrow : k ≤ limits .width) (P : Prices) (u : Forest) (run
         formed = record {
           tally = tally-of P f;
           text = bytes (unroll f);
-          reading = accepts (fold-rules (limits .width) P) f (fold-shaped (limits .width) P u f run wide);
+          reading = accepts (format-rules P) f (fold-shaped (limits .width) P u f run wide);
         };
         unrolls = ap bytes (o .unrolls);
         within = rw tree-of-bytes (sound-widest A f (o .sound));
         costs = refl;
       }
 
-  against : (g : List ℕ) (c : ℕ) (z : Bytes g) (w : FoldWithin (bytes u) k P g c) → NoWorse P (cheapest A P u) (form k P u g c z w .tree)
+  against : (g : List ℕ) (c : ℕ) (z : Bytes g) (w : FoldWithin (bytes u) k (format-rules P) g c) → NoWorse P (cheapest A P u) (form k P u g c z w .tree)
   against g c z w = best .best (form k P u g c z w .tree) (tree-fold k P u g c z w)
 
   no-dearer : {f : Forest} (c : ℕ) → cost P f ≡ c → NoWorse P (cheapest A P u) f → cost P (cheapest A P u) ≤ c
@@ -133,7 +133,7 @@ module _ (k : ℕ) (narrow : k ≤ limits .width) (P : Prices) (u : Forest) (run
   before g m n e (same q) = absurd (n (sym m ∙ ap bytes (sym q)))
   before g m n e (earlier l b) = rw m at b
 
-  pub cheapest-within : CheapestWithin (bytes u) k P (bytes (cheapest A P u)) (best-cost A P u)
+  pub cheapest-within : CheapestWithin (bytes u) k (format-rules P) (bytes (cheapest A P u)) (best-cost A P u)
   unfolding best-cost
   cheapest-within =
       record {
@@ -167,7 +167,7 @@ module _ (s : List ℕ) (small : Bytes s) (t : Tally) (x : List ℕ) (run : read
       coded-bytes f (fold-shaped k P (tree-of s) f run-shape (best k narrow P (tree-of s) run-shape .fold) .coded)
 
   -- DEMANDS 2 AND 3: the cheapest fold of the tree of an accepted run is the cheapest of all bytes.
-  pub cheapest-bytes : (k : ℕ) → k ≤ limits .width → (P : Prices) → CheapestWithin s k P (bytes (cheapest (at-most k) P (tree-of s))) (best-cost (at-most k) P (tree-of s))
+  pub cheapest-bytes : (k : ℕ) → k ≤ limits .width → (P : Prices) → CheapestWithin s k (format-rules P) (bytes (cheapest (at-most k) P (tree-of s))) (best-cost (at-most k) P (tree-of s))
   cheapest-bytes k narrow P =
-      subst (λ (r : List ℕ). CheapestWithin r k P (bytes (cheapest (at-most k) P (tree-of s))) (best-cost (at-most k) P (tree-of s)))
+      subst (λ (r : List ℕ). CheapestWithin r k (format-rules P) (bytes (cheapest (at-most k) P (tree-of s))) (best-cost (at-most k) P (tree-of s)))
       run-form (cheapest-within k narrow P (tree-of s) run-shape)

@@ -8,7 +8,7 @@ use Rattle.format.specs.Limits.{limits, Prices, priced}
 use Rattle.format.specs.Order.{Bytes}
 use Rattle.format.specs.Forest.{Forest, unroll, cost, bytes, at-most, Sound}
 use Rattle.format.specs.Machine.{accepted, read}
-use Rattle.format.specs.Readings.{run-rules, fold-rules}
+use Rattle.format.specs.Readings.{run-rules, fold-rules, format-rules}
 use Rattle.format.specs.Shape.{Reads}
 use Rattle.format.specs.Tree.{tree-of}
 use Rattle.format.specs.Meaning.{Means, report, report-size}
@@ -24,7 +24,7 @@ use Rattle.optimum.proofs.Demands.{form, tree-fold, tree-cost, fold-sha
 
 module _ (s : List ℕ) (small : Bytes s) (t : Tally) (x : List ℕ) (run : read run-rules s ≡ accepted t x)
     (k : ℕ) (narrow : k ≤ limits .width) (table : List ℕ) (first each : ℕ) (f : List ℕ) (c : ℕ) (written : Bytes f)
-    (best : CheapestWithin s k (priced table first each) f c) where
+    (best : CheapestWithin s k (format-rules (priced table first each)) f c) where
   abbrev P : Prices
   P = priced table first each
 
@@ -34,8 +34,8 @@ module _ (s : List ℕ) (small : Bytes s) (t : Tally) (x : List ℕ) (run : read
   spelled : bytes u ≡ s
   spelled = run-form s small t x run
 
-  cheapest : CheapestWithin (bytes u) k P f c
-  cheapest = subst (λ (r : List ℕ). CheapestWithin r k P f c) (sym spelled) best
+  cheapest : CheapestWithin (bytes u) k (format-rules P) f c
+  cheapest = subst (λ (r : List ℕ). CheapestWithin r k (format-rules P) f c) (sym spelled) best
 
   meaning : Means k f s
   meaning =

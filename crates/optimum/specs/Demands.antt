@@ -3,18 +3,18 @@ use mathlib.Core.Path.{_≡_}
 use mathlib.Core.List.{List}
 use Prim.Native.Nat.{ℕ, _<_, _≤_}
 use lib.ListN.{length}
-use Rattle.format.specs.Limits.{Prices}
 use Rattle.format.specs.Order.{Bytes, Before}
 use Rattle.format.specs.Forest.{widest-of}
+use Rattle.format.specs.Machine.{Rules}
 use Rattle.format.specs.Readings.{WellFormed}
 use Rattle.format.specs.Tree.{tree-of}
 use Rattle.format.specs.Meaning.{Means, report-of, report-size}
 use Rattle.format.specs.Report.{RRT, Valid, WidthAtMost, Represents}
 
--- The bytes g are a fold of the run within the limit, of this cost: they are well formed, they unroll to the run byte for
--- byte, no width operand passes the limit, and the cost is the one that is read.
-pub record FoldWithin (run : List ℕ) (limit : ℕ) (P : Prices) (g : List ℕ) (cost : ℕ) : Type 0 where
-  pub formed : WellFormed P g
+-- The bytes g are a fold of the run within the limit, of this cost: they are well formed by the rules, they unroll to the
+-- run byte for byte, no width operand passes the limit, and the cost is the one that is read.
+pub record FoldWithin (run : List ℕ) (limit : ℕ) (R : Rules) (g : List ℕ) (cost : ℕ) : Type 0 where
+  pub formed : WellFormed R g
   pub unrolls : formed .text ≡ run
   pub within : widest-of (tree-of g) ≤ limit
   pub costs : formed .tally .cost ≡ cost
@@ -22,16 +22,16 @@ pub record FoldWithin (run : List ℕ) (limit : ℕ) (P : Prices) (g : List ℕ)
 -- The bytes f are the cheapest fold of the run within the limit, at this cost: they are a fold of it (demand 2), every fold
 -- of the run within the limit, whoever wrote it and however nested, costs at least as much, and every other one of exactly
 -- that cost has bytes that come later (demand 3).
-pub record CheapestWithin (run : List ℕ) (limit : ℕ) (P : Prices) (f : List ℕ) (cost : ℕ) : Type 0 where
-  pub fold : FoldWithin run limit P f cost
-  pub no-cheaper : (g : List ℕ) (c : ℕ) → Bytes g → FoldWithin run limit P g c → cost ≤ c
-  pub first : (g : List ℕ) (c : ℕ) → Bytes g → FoldWithin run limit P g c → c ≡ cost → (g ≡ f → ⊥) → Before f g
+pub record CheapestWithin (run : List ℕ) (limit : ℕ) (R : Rules) (f : List ℕ) (cost : ℕ) : Type 0 where
+  pub fold : FoldWithin run limit R f cost
+  pub no-cheaper : (g : List ℕ) (c : ℕ) → Bytes g → FoldWithin run limit R g c → cost ≤ c
+  pub first : (g : List ℕ) (c : ℕ) → Bytes g → FoldWithin run limit R g c → c ≡ cost → (g ≡ f → ⊥) → Before f g
 
 -- The cheapest fold of the run within the limit has no room: what refusal 14 says.
-pub record CheapestOver (room : ℕ) (run : List ℕ) (limit : ℕ) (P : Prices) : Type 0 where
+pub record CheapestOver (room : ℕ) (run : List ℕ) (limit : ℕ) (R : Rules) : Type 0 where
   pub fold : List ℕ
   pub cost : ℕ
-  pub cheapest : CheapestWithin run limit P fold cost
+  pub cheapest : CheapestWithin run limit R fold cost
   pub longer : room < length fold
 
 -- The report's own problem (minimum width-k repetition representation tree): the tree of f is of width k and represents the

@@ -11,6 +11,7 @@ use lib.ListN.{length, getD, drop, length-drop}
 use lib.Seq.{getD-drop}
 use borrow.Author.Tests.{lt-ltb, le-ltb, eq-eqb, ne-eqb, le-leb, lt-leb}
 use Rattle.format.specs.Machine.{Rules, Open, a-group, a-repeat, refusal, place-of, put-step, enter-group, leave-group, enter-repeat, leave-repeat, with-node, after-group, after-repeat, count, width, times}
+use Rattle.format.specs.declared.Limits.{Limits}
 use Rattle.format.specs.declared.Tally.{Tally}
 use Rattle.format.proofs.Machine.{refusal-step, refusal-group, refusal-group-end, refusal-repeat, refusal-repeat-end, repeat-passes, group-end-passes, repeat-end-passes, scan-step, scan-group, scan-group-end, scan-repeat, scan-repeat-end}
 use Rattle.reader.specs.Walk.{rules-of, At, Halted, Room, Grown, OpenAt, Item, Entered, Left, in-group-of, in-repeat-of, word-at, repeat-at}
@@ -35,17 +36,17 @@ module _ (a : Terms) (table s : List ℕ) (d : Depth) (p : ℕ) (t : Tally) wher
       item-refused R s d p t _ (λ z. omega arith)
       (λ os o x. stop R s p os t x 3 (h .below) (omega arith) (rw (h .byte, refusal-step R (at os t x) (drop (p + 1) s), lt-ltb _ _ (rest-short s p 1 (h .below) e))))
 
-  pub step-full : At s p 0x10 → p + 2 ≤ length s → 1024 ≤ t .nodes → (u : Tally) → Item R s d p t (record { refusal = 10; at = p; tally = u })
+  pub step-full : At s p 0x10 → p + 2 ≤ length s → a .limits .nodes ≤ t .nodes → (u : Tally) → Item R s d p t (record { refusal = 10; at = p; tally = u })
   step-full h e f u =
       item-refused R s d p t _ (λ z. omega arith)
-      (λ os o x. stop R s p os t x 10 (h .below) (omega arith) (rw (h .byte, refusal-step R (at os t x) (drop (p + 1) s), le-ltb _ _ (rest-long s p 1 e), lt-ltb 1024 (t .nodes + 1) (omega arith))))
+      (λ os o x. stop R s p os t x 10 (h .below) (omega arith) (rw (h .byte, refusal-step R (at os t x) (drop (p + 1) s), le-ltb _ _ (rest-long s p 1 e), lt-ltb (a .limits .nodes) (t .nodes + 1) (omega arith))))
 
-  pub step-on : At s p 0x10 → p + 2 ≤ length s → t .nodes < 1024 → (k : ℕ) → k ≡ getD table (getD s (p + 1) 0) 0 → k < 65536 → Item R s d p t (record { refusal = 0; at = p + 2; tally = with-node t 2 k })
+  pub step-on : At s p 0x10 → p + 2 ≤ length s → t .nodes < a .limits .nodes → (k : ℕ) → k ≡ getD table (getD s (p + 1) 0) 0 → k < 65536 → Item R s d p t (record { refusal = 0; at = p + 2; tally = with-node t 2 k })
   unfolding put-step
   step-on h e f k q g =
       record {
         moves = record {
-          goes = λ z os o x. (x ++ 0x10 ∷ getD s (p + 1) 0 ∷ [], rw (cut-two s p e, h .byte, q) (scan-step R p (at os t x) (drop (p + 2) s) (getD s (p + 1) 0) (refusal-step R (at os t x) (getD s (p + 1) 0 ∷ drop (p + 2) s) ∙ rw (le-ltb 1024 (t .nodes + 1) (omega arith), le-ltb (suc (length (drop (p + 2) s))) 1 (omega arith)))));
+          goes = λ z os o x. (x ++ 0x10 ∷ getD s (p + 1) 0 ∷ [], rw (cut-two s p e, h .byte, q) (scan-step R p (at os t x) (drop (p + 2) s) (getD s (p + 1) 0) (refusal-step R (at os t x) (getD s (p + 1) 0 ∷ drop (p + 2) s) ∙ rw (le-ltb (a .limits .nodes) (t .nodes + 1) (omega arith), le-ltb (suc (length (drop (p + 2) s))) 1 (omega arith)))));
           stops = λ z. absurd (z refl);
         };
         ahead = λ z. omega arith;
@@ -59,24 +60,24 @@ module _ (a : Terms) (table s : List ℕ) (d : Depth) (p : ℕ) (t : Tally) wher
       entered-refused R s d p t _ (λ z. omega arith) (in-group-of d) o 2 1 65535
       (λ os m x. stop R s p os t x 3 (h .below) (omega arith) (rw (h .byte, refusal-group R (at os t x) (drop (p + 1) s), lt-ltb _ _ (rest-short s p 1 (h .below) e))))
 
-  pub group-deep : At s p 0x11 → p + 2 ≤ length s → 8 ≤ d .groups → (o : Open) (u : Tally) → Entered R s d (in-group-of d) p t o 2 1 65535 (record { refusal = 8; at = p; tally = u })
+  pub group-deep : At s p 0x11 → p + 2 ≤ length s → a .limits .groups ≤ d .groups → (o : Open) (u : Tally) → Entered R s d (in-group-of d) p t o 2 1 65535 (record { refusal = 8; at = p; tally = u })
   group-deep h e f o u =
       entered-refused R s d p t _ (λ z. omega arith) (in-group-of d) o 2 1 65535
-      (λ os m x. stop R s p os t x 8 (h .below) (omega arith) (rw (h .byte, refusal-group R (at os t x) (drop (p + 1) s), le-ltb _ _ (rest-long s p 1 e), m .groups, le-leb 8 (d .groups) f)))
+      (λ os m x. stop R s p os t x 8 (h .below) (omega arith) (rw (h .byte, refusal-group R (at os t x) (drop (p + 1) s), le-ltb _ _ (rest-long s p 1 e), m .groups, le-leb (a .limits .groups) (d .groups) f)))
 
-  pub group-full : At s p 0x11 → p + 2 ≤ length s → d .groups < 8 → 1024 ≤ t .nodes → (o : Open) (u : Tally) → Entered R s d (in-group-of d) p t o 2 1 65535 (record { refusal = 10; at = p; tally = u })
+  pub group-full : At s p 0x11 → p + 2 ≤ length s → d .groups < a .limits .groups → a .limits .nodes ≤ t .nodes → (o : Open) (u : Tally) → Entered R s d (in-group-of d) p t o 2 1 65535 (record { refusal = 10; at = p; tally = u })
   group-full h e f g o u =
       entered-refused R s d p t _ (λ z. omega arith) (in-group-of d) o 2 1 65535
-      (λ os m x. stop R s p os t x 10 (h .below) (omega arith) (rw (h .byte, refusal-group R (at os t x) (drop (p + 1) s), le-ltb _ _ (rest-long s p 1 e), m .groups, lt-leb 8 (d .groups) f, lt-ltb 1024 (t .nodes + 1) (omega arith))))
+      (λ os m x. stop R s p os t x 10 (h .below) (omega arith) (rw (h .byte, refusal-group R (at os t x) (drop (p + 1) s), le-ltb _ _ (rest-long s p 1 e), m .groups, lt-leb (a .limits .groups) (d .groups) f, lt-ltb (a .limits .nodes) (t .nodes + 1) (omega arith))))
 
-  pub group-on : Room d t → At s p 0x11 → p + 2 ≤ length s → d .groups < 8 → t .nodes < 1024 → (k : ℕ) → k ≡ getD table (getD s (p + 1) 0) 0 → k < 65536 → Entered R s d (in-group-of d) p t (a-group t) 2 1 65535 (record { refusal = 0; at = p + 2; tally = record { siblings = 0; nodes = t .nodes + 1; size = t .size + 2; cost = t .cost + k } })
+  pub group-on : Room (a .limits) d t → At s p 0x11 → p + 2 ≤ length s → d .groups < a .limits .groups → t .nodes < a .limits .nodes → (k : ℕ) → k ≡ getD table (getD s (p + 1) 0) 0 → k < 65536 → Entered R s d (in-group-of d) p t (a-group t) 2 1 65535 (record { refusal = 0; at = p + 2; tally = record { siblings = 0; nodes = t .nodes + 1; size = t .size + 2; cost = t .cost + k } })
   unfolding enter-group
   group-on room h e f g k q j =
       record {
         moves = record {
           goes = λ z os o x.
               let n : t .cost + getD table (getD s (p + 1) 0) 0 ≡ t .cost + getD table (getD s (p + 1) 0) 0 + 0 = omega arith in
-              (x ++ 0x11 ∷ getD s (p + 1) 0 ∷ [], rw (cut-two s p e, h .byte, q, n) (scan-group R p (at os t x) (drop (p + 2) s) (getD s (p + 1) 0) (refusal-group R (at os t x) (getD s (p + 1) 0 ∷ drop (p + 2) s) ∙ rw (le-ltb (suc (length (drop (p + 2) s))) 1 (omega arith), o .groups, lt-leb 8 (d .groups) f, le-ltb 1024 (t .nodes + 1) (omega arith)))));
+              (x ++ 0x11 ∷ getD s (p + 1) 0 ∷ [], rw (cut-two s p e, h .byte, q, n) (scan-group R p (at os t x) (drop (p + 2) s) (getD s (p + 1) 0) (refusal-group R (at os t x) (getD s (p + 1) 0 ∷ drop (p + 2) s) ∙ rw (le-ltb (suc (length (drop (p + 2) s))) 1 (omega arith), o .groups, lt-leb (a .limits .groups) (d .groups) f, le-ltb (a .limits .nodes) (t .nodes + 1) (omega arith)))));
           stops = λ z. absurd (z refl);
         };
         ahead = λ z. omega arith;
@@ -100,7 +101,7 @@ width-at s p =
     let f : p + 1 + 3 ≡ p + 3 + 1 = omega arith in
     simp (getD-drop, e, f)
 
-module _ (a : Terms) (table s : List ℕ) (d : Depth) (p : ℕ) (t : Tally) (h : At s p 0x20) (room : Room d t) where
+module _ (a : Terms) (table s : List ℕ) (d : Depth) (p : ℕ) (t : Tally) (h : At s p 0x20) (room : Room (a .limits) d t) where
   refused-repeat : (n : ℕ) → n ≢ 0 → ((os : List Open) → OpenAt d os → (x : List ℕ) → refusal (rules-of a table) (at os t x) 0x20 (drop (p + 1) s) ≡ n) → (o : Open) (u : Tally) → Entered (rules-of a table) s d (in-repeat-of d) p t o 0 0 4294967295 (record { refusal = n; at = place-of n p (length s); tally = u })
   refused-repeat n z e o u =
       entered-refused (rules-of a table) s d p t _ z (in-repeat-of d) o 0 0 4294967295
@@ -127,11 +128,11 @@ module _ (a : Terms) (table s : List ℕ) (d : Depth) (p : ℕ) (t : Tally) (h :
             refused-repeat 7 (omega arith) (λ os m x. rw (refusal-repeat (rules-of a table) (at os t x) (drop (p + 1) s) (room .nodes), folds, le-ltb _ _ (rest-long s p 4 long), count-at s p, width-at s p, le-ltb _ _ twice, lt-ltb _ _ e))
 
         module _ (narrow : word-at s (p + 3) ≤ a .widest) where
-          pub repeat-deep : 10 ≤ d .repeats → (o : Open) (u : Tally) → Entered (rules-of a table) s d (in-repeat-of d) p t o 0 0 4294967295 (record { refusal = 8; at = p; tally = u })
+          pub repeat-deep : a .limits .repeats ≤ d .repeats → (o : Open) (u : Tally) → Entered (rules-of a table) s d (in-repeat-of d) p t o 0 0 4294967295 (record { refusal = 8; at = p; tally = u })
           repeat-deep e =
-              refused-repeat 8 (omega arith) (λ os m x. rw (refusal-repeat (rules-of a table) (at os t x) (drop (p + 1) s) (room .nodes), folds, le-ltb _ _ (rest-long s p 4 long), count-at s p, width-at s p, le-ltb _ _ twice, le-ltb _ _ narrow, m .repeats, le-leb 10 (d .repeats) e))
+              refused-repeat 8 (omega arith) (λ os m x. rw (refusal-repeat (rules-of a table) (at os t x) (drop (p + 1) s) (room .nodes), folds, le-ltb _ _ (rest-long s p 4 long), count-at s p, width-at s p, le-ltb _ _ twice, le-ltb _ _ narrow, m .repeats, le-leb (a .limits .repeats) (d .repeats) e))
 
-          pub repeat-on : d .repeats < 10 → (k : ℕ) → k ≡ a .first + a .each * (word-at s (p + 1) - 2) → k ≤ 4294967295 → Entered (rules-of a table) s d (in-repeat-of d) p t (repeat-at s p t) 0 0 4294967295 (record { refusal = 0; at = p + 5; tally = record { siblings = 0; nodes = t .nodes; size = t .size; cost = t .cost + k } })
+          pub repeat-on : d .repeats < a .limits .repeats → (k : ℕ) → k ≡ a .first + a .each * (word-at s (p + 1) - 2) → k ≤ 4294967295 → Entered (rules-of a table) s d (in-repeat-of d) p t (repeat-at s p t) 0 0 4294967295 (record { refusal = 0; at = p + 5; tally = record { siblings = 0; nodes = t .nodes; size = t .size; cost = t .cost + k } })
           unfolding enter-repeat
           repeat-on e k q j =
               record {
@@ -157,7 +158,7 @@ module _ (a : Terms) (table s : List ℕ) (d : Depth) (p : ℕ) (t : Tally) (h :
               }
 
 -- `12` and `21`, where a sequence has come to its end inside an open group or repeat.
-module _ (a : Terms) (table s : List ℕ) (d : Depth) (p : ℕ) (t i : Tally) (h : Halted s p) (within : i .nodes ≤ 1024) where
+module _ (a : Terms) (table s : List ℕ) (d : Depth) (p : ℕ) (t i : Tally) (h : Halted s p) (within : i .nodes ≤ a .limits .nodes) where
   pub left-open : p ≡ length s → (o : Open) (u : Tally) → Left (rules-of a table) s d p t i o (record { refusal = 3; at = p; tally = u })
   left-open e o u =
       left-refused (rules-of a table) s d p t _ (λ z. omega arith) i o (λ os m x. stop-end (rules-of a table) s p o os i x e)
@@ -184,7 +185,7 @@ module _ (a : Terms) (table s : List ℕ) (d : Depth) (p : ℕ) (t i : Tally) (h
         refused-close 0x21 4 b refl (omega arith) (a-group t)
         (λ os x. rw (refusal-repeat-end (rules-of a table) (at (a-group t ∷ os) i x) (drop (p + 1) s), e))
 
-    pub group-left : getD s p 0 ≡ 0x12 → (i .siblings ≡ 0 → ⊥) → Grown t (after-group t i) → Left (rules-of a table) s d p t i (a-group t) (record { refusal = 0; at = p + 1; tally = after-group t i })
+    pub group-left : getD s p 0 ≡ 0x12 → (i .siblings ≡ 0 → ⊥) → Grown (a .limits) t (after-group t i) → Left (rules-of a table) s d p t i (a-group t) (record { refusal = 0; at = p + 1; tally = after-group t i })
     unfolding leave-group
     group-left b e g =
         record {
@@ -222,12 +223,12 @@ module _ (a : Terms) (table s : List ℕ) (d : Depth) (p : ℕ) (t i : Tally) (h
               (λ os x. rw (refusal-repeat-end (rules-of a table) (at (a-repeat n w t ∷ os) i x) (drop (p + 1) s), folds, ne-eqb _ _ some, ne-eqb _ _ e))
 
           module _ (true-width : i .siblings ≡ w) where
-            pub repeat-full : 1024 < after-repeat n t i .nodes → (u : Tally) → Left (rules-of a table) s d p t i (a-repeat n w t) (record { refusal = 10; at = p; tally = u })
+            pub repeat-full : a .limits .nodes < after-repeat n t i .nodes → (u : Tally) → Left (rules-of a table) s d p t i (a-repeat n w t) (record { refusal = 10; at = p; tally = u })
             repeat-full e =
                 refused-close 0x21 10 b refl (omega arith) (a-repeat n w t)
                 (λ os x. rw (refusal-repeat-end (rules-of a table) (at (a-repeat n w t ∷ os) i x) (drop (p + 1) s), folds, ne-eqb _ _ some, eq-eqb _ _ true-width, lt-ltb _ _ e))
 
-            pub repeat-left : after-repeat n t i .nodes ≤ 1024 → Grown t (after-repeat n t i) → Left (rules-of a table) s d p t i (a-repeat n w t) (record { refusal = 0; at = p + 1; tally = after-repeat n t i })
+            pub repeat-left : after-repeat n t i .nodes ≤ a .limits .nodes → Grown (a .limits) t (after-repeat n t i) → Left (rules-of a table) s d p t i (a-repeat n w t) (record { refusal = 0; at = p + 1; tally = after-repeat n t i })
             unfolding leave-repeat
             repeat-left e g =
                 record {
@@ -256,8 +257,8 @@ scaled m b s h = omega (arith, mul-le-mul-left m h)
 body : (m b : ℕ) → 1 ≤ m → b ≤ m * b
 body m b h = omega (arith, mul-le-mul-right b h)
 
-pub repeat-grown : (n : ℕ) (t i : Tally) → 2 ≤ n → t .nodes + i .siblings ≤ i .nodes → 0 < i .siblings → t .size ≤ i .size → i .size + 3 * t .nodes ≤ t .size + 3 * i .nodes → i .cost + 4294967296 * t .nodes ≤ t .cost + 4294967296 * i .nodes + 4294967296 → after-repeat n t i .nodes ≤ 1024 → Grown t (after-repeat n t i)
-repeat-grown n t i h a b c d e f =
+pub repeat-grown : (L : Limits) (n : ℕ) (t i : Tally) → 2 ≤ n → t .nodes + i .siblings ≤ i .nodes → 0 < i .siblings → t .size ≤ i .size → i .size + 3 * t .nodes ≤ t .size + 3 * i .nodes → i .cost + 4294967296 * t .nodes ≤ t .cost + 4294967296 * i .nodes + 4294967296 → after-repeat n t i .nodes ≤ L .nodes → Grown L t (after-repeat n t i)
+repeat-grown L n t i h a b c d e f =
     let m = n - 1 in
     let p = i .nodes - t .nodes in
     let s : suc m ≡ n = omega arith in

@@ -9,6 +9,7 @@ use lib.ListN.{length, getD, drop, length-drop}
 use lib.Seq.{drop-cons, drop-length}
 use borrow.Author.Tests.{ne-eqb}
 use Rattle.format.specs.Machine.{Rules, Open, a-group, a-repeat, State, refused, accepted, refusal, place-of}
+use Rattle.format.specs.declared.Limits.{Limits}
 use Rattle.format.specs.declared.Tally.{Tally}
 use Rattle.format.proofs.Machine.{scan-refuse, scan-end, refusal-unknown}
 use Rattle.reader.specs.Walk.{from, Leads, Stops, OpenAt, Halted, Room, Grown, Item, Sequence, Entered, Left, NoClose, in-group-of, in-repeat-of}
@@ -129,10 +130,10 @@ pub record Along (R : Rules) (s : List ℕ) (d : Depth) (p : ℕ) (t : Tally) (q
   pub goes : (os : List Open) → OpenAt d os → Leads R s p os t q os r
   pub ahead : p ≤ q
   pub within : q ≤ length s
-  pub grown : Grown t r
+  pub grown : Grown (R .limits) t r
 
 module _ (R : Rules) (s : List ℕ) (d : Depth) (p : ℕ) (t : Tally) where
-  pub along-none : p ≤ length s → t .nodes ≤ 1024 → Along R s d p t p t
+  pub along-none : p ≤ length s → t .nodes ≤ R .limits .nodes → Along R s d p t p t
   along-none h k =
       record { goes = λ os m x. (x, refl); ahead = omega arith; within = h; grown = omega arith }
 
@@ -167,8 +168,8 @@ module _ (R : Rules) (s : List ℕ) (d : Depth) (p : ℕ) (t : Tally) where
           }
 
 -- Room stays while the counts grow by whole items.
-pub room-grown : (d : Depth) (t r : Tally) → Room d t → Grown t r → Room d r
-room-grown d t r h g = omega (arith, h, g)
+pub room-grown : (L : Limits) (d : Depth) (t r : Tally) → Room L d t → Grown L t r → Room L d r
+room-grown L d t r h g = omega (arith, h, g)
 
 pub group-deeper : (d : Depth) (t : Tally) (os : List Open) → OpenAt d os → OpenAt (in-group-of d) (a-group t ∷ os)
 group-deeper d t os m = record { groups = omega (arith, m .groups); repeats = m .repeats }

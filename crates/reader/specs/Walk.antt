@@ -5,7 +5,8 @@ use mathlib.Core.List.{List, [], _∷_}
 use Prim.Native.Nat.{ℕ, _+_, _*_, _<_, _≤_}
 use lib.Dec.{eqb}
 use lib.ListN.{length, getD, drop}
-use Rattle.format.specs.Limits.{limits, priced}
+use Rattle.format.specs.Limits.{priced}
+use Rattle.format.specs.declared.Limits.{Limits}
 use Rattle.format.specs.Machine.{Rules, Open, a-repeat, Outcome, refused, accepted, scan, read, open-groups, open-repeats}
 use Rattle.format.specs.declared.Tally.{Tally}
 use Rattle.reader.specs.declared.command.Terms.{Terms}
@@ -15,7 +16,7 @@ use Rattle.reader.specs.declared.command.Walk.{Walk}
 -- The machine's rules for what was asked.
 abbrev pub rules-of : Terms → List ℕ → Rules
 rules-of a table =
-    record { limits = limits; folds = a .folds; widest = a .widest; prices = priced table (a .first) (a .each) }
+    record { limits = a .limits; folds = a .folds; widest = a .widest; prices = priced table (a .first) (a .each) }
 
 -- The reading from offset p on, with these things open, these counts and this text.
 abbrev pub from : Rules → List ℕ → ℕ → List Open → Tally → List ℕ → Outcome
@@ -55,25 +56,28 @@ pub record Halted (s : List ℕ) (p : ℕ) : Type 0 where
   pub within : p ≤ length s
   pub close : (p ≡ length s → ⊥) → (getD s p 0 ≡ 0x12 → ⊥) → getD s p 0 ≡ 0x21
 
--- Prices of 16 bits.
+-- Limits and prices of 16 bits, so that the counts are within what the machine words hold.
 pub record Sane (a : Terms) : Type 0 where
+  pub nodes : a .limits .nodes < 65536
+  pub groups : a .limits .groups < 65536
+  pub repeats : a .limits .repeats < 65536
   pub first : a .first < 65536
   pub each : a .each < 65536
 
--- The counts so far are within what the machine words hold. A step has 2 bytes and a group 3; a node and a closed repeat
--- each cost less than 2 ^ 32 and add at least one to the node total.
-pub record Room (d : Depth) (t : Tally) : Type 0 where
-  pub groups : d .groups ≤ 8
-  pub repeats : d .repeats ≤ 10
-  pub nodes : t .nodes ≤ 1024
+-- The counts so far are within the limits, and the machine words hold them: a step has 2 bytes and a group 3; a node and a
+-- closed repeat each cost less than 2 ^ 32 and add at least one to the node total.
+pub record Room (L : Limits) (d : Depth) (t : Tally) : Type 0 where
+  pub groups : d .groups ≤ L .groups
+  pub repeats : d .repeats ≤ L .repeats
+  pub nodes : t .nodes ≤ L .nodes
   pub siblings : t .siblings ≤ t .nodes
   pub size : t .size ≤ 3 * t .nodes
   pub cost : t .cost ≤ 4294967296 * (t .nodes + d .repeats)
 
--- The counts grew from t to r by whole items.
-pub record Grown (t r : Tally) : Type 0 where
+-- The counts grew from t to r by whole items, within the limits.
+pub record Grown (L : Limits) (t r : Tally) : Type 0 where
   pub nodes : t .nodes ≤ r .nodes
-  pub total : r .nodes ≤ 1024
+  pub total : r .nodes ≤ L .nodes
   pub siblings : r .siblings + t .nodes ≤ t .siblings + r .nodes
   pub longer : t .size ≤ r .size
   pub size : r .size + 3 * t .nodes ≤ t .size + 3 * r .nodes
@@ -92,14 +96,14 @@ pub record Item (R : Rules) (s : List ℕ) (d : Depth) (p : ℕ) (t : Tally) (w 
   pub moves : Moves R s d p t (λ os. os) (λ os. os) w
   pub ahead : w .refusal ≡ 0 → p < w .at
   pub within : w .refusal ≡ 0 → w .at ≤ length s
-  pub grown : w .refusal ≡ 0 → Grown t (w .tally)
+  pub grown : w .refusal ≡ 0 → Grown (R .limits) t (w .tally)
 
 -- A sequence was read from p on, up to the end of the input or to a close.
 pub record Sequence (R : Rules) (s : List ℕ) (d : Depth) (p : ℕ) (t : Tally) (w : Walk) : Type 0 where
   pub moves : Moves R s d p t (λ os. os) (λ os. os) w
   pub ahead : w .refusal ≡ 0 → p ≤ w .at
   pub halted : w .refusal ≡ 0 → Halted s (w .at)
-  pub grown : w .refusal ≡ 0 → Grown t (w .tally)
+  pub grown : w .refusal ≡ 0 → Grown (R .limits) t (w .tally)
 
 -- The depth inside a group, and inside a repeat.
 abbrev pub in-group-of : Depth → Depth
@@ -115,7 +119,7 @@ pub record Entered (R : Rules) (s : List ℕ) (d d′ : Depth) (p : ℕ) (t : Ta
   pub within : w .refusal ≡ 0 → w .at ≤ length s
   pub siblings : w .refusal ≡ 0 → w .tally .siblings ≡ 0
   pub nodes-inside : w .refusal ≡ 0 → w .tally .nodes ≡ t .nodes + nodes
-  pub room : w .refusal ≡ 0 → Room d′ (w .tally)
+  pub room : w .refusal ≡ 0 → Room (R .limits) d′ (w .tally)
   pub size-inside : w .refusal ≡ 0 → w .tally .size ≡ t .size + size
   pub cost-inside : w .refusal ≡ 0 → w .tally .cost ≤ t .cost + price
 
@@ -124,7 +128,7 @@ pub record Left (R : Rules) (s : List ℕ) (d : Depth) (p : ℕ) (t i : Tally) (
   pub moves : Moves R s d p i (λ os. o ∷ os) (λ os. os) w
   pub ahead : w .refusal ≡ 0 → p < w .at
   pub within : w .refusal ≡ 0 → w .at ≤ length s
-  pub grown : w .refusal ≡ 0 → Grown t (w .tally)
+  pub grown : w .refusal ≡ 0 → Grown (R .limits) t (w .tally)
 
 -- The whole input was read, or refused.
 pub record Whole (R : Rules) (s : List ℕ) (w : Walk) : Type 0 where

@@ -1,6 +1,7 @@
 // One command at a time: each function makes the tests of document 01's table for one command, in its order, and counts.
 // The walk over sequences and items (walk.rt) makes no test of its own.
 use format::Format;
+use format::Limits;
 use format::Tally;
 ghost use mathlib.Core.Path.{_≡_};
 ghost use mathlib.Core.Bool.{true};
@@ -9,8 +10,9 @@ ghost use lib.ListN.{length, getD};
 ghost use Rattle.format.specs.Machine.{a-group, a-repeat, after-repeat};
 ghost use Rattle.reader.specs.Walk.{At, Room, Halted, Sane, Item, Entered, Left, in-group-of, in-repeat-of, rules-of, word-at, repeat-at};
 
-// What the reader was asked: whether repeats may stand in the input, the width limit, and the repeat prices.
+// What the reader was asked: the limits, whether repeats may stand in the input, the width limit, and the repeat prices.
 pub struct Terms {
+    pub limits: Limits,
     pub folds: bool,
     pub widest: usize,
     pub first: u64,
@@ -88,13 +90,15 @@ pub fn refused(number: u8, at: usize, t: Tally) -> Walk
 // A step: refusals 3 and 10.
 pub fn step(s: &[u8], costs: &[u16], a: Terms, at: usize, d: Depth, t: Tally) -> Walk
     requires { ⌜ At (now s) at 0x10 ⌝ }
-    requires { ⌜ Room d t ⌝ }
+    requires { ⌜ Room (a .limits) d t ⌝ }
+    requires { ⌜ Sane a ⌝ }
     ensures { λ r. ⌜ Item (rules-of a (now (costs .entry))) (now (s .entry)) d at t r ⌝ }
 {
     if s.len() - at < 2 {
         return refused(3, s.len(), t);
     }
-    if Format::NODES <= t.nodes {
+    let bounds = a.limits;
+    if bounds.nodes <= t.nodes {
         return refused(10, at, t);
     }
     let p = price(costs, s[at + 1]);
@@ -113,16 +117,18 @@ pub fn step(s: &[u8], costs: &[u16], a: Terms, at: usize, d: Depth, t: Tally) ->
 // The open of a group: refusals 3, 8 and 10.
 pub fn enter_group(s: &[u8], costs: &[u16], a: Terms, at: usize, d: Depth, t: Tally) -> Walk
     requires { ⌜ At (now s) at 0x11 ⌝ }
-    requires { ⌜ Room d t ⌝ }
+    requires { ⌜ Room (a .limits) d t ⌝ }
+    requires { ⌜ Sane a ⌝ }
     ensures { λ r. ⌜ Entered (rules-of a (now (costs .entry))) (now (s .entry)) d (in-group-of d) at t (a-group t) 2 1 65535 r ⌝ }
 {
     if s.len() - at < 2 {
         return refused(3, s.len(), t);
     }
-    if Format::GROUPS <= d.groups {
+    let bounds = a.limits;
+    if bounds.groups <= d.groups {
         return refused(8, at, t);
     }
-    if Format::NODES <= t.nodes {
+    if bounds.nodes <= t.nodes {
         return refused(10, at, t);
     }
     let p = price(costs, s[at + 1]);
@@ -149,8 +155,9 @@ pub fn leave_group(
     i: Tally,
 ) -> Walk
     requires { ⌜ Halted (now s) at ⌝ }
-    requires { ⌜ Room d t ⌝ }
-    requires { ⌜ (t .nodes + 1 ≤ i .nodes) × (i .nodes ≤ 1024) ⌝ }
+    requires { ⌜ Room (a .limits) d t ⌝ }
+    requires { ⌜ Sane a ⌝ }
+    requires { ⌜ (t .nodes + 1 ≤ i .nodes) × (i .nodes ≤ a .limits .nodes) ⌝ }
     requires { ⌜ (t .size ≤ i .size) × (i .size + 3 * t .nodes + 1 ≤ t .size + 3 * i .nodes) ⌝ }
     requires { ⌜ i .cost + 4294967296 * t .nodes ≤ t .cost + 4294967296 * i .nodes ⌝ }
     ensures { λ r. ⌜ Left (rules-of a (now (costs .entry))) (now (s .entry)) d at t i (a-group t) r ⌝ }
@@ -182,7 +189,7 @@ pub fn leave_group(
 // The open of a repeat: refusals 2, 3, 6, 7 and 8.
 pub fn enter_repeat(s: &[u8], costs: &[u16], a: Terms, at: usize, d: Depth, t: Tally) -> Walk
     requires { ⌜ At (now s) at 0x20 ⌝ }
-    requires { ⌜ Room d t ⌝ }
+    requires { ⌜ Room (a .limits) d t ⌝ }
     requires { ⌜ Sane a ⌝ }
     ensures { λ r. ⌜ Entered (rules-of a (now (costs .entry))) (now (s .entry)) d (in-repeat-of d) at t (repeat-at (now (s .entry)) at t) 0 0 4294967295 r ⌝ }
     ensures { λ r. ⌜ (r .refusal ≡ 0 → (a .folds ≡ true) × (2 ≤ word-at (now (s .entry)) (at + 1)) × (at + 5 ≤ length (now (s .entry)))) ⌝ }
@@ -201,7 +208,8 @@ pub fn enter_repeat(s: &[u8], costs: &[u16], a: Terms, at: usize, d: Depth, t: T
     if a.widest < width {
         return refused(7, at, t);
     }
-    if Format::REPEATS <= d.repeats {
+    let bounds = a.limits;
+    if bounds.repeats <= d.repeats {
         return refused(8, at, t);
     }
     let p = a.first + a.each * ((count - 2) as u64);
@@ -220,9 +228,9 @@ pub fn enter_repeat(s: &[u8], costs: &[u16], a: Terms, at: usize, d: Depth, t: T
 // The counts behind a repeat whose outer counts are t and inner counts i: all but the cost are those of every pass.
 fn after_passes(count: usize, t: Tally, i: Tally) -> Tally
     requires { ⌜ (1 ≤ count) × (count < 65536) ⌝ }
-    requires { ⌜ (t .siblings ≤ 1024) × (i .siblings ≤ 1024) ⌝ }
-    requires { ⌜ (t .nodes ≤ i .nodes) × (i .nodes ≤ 1024) ⌝ }
-    requires { ⌜ (t .size ≤ i .size) × (i .size ≤ 3072) ⌝ }
+    requires { ⌜ (t .siblings ≤ i .nodes) × (i .siblings ≤ i .nodes) ⌝ }
+    requires { ⌜ (t .nodes ≤ i .nodes) × (i .nodes < 65536) ⌝ }
+    requires { ⌜ (t .size ≤ i .size) × (i .size ≤ 3 * i .nodes) ⌝ }
     ensures { λ r. ⌜ r ≡ after-repeat count t i ⌝ }
 {
     let more = count - 1;
@@ -247,9 +255,10 @@ pub fn leave_repeat(
     i: Tally,
 ) -> Walk
     requires { ⌜ Halted (now s) at ⌝ }
-    requires { ⌜ Room d t ⌝ }
+    requires { ⌜ Room (a .limits) d t ⌝ }
+    requires { ⌜ Sane a ⌝ }
     requires { ⌜ (a .folds ≡ true) × (2 ≤ count) × (count < 65536) ⌝ }
-    requires { ⌜ (t .nodes + i .siblings ≤ i .nodes) × (i .nodes ≤ 1024) ⌝ }
+    requires { ⌜ (t .nodes + i .siblings ≤ i .nodes) × (i .nodes ≤ a .limits .nodes) ⌝ }
     requires { ⌜ (t .size ≤ i .size) × (i .size + 3 * t .nodes ≤ t .size + 3 * i .nodes) × (i .cost + 4294967296 * t .nodes ≤ t .cost + 4294967296 * i .nodes + 4294967296) ⌝ }
     ensures { λ r. ⌜ Left (rules-of a (now (costs .entry))) (now (s .entry)) d at t i (a-repeat count width t) r ⌝ }
 {
@@ -266,7 +275,8 @@ pub fn leave_repeat(
         return refused(9, at, t);
     }
     let passed = after_passes(count, t, i);
-    if Format::NODES < passed.nodes {
+    let bounds = a.limits;
+    if bounds.nodes < passed.nodes {
         return refused(10, at, t);
     }
     Walk {

@@ -70,6 +70,7 @@ pub fn read_run(run: &[u8]) -> RunReading
 {
     let free: [u16; 0] = [0; 0];
     let a = Terms {
+        limits: Format::limits(),
         folds: false,
         widest: 0,
         first: 0,
@@ -169,7 +170,8 @@ fn answer(w: Walk) -> FoldReading
 fn read_headed(fold: &[u8], head: Head, costs: &[u16], first: u16, each: u16) -> FoldReading
     ensures { λ r. ⌜ r ≡ fold-answer (fold-outcome head (priced (now (costs .entry)) first each) (now (fold .entry))) ⌝ }
 {
-    let number = head_refusal(Format::limits(), head);
+    let bounds = Format::limits();
+    let number = head_refusal(bounds, head);
     if number != 0 {
         return FoldReading {
             refusal: number,
@@ -180,6 +182,7 @@ fn read_headed(fold: &[u8], head: Head, costs: &[u16], first: u16, each: u16) ->
         };
     }
     let a = Terms {
+        limits: bounds,
         folds: true,
         widest: head.limit,
         first: wide_cost(first),

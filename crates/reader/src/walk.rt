@@ -19,7 +19,7 @@ ghost use Rattle.reader.specs.Walk.{At, NoClose, Room, Sane, Item, Seque
 // The items from `at` on, up to the end of the input or to a close.
 pub fn sequence(s: &[u8], costs: &[u16], a: Terms, at: usize, d: Depth, t: Tally) -> Walk
     requires { ⌜ at ≤ length (now s) ⌝ }
-    requires { ⌜ Room d t ⌝ }
+    requires { ⌜ Room (a .limits) d t ⌝ }
     requires { ⌜ Sane a ⌝ }
     ensures { λ r. ⌜ Sequence (rules-of a (now (costs .entry))) (now (s .entry)) d at t r ⌝ }
 {
@@ -58,7 +58,7 @@ pub fn sequence(s: &[u8], costs: &[u16], a: Terms, at: usize, d: Depth, t: Tally
 // The item at `at`, which is no close.
 fn item(s: &[u8], costs: &[u16], a: Terms, at: usize, d: Depth, t: Tally) -> Walk
     requires { ⌜ NoClose (now s) at ⌝ }
-    requires { ⌜ Room d t ⌝ }
+    requires { ⌜ Room (a .limits) d t ⌝ }
     requires { ⌜ Sane a ⌝ }
     ensures { λ r. ⌜ Item (rules-of a (now (costs .entry))) (now (s .entry)) d at t r ⌝ }
 {
@@ -78,7 +78,7 @@ fn item(s: &[u8], costs: &[u16], a: Terms, at: usize, d: Depth, t: Tally) -> Wal
 // The group at `at`.
 fn group(s: &[u8], costs: &[u16], a: Terms, at: usize, d: Depth, t: Tally) -> Walk
     requires { ⌜ At (now s) at 0x11 ⌝ }
-    requires { ⌜ Room d t ⌝ }
+    requires { ⌜ Room (a .limits) d t ⌝ }
     requires { ⌜ Sane a ⌝ }
     ensures { λ r. ⌜ Item (rules-of a (now (costs .entry))) (now (s .entry)) d at t r ⌝ }
 {
@@ -104,7 +104,7 @@ fn group(s: &[u8], costs: &[u16], a: Terms, at: usize, d: Depth, t: Tally) -> Wa
 // The repeat at `at`.
 fn repeat(s: &[u8], costs: &[u16], a: Terms, at: usize, d: Depth, t: Tally) -> Walk
     requires { ⌜ At (now s) at 0x20 ⌝ }
-    requires { ⌜ Room d t ⌝ }
+    requires { ⌜ Room (a .limits) d t ⌝ }
     requires { ⌜ Sane a ⌝ }
     ensures { λ r. ⌜ Item (rules-of a (now (costs .entry))) (now (s .entry)) d at t r ⌝ }
 {

@@ -24,7 +24,7 @@ wide-cost-requires-2 : tie.Need-wide-cost-requires-2
 wide-cost-requires-2 c κs = search needs
 
 whole-requires : tie.Need-whole-requires
-whole-requires c κs = search needs
+whole-requires c κs = rw (c .before .before .before .before .limits .ensures) (search needs)
 
 answer-requires : tie.Need-answer-requires
 answer-requires c κs = search needs
@@ -37,7 +37,7 @@ returns-2 c =
     c .answer .ensures
     ∙ fold-read (a .head) (checked .head-refusal .result) (rw (checked .before .limits .ensures) at (checked .head-refusal .ensures)) _ (a .fold .now) (first .before .if1 .left)
     (c .before .whole .result)
-    (rw (first .wide-cost .ensures .0, c .before .before .wide-cost2 .ensures .0) at (c .before .whole .ensures))
+    (rw (checked .before .limits .ensures, first .wide-cost .ensures .0, c .before .before .wide-cost2 .ensures .0) at (c .before .whole .ensures))
 
 pub read-headed-spec : {M : Type 1} → statement M
 read-headed-spec =

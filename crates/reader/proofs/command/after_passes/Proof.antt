@@ -11,33 +11,33 @@ sub-more c = search needs
 
 mul-t5 : tie.Need-mul-t5
 mul-t5 c =
-    let S = c .before in omega (arith, bounded (S .args .count) (S .args .i .siblings) 65535 1024 (omega (arith, S .pre)) (omega (arith, S .pre)), S .pre)
+    let S = c .before in omega (arith, bounded (S .args .count) (S .args .i .siblings) 65535 65535 (omega (arith, S .pre)) (omega (arith, S .pre)), S .pre)
 
 add-t6 : tie.Need-add-t6
 add-t6 c =
-    let S = c .before .before in omega (arith, bounded (S .args .count) (S .args .i .siblings) 65535 1024 (omega (arith, S .pre)) (omega (arith, S .pre)), S .pre)
+    let S = c .before .before in omega (arith, bounded (S .args .count) (S .args .i .siblings) 65535 65535 (omega (arith, S .pre)) (omega (arith, S .pre)), S .pre)
 
 sub-t7 : tie.Need-sub-t7
 sub-t7 c = search needs
 
 mul-t8 : tie.Need-mul-t8
 mul-t8 c =
-    let S = c .before .before .before .before in omega (arith, bounded (S .args .count - 1) (S .args .i .nodes - S .args .t .nodes) 65534 1024 (omega (arith, S .pre)) (omega (arith, S .pre)), S .pre)
+    let S = c .before .before .before .before in omega (arith, bounded (S .args .count - 1) (S .args .i .nodes - S .args .t .nodes) 65534 65535 (omega (arith, S .pre)) (omega (arith, S .pre)), S .pre)
 
 add-t9 : tie.Need-add-t9
 add-t9 c =
-    let S = c .before .before .before .before .before in omega (arith, bounded (S .args .count - 1) (S .args .i .nodes - S .args .t .nodes) 65534 1024 (omega (arith, S .pre)) (omega (arith, S .pre)), S .pre)
+    let S = c .before .before .before .before .before in omega (arith, bounded (S .args .count - 1) (S .args .i .nodes - S .args .t .nodes) 65534 65535 (omega (arith, S .pre)) (omega (arith, S .pre)), S .pre)
 
 sub-t10 : tie.Need-sub-t10
 sub-t10 c = search needs
 
 mul-t11 : tie.Need-mul-t11
 mul-t11 c =
-    let S = c .before .before .before .before .before .before .before in omega (arith, bounded (S .args .count - 1) (S .args .i .size - S .args .t .size) 65534 3072 (omega (arith, S .pre)) (omega (arith, S .pre)), S .pre)
+    let S = c .before .before .before .before .before .before .before in omega (arith, bounded (S .args .count - 1) (S .args .i .size - S .args .t .size) 65534 196605 (omega (arith, S .pre)) (omega (arith, S .pre)), S .pre)
 
 add-t12 : tie.Need-add-t12
 add-t12 c =
-    let S = c .before .before .before .before .before .before .before .before in omega (arith, bounded (S .args .count - 1) (S .args .i .size - S .args .t .size) 65534 3072 (omega (arith, S .pre)) (omega (arith, S .pre)), S .pre)
+    let S = c .before .before .before .before .before .before .before .before in omega (arith, bounded (S .args .count - 1) (S .args .i .size - S .args .t .size) 65534 196605 (omega (arith, S .pre)) (omega (arith, S .pre)), S .pre)
 
 returns : tie.Need-returns
 returns c = search needs

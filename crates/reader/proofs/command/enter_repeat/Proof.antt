@@ -56,26 +56,27 @@ refused-requires-5 c κs = search needs
 
 returns-5 : tie.Need-returns-5
 returns-5 c =
-    let S = c .before .before .before .before .before .before .before .before .before .before .before .before .before in rw (c .refused5 .ensures) (repeat-deep (S .args .a) (S .args .costs .now) (S .args .s .now) (S .args .d) (S .args .at) (S .args .t) (S .pre .0) (S .pre .1 .0) (not-false _ (c .before .before .before .before .before .before .before .before .before .if1 .left)) (omega (arith, S .pre .0 .below)) (omega arith) (omega arith) (omega arith) _ _, λ z. absurd (omega arith))
+    let S = c .before .before .before .before .before .before .before .before .before .before .before .before .before .before .before in rw (c .refused5 .ensures) (repeat-deep (S .args .a) (S .args .costs .now) (S .args .s .now) (S .args .d) (S .args .at) (S .args .t) (S .pre .0) (S .pre .1 .0) (not-false _ (c .before .before .before .before .before .before .before .before .before .before .before .if1 .left)) (omega (arith, S .pre .0 .below, c .before .before .before .before .before .before .before .before .before .before .if2 .left)) (omega (arith, c .before .before .before .before .before .before .before .before .before .operand .ensures .0, c .before .before .before .before .before .before .before .before .if3 .left)) (omega arith) (omega arith) _ _, λ z. absurd (omega arith))
 
 mul-p : tie.Need-mul-p
 mul-p c =
-    let S = c .before .before .before .before .before .before .before .before .before .before .before .before .before in let m = bounded (S .args .a .each) (c .before .before .before .before .before .before .before .operand .result - 2) 65535 65533 (omega (arith, S .pre .1 .1 .each)) (omega (arith, c .before .before .before .before .before .before .before .operand .ensures .1)) in omega arith
+    let S = c .before .before .before .before .before .before .before .before .before .before .before .before .before .before .before in let m = bounded (S .args .a .each) (c .before .before .before .before .before .before .before .before .before .operand .result - 2) 65535 65533 (omega (arith, S .pre .1 .1 .each)) (omega (arith, c .before .before .before .before .before .before .before .before .before .operand .ensures .1)) in omega arith
 
 add-p : tie.Need-add-p
 add-p c =
-    let S = c .before .before .before .before .before .before .before .before .before .before .before .before .before .before in let m = bounded (S .args .a .each) (c .before .before .before .before .before .before .before .before .operand .result - 2) 65535 65533 (omega (arith, S .pre .1 .1 .each)) (omega (arith, c .before .before .before .before .before .before .before .before .operand .ensures .1)) in omega (arith, S .pre .1 .1 .first)
+    let S = c .before .before .before .before .before .before .before .before .before .before .before .before .before .before .before .before in let m = bounded (S .args .a .each) (c .before .before .before .before .before .before .before .before .before .before .operand .result - 2) 65535 65533 (omega (arith, S .pre .1 .1 .each)) (omega (arith, c .before .before .before .before .before .before .before .before .before .before .operand .ensures .1)) in omega (arith, S .pre .1 .1 .first)
 
-add-t11 : tie.Need-add-t11
-add-t11 c = search needs
+add-t12 : tie.Need-add-t12
+add-t12 c =
+    let S = c .before .before .before .before .before .before .before .before .before .before .before .before .before .before .before .before in omega (arith, S .pre .0 .below, c .before .before .before .before .before .before .before .before .before .before .before .if2 .left)
 
-add-t15 : tie.Need-add-t15
-add-t15 c =
-    let S = c .before .before .before .before .before .before .before .before .before .before .before .before .before .before .before in let m = bounded (S .args .a .each) (c .before .before .before .before .before .before .before .before .before .operand .result - 2) 65535 65533 (omega (arith, S .pre .1 .1 .each)) (omega (arith, c .before .before .before .before .before .before .before .before .before .operand .ensures .1)) in omega (arith, S .pre .1 .1 .first, S .pre .1 .0 .cost, S .pre .1 .0 .nodes, S .pre .1 .0 .repeats)
+add-t16 : tie.Need-add-t16
+add-t16 c =
+    let S = c .before .before .before .before .before .before .before .before .before .before .before .before .before .before .before .before .before in let m = bounded (S .args .a .each) (c .before .before .before .before .before .before .before .before .before .before .before .operand .result - 2) 65535 65533 (omega (arith, S .pre .1 .1 .each)) (omega (arith, c .before .before .before .before .before .before .before .before .before .before .before .operand .ensures .1)) in omega (arith, S .pre .1 .1 .first, S .pre .1 .0 .cost, S .pre .1 .0 .nodes, S .pre .1 .0 .repeats)
 
 returns-6 : tie.Need-returns-6
 returns-6 c =
-    let S = c .before .before .before .before .before .before .before .before .before .before .before .before .before .before .before in let m = bounded (S .args .a .each) (c .before .before .before .before .before .before .before .before .before .operand .result - 2) 65535 65533 (omega (arith, S .pre .1 .1 .each)) (omega (arith, c .before .before .before .before .before .before .before .before .before .operand .ensures .1)) in let f = (not-false _ (c .before .before .before .before .before .before .before .before .before .before .before .if1 .left)) in (repeat-on (S .args .a) (S .args .costs .now) (S .args .s .now) (S .args .d) (S .args .at) (S .args .t) (S .pre .0) (S .pre .1 .0) f (omega (arith, S .pre .0 .below)) (omega arith) (omega arith) (omega arith) _ (ap (λ (k : ℕ). S .args .a .first + S .args .a .each * (k - 2)) (c .before .before .before .before .before .before .before .before .before .operand .ensures .0)) (omega (arith, S .pre .1 .1 .first)), λ z. (f, omega arith, omega (arith, S .pre .0 .below)))
+    let S = c .before .before .before .before .before .before .before .before .before .before .before .before .before .before .before .before .before in let m = bounded (S .args .a .each) (c .before .before .before .before .before .before .before .before .before .before .before .operand .result - 2) 65535 65533 (omega (arith, S .pre .1 .1 .each)) (omega (arith, c .before .before .before .before .before .before .before .before .before .before .before .operand .ensures .1)) in let f = (not-false _ (c .before .before .before .before .before .before .before .before .before .before .before .before .before .if1 .left)) in (repeat-on (S .args .a) (S .args .costs .now) (S .args .s .now) (S .args .d) (S .args .at) (S .args .t) (S .pre .0) (S .pre .1 .0) f (omega (arith, S .pre .0 .below, c .before .before .before .before .before .before .before .before .before .before .before .before .if2 .left)) (omega (arith, c .before .before .before .before .before .before .before .before .before .before .before .operand .ensures .0, c .before .before .before .before .before .before .before .before .before .before .if3 .left)) (omega (arith, c .before .before .before .before .before .before .before .before .before .operand2 .ensures .0, c .before .before .before .before .before .before .before .if4 .left)) (omega arith) _ (ap (λ (k : ℕ). S .args .a .first + S .args .a .each * (k - 2)) (c .before .before .before .before .before .before .before .before .before .before .before .operand .ensures .0)) (omega (arith, S .pre .1 .1 .first)), λ z. (f, omega (arith, c .before .before .before .before .before .before .before .before .before .before .before .operand .ensures .0, c .before .before .before .before .before .before .before .before .before .before .if3 .left), omega (arith, S .pre .0 .below, c .before .before .before .before .before .before .before .before .before .before .before .before .if2 .left)))
 
 pub enter-repeat-spec : {M : Type 1} → statement M
 enter-repeat-spec =
@@ -98,6 +99,6 @@ enter-repeat-spec =
     returns-5
     mul-p
     add-p
-    add-t11
-    add-t15
+    add-t12
+    add-t16
     returns-6)

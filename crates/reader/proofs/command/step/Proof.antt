@@ -20,7 +20,7 @@ refused-requires-2 c κs = search needs
 
 returns-2 : tie.Need-returns-2
 returns-2 c =
-    let S = c .before .before .before .before .before .before in rw (c .refused2 .ensures) (step-full (S .args .a) (S .args .costs .now) (S .args .s .now) (S .args .d) (S .args .at) (S .args .t) (S .pre .0) (omega (arith, S .pre .0 .below)) (omega arith) _)
+    let S = c .before .before .before .before .before .before .before .before in rw (c .refused2 .ensures) (step-full (S .args .a) (S .args .costs .now) (S .args .s .now) (S .args .d) (S .args .at) (S .args .t) (S .pre .0) (omega (arith, S .pre .0 .below)) (omega arith) _)
 
 add-price : tie.Need-add-price
 add-price c = search needs
@@ -31,14 +31,11 @@ shared-slice-read-price c = search needs
 price-requires : tie.Need-price-requires
 price-requires c κs = search needs
 
+add-t10 : tie.Need-add-t10
+add-t10 c = search needs
+
 add-t9 : tie.Need-add-t9
 add-t9 c = search needs
-
-add-t8 : tie.Need-add-t8
-add-t8 c = search needs
-
-add-t14 : tie.Need-add-t14
-add-t14 c = search needs
 
 add-t15 : tie.Need-add-t15
 add-t15 c = search needs
@@ -46,9 +43,12 @@ add-t15 c = search needs
 add-t16 : tie.Need-add-t16
 add-t16 c = search needs
 
+add-t17 : tie.Need-add-t17
+add-t17 c = search needs
+
 returns-3 : tie.Need-returns-3
 returns-3 c =
-    let S = c .before .before .before .before .before .before .before .before .before .before .before in step-on (S .args .a) (S .args .costs .now) (S .args .s .now) (S .args .d) (S .args .at) (S .args .t) (S .pre .0) (omega (arith, S .pre .0 .below)) (omega arith) _ (c .before .before .before .before .price .ensures .0) (c .before .before .before .before .price .ensures .1)
+    let S = c .before .before .before .before .before .before .before .before .before .before .before .before .before in step-on (S .args .a) (S .args .costs .now) (S .args .s .now) (S .args .d) (S .args .at) (S .args .t) (S .pre .0) (omega (arith, S .pre .0 .below, c .before .before .before .before .before .before .before .before .before .before .if1 .left)) (omega arith) _ (c .before .before .before .before .price .ensures .0) (c .before .before .before .before .price .ensures .1)
 
 pub step-spec : {M : Type 1} → statement M
 step-spec =
@@ -62,9 +62,9 @@ step-spec =
     add-price
     shared-slice-read-price
     price-requires
+    add-t10
     add-t9
-    add-t8
-    add-t14
     add-t15
     add-t16
+    add-t17
     returns-3)

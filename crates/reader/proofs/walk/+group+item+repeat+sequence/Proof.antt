@@ -83,7 +83,7 @@ group-enter-group-requires t c κs =
     let S = c .before .before in
     let R = rules-of (S .args .a) (S .args .costs .now) in
     let s = S .args .s .now in
-    (S .pre .1 .0, S .pre .1 .1 .0)
+    (S .pre .1 .0, (S .pre .1 .1 .0, S .pre .1 .1 .1))
 
 group-returns : (t : ℕ) → group-lts.Need-returns (group-calls t) (group-start t) group.Post
 group-returns t c =
@@ -132,7 +132,7 @@ group-leave-group-requires t c κs =
     let d = e .cost-inside z in
     let f = e .siblings z in
     let r = S .pre .1 .1 .0 in
-    (q .halted y, (r, ((omega arith, omega arith), ((omega arith, omega arith), omega arith))))
+    (q .halted y, (r, (S .pre .1 .1 .1, ((omega arith, omega arith), ((omega arith, omega arith), omega arith)))))
 
 group-returns-3 : (t : ℕ) → group-lts.Need-returns-3 (group-calls t) (group-start t) group.Post
 group-returns-3 t c =
@@ -153,7 +153,7 @@ item-step-requires t c κs =
     let S = c .before .before .before .before in
     let R = rules-of (S .args .a) (S .args .costs .now) in
     let s = S .args .s .now in
-    ((record { below = S .pre .1 .0 .below; byte = c .if1 .taken }), S .pre .1 .1 .0)
+    ((record { below = S .pre .1 .0 .below; byte = c .if1 .taken }), (S .pre .1 .1 .0, S .pre .1 .1 .1))
 
 item-returns : (t : ℕ) → item-lts.Need-returns (item-calls t) (item-start t) item.Post
 item-returns t c = c .step .ensures
@@ -263,7 +263,7 @@ repeat-leave-repeat-requires t c κs =
     let d = e .cost-inside z in
     let f = e .siblings z in
     let r = S .pre .1 .1 .0 in
-    (q .halted y, (r, ((k .0, omega (arith, k .1, c .before .before .before .before .before .before .before .operand .ensures .0), c .before .before .before .before .before .before .before .operand .ensures .1), ((omega arith, omega arith), (omega arith, omega arith, omega arith)))))
+    (q .halted y, (r, (S .pre .1 .1 .1, ((k .0, omega (arith, k .1, c .before .before .before .before .before .before .before .operand .ensures .0), c .before .before .before .before .before .before .before .operand .ensures .1), ((omega arith, omega arith), (omega arith, omega arith, omega arith))))))
 
 repeat-returns-3 : (t : ℕ) → repeat-lts.Need-returns-3 (repeat-calls t) (repeat-start t) repeat.Post
 repeat-returns-3 t c =
@@ -307,7 +307,7 @@ sequence-item-requires t c κs =
     let S = c .before .before .before .before .before .before .before in
     let R = rules-of (S .args .a) (S .args .costs .now) in
     let s = S .args .s .now in
-    (omega (arith, S .pre .0, c .before .before .before .before .loop .inv .ahead, c .before .before .before .loop-test .taken), (record { below = c .before .before .before .loop-test .taken; no-group-end = c .before .if1 .left; no-repeat-end = c .if2 .left }, (room-grown (S .args .d) (S .args .t) (c .before .before .before .before .loop .now) (S .pre .1 .1 .0) (c .before .before .before .before .loop .inv .grown), S .pre .1 .1 .1)))
+    (omega (arith, S .pre .0, c .before .before .before .before .loop .inv .ahead, c .before .before .before .loop-test .taken), (record { below = c .before .before .before .loop-test .taken; no-group-end = c .before .if1 .left; no-repeat-end = c .if2 .left }, (room-grown (S .args .a .limits) (S .args .d) (S .args .t) (c .before .before .before .before .loop .now) (S .pre .1 .1 .0) (c .before .before .before .before .loop .inv .grown), S .pre .1 .1 .1)))
 
 sequence-returns-3 : (t : ℕ) → sequence-lts.Need-returns-3 (sequence-calls t) (sequence-start t) sequence.Post sequence-Inv sequence-μ
 sequence-returns-3 t c =
