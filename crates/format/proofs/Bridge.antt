@@ -4,14 +4,14 @@ use mathlib.Core.Path.{_≡_, refl, sym, ap, _∙_}
 use mathlib.Core.Bool.{Bool, true, false, false≢true}
 use mathlib.Core.List.{List, [], _∷_, _++_, append-assoc, append-nil}
 use mathlib.Core.Logic.{_≢_, _↔_}
-use Prim.Native.Nat.{ℕ, zero, suc, _+_, _-_, _*_, _/_, _%_, _≤_, _<_, max}
+use Prim.Native.Nat.{ℕ, zero, suc, _+_, _-_, _*_, _/_, _%_, _≤_, _<_}
 use native.Mathlib.Nat.{zero-add}
 use native.Mathlib.Omega.{arith}
 use lib.ListN.{length, length-append, getD, drop}
 use lib.Seq.{drop-at, getD-append-add}
 use Rattle.format.specs.Limits.{Prices}
 use Rattle.format.specs.Order.{Bytes}
-use Rattle.format.specs.Forest.{Forest, end, step, group, repeat, join, copies, unroll, siblings, nodes, cost, bytes, two-bytes, Plain, Allowed, Repeats, Sound, Coded, group-depth, repeat-depth, widest-of}
+use Rattle.format.specs.Forest.{Forest, end, step, group, repeat, join, copies, unroll, siblings, nodes, cost, bytes, two-bytes, Plain, Allowed, at-most, Repeats, Sound, Coded, group-depth, repeat-depth, widest-of}
 use Rattle.format.specs.Machine.{Rules, State, Open, a-group, a-repeat, open-groups, open-repeats, times, put-step, enter-group, leave-group, enter-repeat, leave-repeat, repeated, scan, read, start, refused, accepted, refusal}
 use Rattle.format.specs.Shape.{Shaped, tally-of, Reads}
 use Rattle.format.specs.declared.Tally.{Tally}
@@ -136,7 +136,7 @@ pub record Room (R : Rules) (st : State) (f : Forest) : Type 0 where
 -- A sequence that may be read from a state: of the right shape, with room for it.
 pub record Fits (R : Rules) (st : State) (f : Forest) : Type 0 where
   pub coded : Coded f
-  pub sound : Sound (record { widest = R .widest }) f
+  pub sound : Sound (at-most (R .widest)) f
   pub plain : R .folds ≡ false → Plain f
   pub room : Room R st f
 
@@ -286,7 +286,7 @@ unfolding after
 fits-join R st f g y z =
     record {
       coded = coded-join f g (y .coded) (z .coded);
-      sound = sound-join (record { widest = R .widest }) f g (y .sound) (z .sound);
+      sound = sound-join (at-most (R .widest)) f g (y .sound) (z .sound);
       plain = λ e. plain-join f g (y .plain e) (z .plain e);
       room = omega (arith, group-depth-join f g, repeat-depth-join f g, nodes-join f g);
     }
@@ -680,7 +680,7 @@ relimited {R} k a w =
       form = a .form;
       shape = record {
         coded = z .coded;
-        sound = sound-within (record { widest = R .widest }) (record { widest = k }) (a .tree) w (z .sound);
+        sound = sound-within (at-most (R .widest)) (at-most k) (a .tree) w (z .sound);
         plain = z .plain;
         groups = z .groups;
         repeats = z .repeats;
@@ -698,5 +698,5 @@ limit-law R k narrow s small t x =
   where
     down : Reads (at-limit R k) s t x → (a : Reads R s t x) × (widest-of (a .tree) ≤ k)
     down a =
-        let w : widest-of (a .tree) ≤ k = sound-widest (record { widest = k }) (a .tree) (a .shape .sound) in
+        let w : widest-of (a .tree) ≤ k = sound-widest (at-most k) (a .tree) (a .shape .sound) in
         (relimited (R .widest) a (omega arith), w)

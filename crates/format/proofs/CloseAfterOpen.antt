@@ -3,32 +3,17 @@
 use mathlib.Core.Path.{_≡_, refl, sym, _∙_}
 use mathlib.Core.Bool.{Bool, true, false, _&&_, or-false, false≢true}
 use mathlib.Core.List.{List, [], _∷_, _++_}
-use mathlib.Core.Logic.{_≢_, _↔_, _⊎_, inl, inr}
+use mathlib.Core.Logic.{_≢_, _↔_, inl, inr}
 use Prim.Native.Nat.{ℕ, suc, _+_, _≤_, _<_}
 use native.Mathlib.Nat.{mul-le-mul-right}
 use native.Mathlib.Omega.{arith}
 use lib.Dec.{eqb}
 use lib.ListN.{length, getD, take, drop}
 use borrow.Author.Tests.{le-ltb, eqb-true, not-false}
-use Rattle.format.specs.Machine.{Rules, State, Open, a-group, a-repeat, Row, _when_, first-of, rows, refusal, read, advance, operands, is-close, in-group, in-repeat, leave-group, leave-repeat, refused}
-use Rattle.format.proofs.Machine.{None, refusal-unknown, Command, step-byte, group-byte, group-end-byte, repeat-byte, repeat-end-byte, other-byte, command, group-end-passed, repeat-passed, repeat-end-passed, total-within}
-use Rattle.format.proofs.Refusals.{Each, first-each, Reached, at-start, passed, Because, at-command, left-open, refused-exactly}
-
--- The commands of an open and a close of one kind, group or repeat.
-abbrev pub OneKind : (opening closing : ℕ) → Type 0
-OneKind c d = ((c ≡ 0x11) × (d ≡ 0x12)) ⊎ ((c ≡ 0x20) × (d ≡ 0x21))
-
--- The close at offset e stands right after its open: the commands before the open are passed, the open is passed, and nothing
--- but its operands stands between it and the close of its kind.
-pub record CloseAfterOpen (R : Rules) (s : List ℕ) (e : ℕ) : Type 0 where
-  pub at : ℕ
-  pub state : State
-  pub reached : Reached R s at state
-  pub within : at < length s
-  pub passes : refusal R state (getD s at 0) (drop (suc at) s) ≡ 0
-  pub next : suc at + operands (getD s at 0) ≡ e
-  pub there : e < length s
-  pub kind : OneKind (getD s at 0) (getD s e 0)
+use Rattle.format.specs.Machine.{Rules, State, Open, a-group, a-repeat, Check, _when_, first-of, checks, refusal, read, advance, operands, is-close, in-group, in-repeat, leave-group, leave-repeat, refused}
+use Rattle.format.specs.Reasons.{None, Reached, at-start, passed, Because, at-command, left-open, OneKind, CloseAfterOpen}
+use Rattle.format.proofs.Machine.{refusal-unknown, Command, step-byte, group-byte, group-end-byte, repeat-byte, repeat-end-byte, other-byte, command, group-end-passed, repeat-passed, repeat-end-passed, total-within}
+use Rattle.format.proofs.Refusals.{Each, first-each, refused-exactly}
 
 -- Every open repeat has a count of at least 2, so at its close one sibling inside it is at least two outside.
 abbrev Twice : List Open → Type 0
@@ -46,19 +31,19 @@ record Kept (c : ℕ) (st : State) : Type 0 where
   twice : Twice (st .opens)
   leaves : Leaves c st
 
--- Where row 5 answers: the command closes what is open, without a sibling.
+-- Where check 5 answers: the command closes what is open, without a sibling.
 data Shuts (c : ℕ) (st : State) : Type 0 where
   shut-group : c ≡ 0x12 → in-group (st .opens) ≡ true → st .tally .siblings ≡ 0 → Shuts c st
   shut-repeat : c ≡ 0x21 → in-repeat (st .opens) ≡ true → st .tally .siblings ≡ 0 → Shuts c st
 
--- Where the only row of a number answers, it applies and none above it does.
-only-row : (n : ℕ) → n ≢ 0 → (above : List Row) (b : Bool) (below : List Row) → Each (λ m. m ≢ n) above
+-- Where the only check of a number answers, it applies and none above it does.
+only-check : (n : ℕ) → n ≢ 0 → (above : List Check) (b : Bool) (below : List Check) → Each (λ m. m ≢ n) above
     → Each (λ m. m ≢ n) below → first-of (above ++ n when b ∷ below) ≡ n → None above × (b ≡ true)
-only-row n some [] true below v w e = (tt, refl)
-only-row n some [] false below v w e = absurd (first-each (λ m. m ≢ n) below (omega arith) w e)
-only-row n some (m when true ∷ above) b below v w e = absurd (v .0 e)
-only-row n some (m when false ∷ above) b below v w e =
-    let z = only-row n some above b below (v .1) w e in
+only-check n some [] true below v w e = (tt, refl)
+only-check n some [] false below v w e = absurd (first-each (λ m. m ≢ n) below (omega arith) w e)
+only-check n some (m when true ∷ above) b below v w e = absurd (v .0 e)
+only-check n some (m when false ∷ above) b below v w e =
+    let z = only-check n some above b below (v .1) w e in
     ((refl, z .0), z .1)
 
 module _ (R : Rules) (st : State) (rest : List ℕ) where
@@ -88,13 +73,13 @@ module _ (R : Rules) (st : State) (rest : List ℕ) where
       repeat-end-kept (st .opens) z (y .inner) (y .some)
   kept (other-byte {c} u) z e = absurd (omega (arith, refusal-unknown R st rest c u))
 
-  -- Where row 5 answers none of the first four rows applies.
-  fifth : (c : ℕ) → refusal R st c rest ≡ 5 → None (take 4 (rows R st c rest)) × (is-close c && eqb (st .tally .siblings) 0 ≡ true)
+  -- Where check 5 answers none of the first four checks applies.
+  fifth : (c : ℕ) → refusal R st c rest ≡ 5 → None (take 4 (checks R st c rest)) × (is-close c && eqb (st .tally .siblings) 0 ≡ true)
   unfolding refusal
-  fifth c e = only-row 5 (omega arith) (take 4 (rows R st c rest)) _ (drop 5 (rows R st c rest)) (omega arith) (omega arith) e
+  fifth c e = only-check 5 (omega arith) (take 4 (checks R st c rest)) _ (drop 5 (checks R st c rest)) (omega arith) (omega arith) e
 
   shut : {c : ℕ} → Command c → refusal R st c rest ≡ 5 → Shuts c st
-  unfolding rows
+  unfolding checks
   shut step-byte e = absurd (false≢true (fifth 0x10 e .1))
   shut group-byte e = absurd (false≢true (fifth 0x11 e .1))
   shut group-end-byte e =
@@ -106,7 +91,7 @@ module _ (R : Rules) (st : State) (rest : List ℕ) where
       shut-repeat refl (not-false _ (z .0 .1 .1 .1 .0)) (eqb-true _ _ (z .1))
   shut (other-byte {c} u) e = absurd (omega (arith, refusal-unknown R st rest c u))
 
-  -- Row 5 answers at the close of what was just opened.
+  -- Check 5 answers at the close of what was just opened.
   empty-group : (s : List ℕ) → refusal R (advance (R .prices) 0x11 rest st) 0x12 s ≡ 5
   unfolding advance refusal
   empty-group s = rw (le-ltb (length s) 0 (omega arith))

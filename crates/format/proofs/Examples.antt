@@ -1,4 +1,4 @@
--- Examples of what the readers answer, checked by computation: every row of document 01's table, the order of its rows, each
+-- Examples of what the readers answer, checked by computation: every check of document 01's table, the order of its checks, each
 -- limit met and passed, widths, costs and parts. A table is a list of cases with one statement: every case holds.
 use mathlib.Core.Path.{_≡_, refl}
 use mathlib.Core.List.{List, [], _∷_, _++_, map}
@@ -60,7 +60,7 @@ expected (q gives a) = a
 abbrev pub Hold : List Case → Type 0
 Hold cs = map answered cs ≡ map expected cs
 
--- Rows 1 to 12 of the table of refusals, each by its example there.
+-- Checks 1 to 12 of the table of refusals, each by its example there.
 unfoldable pub refusals : List Case
 unfolding fold times
 refusals =
@@ -98,7 +98,7 @@ repeat-start h w = 0x20 ∷ h / 256 ∷ h % 256 ∷ w / 256 ∷ w % 256 ∷ []
 abbrev pub repeating : (count width : ℕ) → List ℕ → List ℕ
 repeating h w s = repeat-start h w ++ s ++ 0x21 ∷ []
 
--- Several rows apply: the one that answers. Any two rows that can meet at one command meet here or in row 2's example.
+-- Several checks apply: the one that answers. Any two checks that can meet at one command meet here or in check 2's example.
 unfoldable pub order : List Case
 unfolding fold times
 order =

@@ -4,13 +4,13 @@ use mathlib.Core.Logic.{_↔_}
 use Prim.Native.Nat.{ℕ, zero, suc, _+_, _*_, _≤_, _<_}
 use native.Mathlib.Nat.{mul-le-mul-left}
 use native.Mathlib.Omega.{arith}
-use Rattle.format.specs.Report.{RRT, empty, letter, repetition, count, Ordinary, append, row, Expands, this, under-letter, under-repetition, after-letter, after-repetition, Leads, done, more, Represents, Width, size}
+use Rattle.format.specs.Report.{RRT, empty, letter, repetition, count, Ordinary, append, series, Expands, this, under-letter, under-repetition, after-letter, after-repetition, Leads, done, more, Represents, Width, size}
 
 -- All repetitions expanded.
 unfoldable pub expand : {Σ : Type 0} → RRT Σ → RRT Σ
 expand empty = empty
 expand (letter a c r) = letter a (expand c) (expand r)
-expand (repetition h c r) = append (row h (expand c)) (expand r)
+expand (repetition h c r) = append (series h (expand c)) (expand r)
 
 -- A number that every expansion lowers, also where h is 0 or 1.
 unfoldable pub work : {Σ : Type 0} → RRT Σ → ℕ
@@ -31,15 +31,15 @@ module _ {Σ : Type 0} where
   expand-append (letter a c r) s = ap (letter a (expand c)) (expand-append r s)
   expand-append (repetition h c r) s = rw (expand-append r s, append-assoc)
 
-  expand-row : (h : ℕ) (c : RRT Σ) → expand (row h c) ≡ row h (expand c)
-  unfolding row expand
-  expand-row zero c = refl
-  expand-row (suc h) c = rw (expand-append, expand-row h c)
+  expand-series : (h : ℕ) (c : RRT Σ) → expand (series h c) ≡ series h (expand c)
+  unfolding series expand
+  expand-series zero c = refl
+  expand-series (suc h) c = rw (expand-append, expand-series h c)
 
   -- No expansion changes where all of them lead.
   pub expand-step : {r s : RRT Σ} → Expands r s → expand r ≡ expand s
   unfolding expand
-  expand-step (this {h = h} {c = c} {r = r}) = rw (expand-append (row h c) r, expand-row h c)
+  expand-step (this {h = h} {c = c} {r = r}) = rw (expand-append (series h c) r, expand-series h c)
   expand-step (under-letter e) = rw (expand-step e)
   expand-step (under-repetition e) = rw (expand-step e)
   expand-step (after-letter e) = rw (expand-step e)
@@ -62,17 +62,17 @@ module _ {Σ : Type 0} where
   ordinary-append (letter a c r) s o p = (o .0, ordinary-append r s (o .1) p)
   ordinary-append (repetition h c r) s o p = o
 
-  ordinary-row : (h : ℕ) (c : RRT Σ) → Ordinary c → Ordinary (row h c)
-  unfolding row
-  ordinary-row zero c o = tt
-  ordinary-row (suc h) c o = ordinary-append c (row h c) o (ordinary-row h c o)
+  ordinary-series : (h : ℕ) (c : RRT Σ) → Ordinary c → Ordinary (series h c)
+  unfolding series
+  ordinary-series zero c o = tt
+  ordinary-series (suc h) c o = ordinary-append c (series h c) o (ordinary-series h c o)
 
   pub ordinary-expand : (r : RRT Σ) → Ordinary (expand r)
   unfolding expand
   ordinary-expand empty = tt
   ordinary-expand (letter a c r) = (ordinary-expand c, ordinary-expand r)
   ordinary-expand (repetition h c r) =
-      ordinary-append (row h (expand c)) (expand r) (ordinary-row h (expand c) (ordinary-expand c)) (ordinary-expand r)
+      ordinary-append (series h (expand c)) (expand r) (ordinary-series h (expand c) (ordinary-expand c)) (ordinary-expand r)
 
   -- Expansions one by one lead to it: those below a node, those after it, then the node itself.
   then : {r s t : RRT Σ} → Leads r s → Leads s t → Leads r t
@@ -121,14 +121,14 @@ module _ {Σ : Type 0} where
   work-append (letter a c r) s = omega (arith, work-append r s)
   work-append (repetition h c r) s = omega (arith, work-append r s)
 
-  work-row : (h : ℕ) (c : RRT Σ) → work (row h c) ≡ h * work c
-  unfolding row work
-  work-row zero c = omega arith
-  work-row (suc h) c = omega (arith, work-append c (row h c), work-row h c)
+  work-series : (h : ℕ) (c : RRT Σ) → work (series h c) ≡ h * work c
+  unfolding series work
+  work-series zero c = omega arith
+  work-series (suc h) c = omega (arith, work-append c (series h c), work-series h c)
 
   pub falls : {r s : RRT Σ} → Expands r s → work s < work r
   unfolding work
-  falls (this {h = h} {c = c} {r = r}) = omega (arith, work-append (row h c) r, work-row h c)
+  falls (this {h = h} {c = c} {r = r}) = omega (arith, work-append (series h c) r, work-series h c)
   falls (under-letter e) = omega (arith, falls e)
   falls (under-repetition {h = h} {c = c} {d = d} e) =
       let less : work d < work c = falls e in
@@ -151,7 +151,7 @@ module _ {Σ : Type 0} where
     ordinary-final c (λ d e. last (letter a d r) (under-letter e)),
     ordinary-final r (λ s e. last (letter a c s) (after-letter e)),
   )
-  ordinary-final (repetition h c r) last = last (append (row h c) r) this
+  ordinary-final (repetition h c r) last = last (append (series h c) r) this
 
   pub maximal : {r t : RRT Σ} → Leads r t → ((s : RRT Σ) → Expands t s → ⊥) → t ≡ expand r
   maximal {r} {t} l last = represents r t .0 (record { expansions = l; ordinary = ordinary-final t last })
@@ -177,5 +177,5 @@ abbrev unit-size : RRT ℕ → ℕ
 unit-size r = size (λ l. 1) (λ h. 1) r
 
 pub examples : Represents nested plain × Represents beside plain × (unit-size plain ≡ 10) × (unit-size nested ≡ 6) × (unit-size beside ≡ 8)
-unfolding expand append row size
+unfolding expand append series size
 examples = (represents-expand nested, represents-expand beside, refl, refl, refl)

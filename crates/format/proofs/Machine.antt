@@ -10,50 +10,47 @@ use lib.Dec.{ltb, leb, eqb}
 use lib.ListN.{length, drop, length-append}
 use lib.Seq.{drop-append-seam}
 use borrow.Author.Tests.{le-ltb, eq-eqb, ne-eqb, ltb-false, eqb-true, eqb-false, leb-false, lt-leb, not-false}
-use Rattle.format.specs.Machine.{Rules, State, Row, _when_, first-of, rows, refusal, scan, advance, operands, count, width, is-known, place-of, unless, at-end, open-groups, open-repeats, in-group, in-repeat, claimed, total-of, node-total, refused, accepted, put-step, enter-group, leave-group, enter-repeat, leave-repeat}
+use Rattle.format.specs.Machine.{Rules, State, Check, _when_, first-of, checks, refusal, scan, advance, operands, count-operand, width-operand, is-known, place-of, unless, at-end, open-groups, open-repeats, in-group, in-repeat, claimed, total-of, node-total, refused, accepted, put-step, enter-group, leave-group, enter-repeat, leave-repeat}
+use Rattle.format.specs.Reasons.{None}
 use Rattle.format.specs.declared.Tally.{Tally}
 
--- Rows of which none applies, and rows whose numbers are not 0.
-abbrev pub None : List Row → Type 0
-None [] = Unit
-None (n when b ∷ rs) = (b ≡ false) × None rs
-
-abbrev pub Numbered : List Row → Type 0
+-- Checks whose numbers are not 0.
+abbrev pub Numbered : List Check → Type 0
 Numbered [] = Unit
 Numbered (n when b ∷ rs) = (0 < n) × Numbered rs
 
-pub first-none : (rs : List Row) → Numbered rs → first-of rs ≡ 0 → None rs
+pub first-none : (rs : List Check) → Numbered rs → first-of rs ≡ 0 → None rs
 first-none [] m e = tt
 first-none (n when true ∷ rs) m e = absurd (omega arith)
 first-none (n when false ∷ rs) m e = (refl, first-none rs (m .1) e)
 
--- The rows that can apply to each command, in the table's order. A command that adds no node is never refused with 10 where
+-- The checks that can apply to each command, in the table's order. A command that adds no node is never refused with 10 where
 -- the total was within the limit before it.
 module _ (R : Rules) (st : State) (rest : List ℕ) where
-  abbrev pub step-rows : List Row
-  step-rows = 3 when ltb (length rest) 1 ∷ 10 when ltb (R .limits .nodes) (st .tally .nodes + 1) ∷ []
+  abbrev pub step-checks : List Check
+  step-checks = 3 when ltb (length rest) 1 ∷ 10 when ltb (R .limits .nodes) (st .tally .nodes + 1) ∷ []
 
-  abbrev pub group-rows : List Row
-  group-rows =
+  abbrev pub group-checks : List Check
+  group-checks =
       3 when ltb (length rest) 1
       ∷ 8 when leb (R .limits .groups) (open-groups (st .opens))
       ∷ 10 when ltb (R .limits .nodes) (st .tally .nodes + 1)
       ∷ []
 
-  abbrev pub repeat-rows : List Row
-  repeat-rows =
+  abbrev pub repeat-checks : List Check
+  repeat-checks =
       2 when not (R .folds)
       ∷ 3 when ltb (length rest) 4
-      ∷ 6 when ltb (count rest) 2
-      ∷ 7 when ltb (R .widest) (width rest)
+      ∷ 6 when ltb (count-operand rest) 2
+      ∷ 7 when ltb (R .widest) (width-operand rest)
       ∷ 8 when leb (R .limits .repeats) (open-repeats (st .opens))
       ∷ []
 
-abbrev pub group-end-rows : State → List Row
-group-end-rows st = 4 when not (in-group (st .opens)) ∷ 5 when eqb (st .tally .siblings) 0 ∷ []
+abbrev pub group-end-checks : State → List Check
+group-end-checks st = 4 when not (in-group (st .opens)) ∷ 5 when eqb (st .tally .siblings) 0 ∷ []
 
-abbrev pub repeat-end-rows : Rules → State → List Row
-repeat-end-rows R st =
+abbrev pub repeat-end-checks : Rules → State → List Check
+repeat-end-checks R st =
     2 when not (R .folds)
     ∷ 4 when not (in-repeat (st .opens))
     ∷ 5 when eqb (st .tally .siblings) 0
@@ -62,24 +59,24 @@ repeat-end-rows R st =
     ∷ []
 
 module _ (R : Rules) (st : State) (rest : List ℕ) where
-  pub refusal-step : refusal R st 0x10 rest ≡ first-of (step-rows R st rest)
+  pub refusal-step : refusal R st 0x10 rest ≡ first-of (step-checks R st rest)
   unfolding refusal
   refusal-step = refl
 
-  pub refusal-group : refusal R st 0x11 rest ≡ first-of (group-rows R st rest)
+  pub refusal-group : refusal R st 0x11 rest ≡ first-of (group-checks R st rest)
   unfolding refusal
   refusal-group = rw or-false
 
-  pub refusal-group-end : st .tally .nodes ≤ R .limits .nodes → refusal R st 0x12 rest ≡ first-of (group-end-rows st)
+  pub refusal-group-end : st .tally .nodes ≤ R .limits .nodes → refusal R st 0x12 rest ≡ first-of (group-end-checks st)
   unfolding refusal
   refusal-group-end h =
       rw (le-ltb (length rest) 0 (omega arith), le-ltb (R .limits .nodes) (st .tally .nodes) h, or-false)
 
-  pub refusal-repeat : st .tally .nodes ≤ R .limits .nodes → refusal R st 0x20 rest ≡ first-of (repeat-rows R st rest)
+  pub refusal-repeat : st .tally .nodes ≤ R .limits .nodes → refusal R st 0x20 rest ≡ first-of (repeat-checks R st rest)
   unfolding refusal
   refusal-repeat h = rw (le-ltb (R .limits .nodes) (st .tally .nodes) h)
 
-  pub refusal-repeat-end : refusal R st 0x21 rest ≡ first-of (repeat-end-rows R st)
+  pub refusal-repeat-end : refusal R st 0x21 rest ≡ first-of (repeat-end-checks R st)
   unfolding refusal
   refusal-repeat-end = rw (le-ltb (length rest) 0 (omega arith))
 
@@ -94,12 +91,12 @@ module _ (R : Rules) (st : State) (rest : List ℕ) where
   -- A passed command has its operands.
   pub operands-there : (c : ℕ) → refusal R st c rest ≡ 0 → operands c ≤ length rest
   unfolding refusal
-  operands-there c e = ltb-false _ _ (first-none (rows R st c rest) (omega arith) e .1 .1 .0)
+  operands-there c e = ltb-false _ _ (first-none (checks R st c rest) (omega arith) e .1 .1 .0)
 
   -- And the node total that it makes is within the limit.
   pub total-within : (c : ℕ) → refusal R st c rest ≡ 0 → node-total c (st .opens) (st .tally .nodes) ≤ R .limits .nodes
   unfolding refusal
-  total-within c e = ltb-false _ _ (first-none (rows R st c rest) (omega arith) e .1 .1 .1 .1 .1 .1 .1 .1 .1 .0)
+  total-within c e = ltb-false _ _ (first-none (checks R st c rest) (omega arith) e .1 .1 .1 .1 .1 .1 .1 .1 .1 .0)
 
 -- When each command is passed.
 pub record StepPasses (R : Rules) (st : State) (rest : List ℕ) : Type 0 where
@@ -118,8 +115,8 @@ pub record GroupEndPasses (st : State) : Type 0 where
 pub record RepeatPasses (R : Rules) (st : State) (rest : List ℕ) : Type 0 where
   pub folds : R .folds ≡ true
   pub operand : 4 ≤ length rest
-  pub twice : 2 ≤ count rest
-  pub narrow : width rest ≤ R .widest
+  pub twice : 2 ≤ count-operand rest
+  pub narrow : width-operand rest ≤ R .widest
   pub room : open-repeats (st .opens) < R .limits .repeats
 
 pub record RepeatEndPasses (R : Rules) (st : State) : Type 0 where
@@ -138,7 +135,7 @@ zero-not n h = ne-eqb n 0 (omega arith)
 module _ (R : Rules) (st : State) (rest : List ℕ) where
   pub step-passed : refusal R st 0x10 rest ≡ 0 → StepPasses R st rest
   step-passed e =
-      let z = first-none (step-rows R st rest) (omega arith) (sym (refusal-step R st rest) ∙ e) in
+      let z = first-none (step-checks R st rest) (omega arith) (sym (refusal-step R st rest) ∙ e) in
       record { operand = ltb-false _ _ (z .0); total = ltb-false _ _ (z .1 .0) }
 
   pub step-passes : StepPasses R st rest → refusal R st 0x10 rest ≡ 0
@@ -146,7 +143,7 @@ module _ (R : Rules) (st : State) (rest : List ℕ) where
 
   pub group-passed : refusal R st 0x11 rest ≡ 0 → GroupPasses R st rest
   group-passed e =
-      let z = first-none (group-rows R st rest) (omega arith) (sym (refusal-group R st rest) ∙ e) in
+      let z = first-none (group-checks R st rest) (omega arith) (sym (refusal-group R st rest) ∙ e) in
       record { operand = ltb-false _ _ (z .0); room = leb-false _ _ (z .1 .0); total = ltb-false _ _ (z .1 .1 .0) }
 
   pub group-passes : GroupPasses R st rest → refusal R st 0x11 rest ≡ 0
@@ -154,7 +151,7 @@ module _ (R : Rules) (st : State) (rest : List ℕ) where
 
   pub repeat-end-passed : refusal R st 0x21 rest ≡ 0 → RepeatEndPasses R st
   repeat-end-passed e =
-      let z = first-none (repeat-end-rows R st) (omega arith) (sym (refusal-repeat-end R st rest) ∙ e) in
+      let z = first-none (repeat-end-checks R st) (omega arith) (sym (refusal-repeat-end R st rest) ∙ e) in
       record {
         folds = not-false _ (z .0);
         inner = not-false _ (z .1 .0);
@@ -171,7 +168,7 @@ module _ (R : Rules) (st : State) (rest : List ℕ) where
   module _ (within : st .tally .nodes ≤ R .limits .nodes) where
     pub group-end-passed : refusal R st 0x12 rest ≡ 0 → GroupEndPasses st
     group-end-passed e =
-        let z = first-none (group-end-rows st) (omega arith) (sym (refusal-group-end R st rest within) ∙ e) in
+        let z = first-none (group-end-checks st) (omega arith) (sym (refusal-group-end R st rest within) ∙ e) in
         record { inner = not-false _ (z .0); some = not-zero _ (z .1 .0) }
 
     pub group-end-passes : GroupEndPasses st → refusal R st 0x12 rest ≡ 0
@@ -179,7 +176,7 @@ module _ (R : Rules) (st : State) (rest : List ℕ) where
 
     pub repeat-passed : refusal R st 0x20 rest ≡ 0 → RepeatPasses R st rest
     repeat-passed e =
-        let z = first-none (repeat-rows R st rest) (omega arith) (sym (refusal-repeat R st rest within) ∙ e) in
+        let z = first-none (repeat-checks R st rest) (omega arith) (sym (refusal-repeat R st rest within) ∙ e) in
         record {
           folds = not-false _ (z .0);
           operand = ltb-false _ _ (z .1 .0);

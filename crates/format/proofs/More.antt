@@ -10,11 +10,12 @@ use lib.Dec.{ltb, eqb}
 use lib.ListN.{length, getD, take, drop, length-append, length-drop, List·getD-append}
 use borrow.Author.Tests.{le-ltb, ltb-false, ne-eqb}
 use Rattle.format.specs.Limits.{limits, Prices}
-use Rattle.format.specs.Machine.{Rules, State, rows, Open, a-group, a-repeat, Outcome, refused, accepted, refusal, scan, read, start, advance, is-node, is-known, operands, open-groups, in-group, leave-group, place-of, at-end}
+use Rattle.format.specs.Machine.{Rules, State, checks, Open, a-group, a-repeat, Outcome, refused, accepted, refusal, scan, read, start, advance, is-node, is-known, operands, open-groups, in-group, leave-group, place-of, at-end}
 use Rattle.format.specs.Readings.{free, run-rules}
 use Rattle.format.specs.declared.Tally.{Tally}
+use Rattle.format.specs.Reasons.{Reached, at-start, passed, Because, at-command, left-open}
 use Rattle.format.proofs.Machine.{Command, step-byte, group-byte, group-end-byte, repeat-byte, repeat-end-byte, other-byte, command, refusal-unknown, step-passed, group-passed, group-end-passed, operands-there, scan-pass, scan-refuse}
-use Rattle.format.proofs.Refusals.{first-each, Reached, at-start, passed, Because, at-command, left-open, refused-exactly, accepted-exactly}
+use Rattle.format.proofs.Refusals.{first-each, refused-exactly, accepted-exactly}
 
 -- What the first of two lists has is not changed by the second.
 module _ (x y : List ℕ) where
@@ -24,7 +25,7 @@ module _ (x y : List ℕ) where
   byte : (i : ℕ) → i < length x → getD (x ++ y) i 0 ≡ getD x i 0
   byte i h = List·getD-append x y 0 i h
 
--- A command that is not refused with 3 meets the same rows whatever follows, since they look at its operands only.
+-- A command that is not refused with 3 meets the same checks whatever follows, since they look at its operands only.
 module _ (R : Rules) (st : State) (x y : List ℕ) where
   with-operands : {c : ℕ} → Command c → operands c ≤ length x → refusal R st c (x ++ y) ≡ refusal R st c x
   unfolding refusal
@@ -137,7 +138,7 @@ accepted-short s t x out = reached-below (accepted-exactly run-rules s t x .0 ou
 not-missing : (R : Rules) (st : State) (c : ℕ) (rest : List ℕ) → operands c ≤ length rest → refusal R st c rest ≢ 3
 unfolding refusal
 not-missing R st c rest h e =
-    let rs = rows R st c rest in
+    let rs = checks R st c rest in
     first-each (λ n. n ≢ 3) (take 2 rs ++ drop 3 rs) (omega arith) (omega arith) (rw (le-ltb _ _ h) at e)
 
 at-most-four : (node repeat : Bool) → cond node 1 (cond repeat 4 0) ≤ 4

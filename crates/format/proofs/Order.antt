@@ -131,24 +131,24 @@ cancel-left (group l b x) y z e = cancel-left x y z (cc)
 cancel-left (repeat h w b x) y z e = cancel-left x y z (cc)
 
 -- The first n siblings of a run.
-front : ℕ → Forest → Forest
-front zero f = end
-front (suc n) end = end
-front (suc n) (step l f) = step l (front n f)
-front (suc n) (group l b f) = group l b (front n f)
-front (suc n) (repeat h w b f) = end
+leading : ℕ → Forest → Forest
+leading zero f = end
+leading (suc n) end = end
+leading (suc n) (step l f) = step l (leading n f)
+leading (suc n) (group l b f) = group l b (leading n f)
+leading (suc n) (repeat h w b f) = end
 
-front-join : (x y : Forest) → Plain x → front (siblings x) (join x y) ≡ x
-unfolding front join siblings
-front-join end y p = refl
-front-join (step l x) y p = rw one-add (ap (step l) (front-join x y p))
-front-join (group l b x) y p = rw one-add (ap (group l b) (front-join x y (p .1)))
-front-join (repeat h w b x) y p = absurd p
+leading-join : (x y : Forest) → Plain x → leading (siblings x) (join x y) ≡ x
+unfolding leading join siblings
+leading-join end y p = refl
+leading-join (step l x) y p = rw one-add (ap (step l) (leading-join x y p))
+leading-join (group l b x) y p = rw one-add (ap (group l b) (leading-join x y (p .1)))
+leading-join (repeat h w b x) y p = absurd p
 
 -- Two ways to cut a run after the same number of siblings are one.
 pub same-cut : (x x' y y' : Forest) → Plain x → Plain x' → siblings x ≡ siblings x' → join x y ≡ join x' y' → (x ≡ x') × (y ≡ y')
 same-cut x x' y y' p q n e =
-    let same : x ≡ x' = cc (front-join x y p, front-join x' y' q) in
+    let same : x ≡ x' = cc (leading-join x y p, leading-join x' y' q) in
     (same, cancel-left x y y' (cc))
 
 -- Two folds: the same, or their bytes in a relation one way or the other, such as byte order and the first difference.

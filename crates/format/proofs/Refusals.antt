@@ -1,4 +1,4 @@
--- What a refusal means: the first command that cannot be passed, refused by the first row of the table that applies to it,
+-- What a refusal means: the first command that cannot be passed, refused by the first check of the table that applies to it,
 -- or something left open at the end. What acceptance means: every command is passed and nothing is left open.
 use mathlib.Core.Path.{_≡_, refl, sym, _∙_}
 use mathlib.Core.Bool.{true, false}
@@ -9,75 +9,49 @@ use native.Mathlib.Decide.{decLe}
 use native.Mathlib.Omega.{arith}
 use lib.ListN.{length, getD, drop, length-drop}
 use lib.Seq.{drop-cons, drop-drop, drop-length}
-use Rattle.format.specs.Machine.{Rules, State, Open, Row, _when_, first-of, rows, refusal, scan, read, start, advance, operands, place-of, at-end, Outcome, refused, accepted}
+use Rattle.format.specs.Machine.{Rules, State, Open, Check, _when_, first-of, checks, refusal, scan, read, start, advance, operands, place-of, at-end, Outcome, refused, accepted}
 use Rattle.format.specs.declared.Tally.{Tally}
-use Rattle.format.proofs.Machine.{None, scan-end, scan-past, scan-refuse, operands-there}
+use Rattle.format.specs.Reasons.{None, First, Reached, at-start, passed, Because, at-command, left-open, Finished}
+use Rattle.format.proofs.Machine.{scan-end, scan-past, scan-refuse, operands-there}
 
--- The first row that applies is this one.
-pub record First (rs : List Row) (n : ℕ) : Type 0 where
-  pub above : List Row
-  pub below : List Row
-  pub split : rs ≡ above ++ n when true ∷ below
-  pub none-above : None above
-
--- The commands before offset p are all passed, and st is the state at p.
-pub data Reached (R : Rules) (s : List ℕ) : ℕ → State → Type 0 where
-  at-start : Reached R s 0 start
-  passed : {p : ℕ} {st : State} → Reached R s p st → p < length s → refusal R st (getD s p 0) (drop (suc p) s) ≡ 0
-      → Reached R s (suc p + operands (getD s p 0)) (advance (R .prices) (getD s p 0) (drop (suc p) s) st)
-
--- Why bytes are refused with number n at place e.
-pub data Because (R : Rules) (s : List ℕ) (n e : ℕ) : Type 0 where
-  at-command : (p : ℕ) (st : State) → Reached R s p st → p < length s → refusal R st (getD s p 0) (drop (suc p) s) ≡ n
-      → n ≢ 0 → e ≡ place-of n p (length s) → Because R s n e
-  left-open : (st : State) → Reached R s (length s) st → 0 < length (st .opens) → n ≡ 3 → e ≡ length s → Because R s n e
-
--- All commands are passed, and nothing is open at the end: the counts are t and the unrolled bytes x.
-pub record Finished (R : Rules) (s : List ℕ) (t : Tally) (x : List ℕ) : Type 0 where
-  pub state : State
-  pub reached : Reached R s (length s) state
-  pub closed : state .opens ≡ []
-  pub counts : state .tally ≡ t
-  pub unrolled : state .text ≡ x
-
-first-found : (rs : List Row) (n : ℕ) → n ≢ 0 → first-of rs ≡ n → First rs n
+first-found : (rs : List Check) (n : ℕ) → n ≢ 0 → first-of rs ≡ n → First rs n
 first-found [] n some e = absurd (some (sym e))
 first-found (m when true ∷ rs) n some e = record { above = []; below = rs; split = rw e; none-above = tt }
 first-found (m when false ∷ rs) n some e =
     let f = first-found rs n some e in
     record { above = m when false ∷ f .above; below = f .below; split = cc (f .split); none-above = (refl, f .none-above) }
 
-found-first : (rs : List Row) (n : ℕ) → First rs n → first-of rs ≡ n
+found-first : (rs : List Check) (n : ℕ) → First rs n → first-of rs ≡ n
 found-first rs n f = rw (f .split) (go (f .above) (f .none-above))
   where
-    go : (above : List Row) → None above → first-of (above ++ n when true ∷ f .below) ≡ n
+    go : (above : List Check) → None above → first-of (above ++ n when true ∷ f .below) ≡ n
     go [] z = refl
     go (m when b ∷ above) z = rw (z .0) (go above (z .1))
 
--- Of rows, the first that applies answers.
-pub first-exactly : (rs : List Row) (n : ℕ) → n ≢ 0 → (first-of rs ≡ n) ↔ First rs n
+-- Of checks, the first that applies answers.
+pub first-exactly : (rs : List Check) (n : ℕ) → n ≢ 0 → (first-of rs ≡ n) ↔ First rs n
 first-exactly rs n some = (first-found rs n some, found-first rs n)
 
--- A command is refused by the first row of the table that applies to it.
+-- A command is refused by the first check of the table that applies to it.
 pub refusal-exactly : (R : Rules) (st : State) (c : ℕ) (rest : List ℕ) (n : ℕ) → n ≢ 0
-    → (refusal R st c rest ≡ n) ↔ First (rows R st c rest) n
+    → (refusal R st c rest ≡ n) ↔ First (checks R st c rest) n
 unfolding refusal
-refusal-exactly R st c rest n some = first-exactly (rows R st c rest) n some
+refusal-exactly R st c rest n some = first-exactly (checks R st c rest) n some
 
--- What holds of 0 and of every row's number holds of the first that applies.
-abbrev pub Each : (ℕ → Type 0) → List Row → Type 0
+-- What holds of 0 and of every check's number holds of the first that applies.
+abbrev pub Each : (ℕ → Type 0) → List Check → Type 0
 Each Q [] = Unit
 Each Q (n when b ∷ rs) = Q n × Each Q rs
 
-pub first-each : (Q : ℕ → Type 0) (rs : List Row) → Q 0 → Each Q rs → Q (first-of rs)
+pub first-each : (Q : ℕ → Type 0) (rs : List Check) → Q 0 → Each Q rs → Q (first-of rs)
 first-each Q [] z q = z
 first-each Q (n when true ∷ rs) z q = q .0
 first-each Q (n when false ∷ rs) z q = first-each Q rs z (q .1)
 
 -- The numbers of the table are 1 to 10.
 refusal-small : (R : Rules) (st : State) (c : ℕ) (rest : List ℕ) → refusal R st c rest ≤ 10
-unfolding refusal rows
-refusal-small R st c rest = first-each (λ n. n ≤ 10) (rows R st c rest) (omega arith) (omega arith)
+unfolding refusal checks
+refusal-small R st c rest = first-each (λ n. n ≤ 10) (checks R st c rest) (omega arith) (omega arith)
 
 open-end : (p : ℕ) (os : List Open) (st : State) → 0 < length os → at-end p os st ≡ refused 3 p
 open-end p [] st some = absurd (omega arith)

@@ -4,7 +4,7 @@
 use mathlib.Core.Path.{_≡_, refl, sym, ap, ap₂, _∙_}
 use mathlib.Core.Logic.{_↔_, _≢_}
 use mathlib.Core.List.{List}
-use Prim.Native.Nat.{ℕ, zero, suc, _≤_, _<_}
+use Prim.Native.Nat.{ℕ, zero, suc, _<_}
 use native.Mathlib.Nat.{mul-le-mul-right}
 use native.Mathlib.Omega.{arith}
 use lib.ListN.{length}
@@ -13,10 +13,10 @@ use Rattle.format.specs.Forest.{Forest, end, step, group, repeat, join, 
 use Rattle.format.specs.Machine.{Outcome, refused, accepted, read}
 use Rattle.format.specs.Order.{Bytes}
 use Rattle.format.specs.Tree.{tree-of}
-use Rattle.format.specs.Readings.{fold-rules, fold-answer, fold-outcome, fold-reading}
+use Rattle.format.specs.Readings.{fold-rules, as-fold-reading, fold-outcome, fold-reading}
 use Rattle.format.specs.Head.{Head, full-head}
 use Rattle.format.specs.Shape.{Reads, tally-of}
-use Rattle.format.specs.Report.{RRT, empty, letter, repetition, count, Valid, append, row, Represents, Width, WidthAtMost, size}
+use Rattle.format.specs.Report.{RRT, empty, letter, repetition, count, Valid, append, series, Represents, Width, WidthAtMost, size}
 use Rattle.format.specs.Meaning.{report, report-of, TrueWidths, Means, report-size, MeansAtCost}
 use Rattle.format.specs.declared.Tally.{Tally}
 use Rattle.format.specs.declared.FoldReading.{FoldReading}
@@ -35,8 +35,8 @@ report-join (step l f) g = rw (report-join f g)
 report-join (group l b f) g = rw (report-join f g)
 report-join (repeat h w b f) g = rw (report-join f g)
 
-report-copies : (h : ℕ) (f : Forest) → report (copies h f) ≡ row h (report f)
-unfolding report copies row
+report-copies : (h : ℕ) (f : Forest) → report (copies h f) ≡ series h (report f)
+unfolding report copies series
 report-copies zero f = refl
 report-copies (suc h) f = rw (report-join, report-copies h f)
 
@@ -240,10 +240,10 @@ module _ (s : List ℕ) (k : ℕ) (table : List ℕ) (first each : ℕ) (small :
     where
       by-outcome : (o : Outcome) → fold-outcome (full-head table k) P s ≡ o → MeansAtCost k table first each s (r .length) (r .cost)
       by-outcome (refused n p) e =
-          let q = answered ∙ ap fold-answer e in
+          let q = answered ∙ ap as-fold-reading e in
           absurd (outcome-some (full-head table k) P s n p e (sym (ap (λ (y : FoldReading). y .refusal) q) ∙ success))
       by-outcome (accepted t x) e =
-          let q = answered ∙ ap fold-answer e in
+          let q = answered ∙ ap as-fold-reading e in
           let a = outcome-read (full-head table k) P s t x e in
           record {
             text = x;

@@ -8,7 +8,7 @@ use Rattle.format.specs.Limits.{Prices}
 use Rattle.format.specs.Order.{Bytes}
 use Rattle.format.specs.Forest.{Forest, at-most, Sound, unroll, bytes}
 use Rattle.format.specs.Machine.{Outcome, refused, accepted, read}
-use Rattle.format.specs.Readings.{run-rules, fold-rules, run-answer, run-reading}
+use Rattle.format.specs.Readings.{run-rules, fold-rules, as-run-reading, run-reading}
 use Rattle.format.specs.Shape.{Shaped}
 use Rattle.format.specs.Tree.{tree-of}
 use Rattle.format.proofs.Forests.{nodes-unroll, plain-unroll, sound-unroll, coded-unroll, group-depth-unroll, repeat-depth-plain, widest-plain}
@@ -40,7 +40,7 @@ run-tree s small z = by-outcome (read run-rules s) refl
   where
     by-outcome : (o : Outcome) → read run-rules s ≡ o → (bytes (tree-of s) ≡ s) × Sound (at-most 0) (tree-of s)
     by-outcome (refused n p) e =
-        absurd (refused-some run-rules s n p e (sym (ap (λ (o : Outcome). run-answer o .refusal) e) ∙ z))
+        absurd (refused-some run-rules s n p e (sym (ap (λ (o : Outcome). as-run-reading o .refusal) e) ∙ z))
     by-outcome (accepted t x) e =
         let r = parses run-rules s small t x e in
         let same : tree-of s ≡ r .tree = ap tree-of (sym (r .form)) ∙ tree-of-bytes (r .tree) in

@@ -5,11 +5,11 @@ use Prim.Native.Nat.{ℕ}
 use lib.Dec.{ltb, eqb}
 use lib.ListN.{length}
 use Rattle.format.specs.Limits.{Limits, limits}
-use Rattle.format.specs.Machine.{Row, _when_, first-of, Outcome, unless}
+use Rattle.format.specs.Machine.{Check, _when_, first-of, Outcome, unless}
 pub use Rattle.format.specs.declared.Head.{Head}
 
 -- Document 01's refusals 11 and 12, in its order.
-unfoldable pub head-checks : Limits → Head → List Row
+unfoldable pub head-checks : Limits → Head → List Check
 head-checks L h = 11 when not (eqb (h .labels) (L .labels)) ∷ 12 when ltb (L .width) (h .limit) ∷ []
 
 -- The first head check that applies, at place 0, else what follows.

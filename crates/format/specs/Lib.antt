@@ -3,6 +3,7 @@ pub mod Limits
 pub mod Order
 pub mod Forest
 pub mod Machine
+pub mod Reasons
 pub mod Head
 pub mod Readings
 pub mod Difference

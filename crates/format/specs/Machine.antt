@@ -1,4 +1,4 @@
--- The command machine: one pass over the bytes that passes each command or refuses it by the first row of document 01's
+-- The command machine: one pass over the bytes that passes each command or refuses it by the first check of document 01's
 -- table that applies, and counts.
 use mathlib.Core.Bool.{Bool, true, false, not, cond, _&&_, _||_}
 use mathlib.Core.List.{List, [], _∷_, _++_}
@@ -23,17 +23,17 @@ abbrev pub operands : ℕ → ℕ
 operands c = cond (is-node c) 1 (cond (eqb c 0x20) 4 0)
 
 -- The operands, of the bytes behind the command: a label; a count and a width, the high byte first.
-abbrev pub label : List ℕ → ℕ
-label s = getD s 0 0
+abbrev pub label-operand : List ℕ → ℕ
+label-operand s = getD s 0 0
 
 abbrev pub word : List ℕ → ℕ → ℕ
 word s i = getD s i 0 * 256 + getD s (suc i) 0
 
-abbrev pub count : List ℕ → ℕ
-count s = word s 0
+abbrev pub count-operand : List ℕ → ℕ
+count-operand s = word s 0
 
-abbrev pub width : List ℕ → ℕ
-width s = word s 2
+abbrev pub width-operand : List ℕ → ℕ
+width-operand s = word s 2
 
 -- What is open, with the counts outside it: a group, or a repeat with its operands.
 pub data Open : Type 0 where
@@ -160,42 +160,42 @@ leave-repeat (a-repeat h w o ∷ os) st =
 unfoldable pub advance : Prices → (command : ℕ) → (rest : List ℕ) → State → State
 unfolding put-step enter-group leave-group enter-repeat leave-repeat
 advance P c rest st =
-    cond (eqb c 0x10) (put-step P (label rest) st)
-    (cond (eqb c 0x11) (enter-group P (label rest) st)
+    cond (eqb c 0x10) (put-step P (label-operand rest) st)
+    (cond (eqb c 0x11) (enter-group P (label-operand rest) st)
     (cond (eqb c 0x12) (leave-group (st .opens) st)
-    (cond (eqb c 0x20) (enter-repeat P (count rest) (width rest) st)
+    (cond (eqb c 0x20) (enter-repeat P (count-operand rest) (width-operand rest) st)
     (leave-repeat (st .opens) st))))
 
--- A row of the table: the number, and whether its condition holds.
-pub data Row : Type 0 where
-  _when_ : ℕ → Bool → Row
+-- A check of the table: the number, and whether its condition holds.
+pub data Check : Type 0 where
+  _when_ : ℕ → Bool → Check
 
 infix 68 _when_
 -- Document 01's refusals 1 to 10 at one command, in its order. `rest` is what follows the command's byte.
-unfoldable pub rows : Rules → State → (command : ℕ) → (rest : List ℕ) → List Row
-rows R st c rest =
+unfoldable pub checks : Rules → State → (command : ℕ) → (rest : List ℕ) → List Check
+checks R st c rest =
     1 when not (is-known c)
     ∷ 2 when ((eqb c 0x20 || eqb c 0x21) && not (R .folds))
     ∷ 3 when ltb (length rest) (operands c)
     ∷ 4 when ((eqb c 0x12 && not (in-group (st .opens))) || (eqb c 0x21 && not (in-repeat (st .opens))))
     ∷ 5 when (is-close c && eqb (st .tally .siblings) 0)
-    ∷ 6 when (eqb c 0x20 && ltb (count rest) 2)
-    ∷ 7 when (eqb c 0x20 && ltb (R .widest) (width rest))
+    ∷ 6 when (eqb c 0x20 && ltb (count-operand rest) 2)
+    ∷ 7 when (eqb c 0x20 && ltb (R .widest) (width-operand rest))
     ∷ 8 when ((eqb c 0x11 && leb (R .limits .groups) (open-groups (st .opens)))
     || (eqb c 0x20 && leb (R .limits .repeats) (open-repeats (st .opens))))
     ∷ 9 when (eqb c 0x21 && not (eqb (st .tally .siblings) (claimed (st .opens))))
     ∷ 10 when ltb (R .limits .nodes) (node-total c (st .opens) (st .tally .nodes))
     ∷ []
 
--- The number of the first row that applies, or 0.
-abbrev pub first-of : List Row → ℕ
+-- The number of the first check that applies, or 0.
+abbrev pub first-of : List Check → ℕ
 first-of [] = 0
 first-of (n when b ∷ rs) = cond b n (first-of rs)
 
 -- The refusal at a command, 0 where it is passed.
 unfoldable pub refusal : Rules → State → (command : ℕ) → (rest : List ℕ) → ℕ
-unfolding rows
-refusal R st c rest = first-of (rows R st c rest)
+unfolding checks
+refusal R st c rest = first-of (checks R st c rest)
 
 -- The outcome of a reading: a refusal with its number and place, or the counts and the unrolled bytes.
 pub data Outcome : Type 0 where

@@ -34,18 +34,18 @@ pub record WellFormed (R : Rules) (s : List ℕ) : Type 0 where
   pub reading : read R s ≡ accepted tally text
 
 -- The run reader.
-abbrev pub run-answer : Outcome → RunReading
-run-answer (refused n p) = record { refusal = n; place = p; nodes = 0 }
-run-answer (accepted t x) = record { refusal = 0; place = 0; nodes = t .nodes }
+abbrev pub as-run-reading : Outcome → RunReading
+as-run-reading (refused n p) = record { refusal = n; place = p; nodes = 0 }
+as-run-reading (accepted t x) = record { refusal = 0; place = 0; nodes = t .nodes }
 
 unfoldable pub run-reading : List ℕ → RunReading
 unfolding read
-run-reading s = run-answer (read run-rules s)
+run-reading s = as-run-reading (read run-rules s)
 
 -- What is answered about a fold.
-abbrev pub fold-answer : Outcome → FoldReading
-fold-answer (refused n p) = record { refusal = n; place = p; nodes = 0; length = 0; cost = 0 }
-fold-answer (accepted t x) = record { refusal = 0; place = 0; nodes = t .nodes; length = t .size; cost = t .cost }
+abbrev pub as-fold-reading : Outcome → FoldReading
+as-fold-reading (refused n p) = record { refusal = n; place = p; nodes = 0; length = 0; cost = 0 }
+as-fold-reading (accepted t x) = record { refusal = 0; place = 0; nodes = t .nodes; length = t .size; cost = t .cost }
 
 -- A fold at an entry point with this head: the checks of the head, then the commands at its limit.
 unfoldable pub fold-outcome : Head → Prices → List ℕ → Outcome
@@ -59,4 +59,4 @@ measured s k = fold-outcome (limit-head k) free s
 -- The fold reader.
 unfoldable pub fold-reading : List ℕ → (limit : ℕ) → (table : List ℕ) → (first each : ℕ) → FoldReading
 unfolding fold-outcome
-fold-reading s k table first each = fold-answer (fold-outcome (full-head table k) (priced table first each) s)
+fold-reading s k table first each = as-fold-reading (fold-outcome (full-head table k) (priced table first each) s)

@@ -28,21 +28,21 @@ Ordinary empty = Unit
 Ordinary (letter a c r) = Ordinary c × Ordinary r
 Ordinary (repetition h c r) = ⊥
 
--- One row of siblings after another; h copies of one, side by side.
+-- One series of siblings after another; h copies of one, side by side.
 unfoldable pub append : {Σ : Type 0} → RRT Σ → RRT Σ → RRT Σ
 append empty s = s
 append (letter a c r) s = letter a c (append r s)
 append (repetition h c r) s = repetition h c (append r s)
 
-unfoldable pub row : {Σ : Type 0} → ℕ → RRT Σ → RRT Σ
+unfoldable pub series : {Σ : Type 0} → ℕ → RRT Σ → RRT Σ
 unfolding append
-row zero c = empty
-row (suc h) c = append c (row h c)
+series zero c = empty
+series (suc h) c = append c (series h c)
 
 -- Sections 2.1 and 3.1: expansion of one repetition information node, wherever it stands. In its place its parent gets its
 -- children h times.
 pub data Expands {Σ : Type 0} : RRT Σ → RRT Σ → Type 0 where
-  this : {h : ℕ} {c r : RRT Σ} → Expands (repetition h c r) (append (row h c) r)
+  this : {h : ℕ} {c r : RRT Σ} → Expands (repetition h c r) (append (series h c) r)
   under-letter : {a : Σ} {c d r : RRT Σ} → Expands c d → Expands (letter a c r) (letter a d r)
   under-repetition : {h : ℕ} {c d r : RRT Σ} → Expands c d → Expands (repetition h c r) (repetition h d r)
   after-letter : {a : Σ} {c r s : RRT Σ} → Expands r s → Expands (letter a c r) (letter a c s)

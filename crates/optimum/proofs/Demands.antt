@@ -1,7 +1,7 @@
 -- The cheapest fold of an accepted run's tree, as bytes, against any bytes: demands 2 and 3.
 use mathlib.Core.Path.{_≡_, refl, sym, ap, subst, _∙_}
 use mathlib.Core.List.{List}
-use Prim.Native.Nat.{ℕ, zero, suc, _*_, _≤_, _<_, max}
+use Prim.Native.Nat.{ℕ, zero, suc, _*_, _≤_, _<_}
 use native.Mathlib.Nat.{mul-le-mul-left}
 use mathlib.Core.Bool.{false≢true}
 use native.Mathlib.Omega.{arith}

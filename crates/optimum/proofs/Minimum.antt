@@ -1,12 +1,12 @@
 -- The report's own problem: the cheapest fold of a run is, by the report's size, a smallest tree of its width that represents
 -- the run.
-use mathlib.Core.Path.{_≡_, refl, sym, ap, subst, _∙_}
+use mathlib.Core.Path.{_≡_, sym, ap, subst, _∙_}
 use mathlib.Core.List.{List}
 use Prim.Native.Nat.{ℕ, _≤_}
 use native.Mathlib.Omega.{arith}
 use Rattle.format.specs.Limits.{limits, Prices, priced}
 use Rattle.format.specs.Order.{Bytes}
-use Rattle.format.specs.Forest.{Forest, unroll, cost, bytes, at-most, Sound}
+use Rattle.format.specs.Forest.{Forest, cost, bytes, at-most, Sound}
 use Rattle.format.specs.Machine.{accepted, read}
 use Rattle.format.specs.Readings.{run-rules, fold-rules, format-rules}
 use Rattle.format.specs.Shape.{Reads}

@@ -9,7 +9,7 @@ use Rattle.format.specs.Machine.{Outcome, refused, accepted, read, times}
 use Rattle.format.specs.Readings.{run-rules, fold-rules}
 use Rattle.format.specs.Tree.{tree-of}
 use Rattle.optimum.specs.Cheapest.{cheapest, best-cost}
-use Rattle.optimum.specs.Verdict.{Verdict, refuses, folds, of-run}
+use Rattle.optimum.specs.Verdict.{Verdict, refuses, folds, verdict}
 
 -- What is asked at a width limit and prices: the cheapest fold of a run, or what a fold reads as.
 pub data Asked : Type 0 where
@@ -33,7 +33,7 @@ of-reading (accepted t x) = run-is x (t .cost)
 -- The answer of the definitions.
 unfoldable pub answer : Asked → Answer
 unfolding of-verdict of-reading read cheapest best-cost bytes tree-of
-answer (run k P s) = of-verdict (of-run (at-most k) P s (read run-rules s))
+answer (run k P s) = of-verdict (verdict (at-most k) P s (read run-rules s))
 answer (fold k P s) = of-reading (read (fold-rules k P) s)
 
 -- A case: what is asked, and the known answer.

@@ -13,6 +13,6 @@ pub data Verdict : Type 0 where
   folds : (nodes : ℕ) (fold : List ℕ) (cost : ℕ) → Verdict
 
 -- By what the run reads as.
-abbrev pub of-run : Allowed → Prices → List ℕ → Outcome → Verdict
-of-run A P s (refused n p) = refuses n p
-of-run A P s (accepted t x) = folds (t .nodes) (bytes (cheapest A P (tree-of s))) (best-cost A P (tree-of s))
+abbrev pub verdict : Allowed → Prices → List ℕ → Outcome → Verdict
+verdict A P s (refused n p) = refuses n p
+verdict A P s (accepted t x) = folds (t .nodes) (bytes (cheapest A P (tree-of s))) (best-cost A P (tree-of s))

@@ -10,14 +10,14 @@ use lib.Dec.{eqb}
 use lib.ListN.{length, getD, drop, length-drop}
 use lib.Seq.{getD-drop}
 use borrow.Author.Tests.{lt-ltb, le-ltb, eq-eqb, ne-eqb, le-leb, lt-leb}
-use Rattle.format.specs.Machine.{Rules, Open, a-group, a-repeat, refusal, place-of, put-step, enter-group, leave-group, enter-repeat, leave-repeat, with-node, after-group, after-repeat, count, width, times}
+use Rattle.format.specs.Machine.{Rules, Open, a-group, a-repeat, refusal, place-of, put-step, enter-group, leave-group, enter-repeat, leave-repeat, with-node, after-group, after-repeat, count-operand, width-operand, times}
 use Rattle.format.specs.declared.Limits.{Limits}
 use Rattle.format.specs.declared.Tally.{Tally}
 use Rattle.format.proofs.Machine.{refusal-step, refusal-group, refusal-group-end, refusal-repeat, refusal-repeat-end, repeat-passes, group-end-passes, repeat-end-passes, scan-step, scan-group, scan-group-end, scan-repeat, scan-repeat-end}
-use Rattle.reader.specs.Walk.{rules-of, At, Halted, Room, Grown, OpenAt, Item, Entered, Left, in-group-of, in-repeat-of, word-at, repeat-at}
+use Rattle.reader.specs.Walk.{rules-of, At, Halted, Room, Grown, OpenAt, ItemRead, OpenRead, CloseRead, in-group-of, in-repeat-of, word-at, repeat-at}
 use Rattle.reader.specs.declared.command.Terms.{Terms}
 use Rattle.reader.specs.declared.command.Depth.{Depth}
-use Rattle.reader.proofs.Walking.{at, cut-one, cut-two, cut-five, stop, stop-end, item-refused, entered-refused, left-refused}
+use Rattle.reader.proofs.Walking.{at, cut-one, cut-two, cut-five, stop, stop-end, item-refused, open-refused, close-refused}
 
 -- What is left behind a command, in numbers.
 rest-short : (s : List ℕ) (p k : ℕ) → p < length s → length s < p + suc k → length (drop (p + 1) s) < k
@@ -31,17 +31,17 @@ module _ (a : Terms) (table s : List ℕ) (d : Depth) (p : ℕ) (t : Tally) wher
   R = rules-of a table
 
   -- `10`
-  pub step-short : At s p 0x10 → length s < p + 2 → (u : Tally) → Item R s d p t (record { refusal = 3; at = length s; tally = u })
+  pub step-short : At s p 0x10 → length s < p + 2 → (u : Tally) → ItemRead R s d p t (record { refusal = 3; at = length s; tally = u })
   step-short h e u =
       item-refused R s d p t _ (λ z. omega arith)
       (λ os o x. stop R s p os t x 3 (h .below) (omega arith) (rw (h .byte, refusal-step R (at os t x) (drop (p + 1) s), lt-ltb _ _ (rest-short s p 1 (h .below) e))))
 
-  pub step-full : At s p 0x10 → p + 2 ≤ length s → a .limits .nodes ≤ t .nodes → (u : Tally) → Item R s d p t (record { refusal = 10; at = p; tally = u })
+  pub step-full : At s p 0x10 → p + 2 ≤ length s → a .limits .nodes ≤ t .nodes → (u : Tally) → ItemRead R s d p t (record { refusal = 10; at = p; tally = u })
   step-full h e f u =
       item-refused R s d p t _ (λ z. omega arith)
       (λ os o x. stop R s p os t x 10 (h .below) (omega arith) (rw (h .byte, refusal-step R (at os t x) (drop (p + 1) s), le-ltb _ _ (rest-long s p 1 e), lt-ltb (a .limits .nodes) (t .nodes + 1) (omega arith))))
 
-  pub step-on : At s p 0x10 → p + 2 ≤ length s → t .nodes < a .limits .nodes → (k : ℕ) → k ≡ getD table (getD s (p + 1) 0) 0 → k < 65536 → Item R s d p t (record { refusal = 0; at = p + 2; tally = with-node t 2 k })
+  pub step-on : At s p 0x10 → p + 2 ≤ length s → t .nodes < a .limits .nodes → (k : ℕ) → k ≡ getD table (getD s (p + 1) 0) 0 → k < 65536 → ItemRead R s d p t (record { refusal = 0; at = p + 2; tally = with-node t 2 k })
   unfolding put-step
   step-on h e f k q g =
       record {
@@ -55,22 +55,22 @@ module _ (a : Terms) (table s : List ℕ) (d : Depth) (p : ℕ) (t : Tally) wher
       }
 
   -- `11`
-  pub group-short : At s p 0x11 → length s < p + 2 → (o : Open) (u : Tally) → Entered R s d (in-group-of d) p t o 2 1 65535 (record { refusal = 3; at = length s; tally = u })
+  pub group-short : At s p 0x11 → length s < p + 2 → (o : Open) (u : Tally) → OpenRead R s d (in-group-of d) p t o 2 1 65535 (record { refusal = 3; at = length s; tally = u })
   group-short h e o u =
-      entered-refused R s d p t _ (λ z. omega arith) (in-group-of d) o 2 1 65535
+      open-refused R s d p t _ (λ z. omega arith) (in-group-of d) o 2 1 65535
       (λ os m x. stop R s p os t x 3 (h .below) (omega arith) (rw (h .byte, refusal-group R (at os t x) (drop (p + 1) s), lt-ltb _ _ (rest-short s p 1 (h .below) e))))
 
-  pub group-deep : At s p 0x11 → p + 2 ≤ length s → a .limits .groups ≤ d .groups → (o : Open) (u : Tally) → Entered R s d (in-group-of d) p t o 2 1 65535 (record { refusal = 8; at = p; tally = u })
+  pub group-deep : At s p 0x11 → p + 2 ≤ length s → a .limits .groups ≤ d .groups → (o : Open) (u : Tally) → OpenRead R s d (in-group-of d) p t o 2 1 65535 (record { refusal = 8; at = p; tally = u })
   group-deep h e f o u =
-      entered-refused R s d p t _ (λ z. omega arith) (in-group-of d) o 2 1 65535
+      open-refused R s d p t _ (λ z. omega arith) (in-group-of d) o 2 1 65535
       (λ os m x. stop R s p os t x 8 (h .below) (omega arith) (rw (h .byte, refusal-group R (at os t x) (drop (p + 1) s), le-ltb _ _ (rest-long s p 1 e), m .groups, le-leb (a .limits .groups) (d .groups) f)))
 
-  pub group-full : At s p 0x11 → p + 2 ≤ length s → d .groups < a .limits .groups → a .limits .nodes ≤ t .nodes → (o : Open) (u : Tally) → Entered R s d (in-group-of d) p t o 2 1 65535 (record { refusal = 10; at = p; tally = u })
+  pub group-full : At s p 0x11 → p + 2 ≤ length s → d .groups < a .limits .groups → a .limits .nodes ≤ t .nodes → (o : Open) (u : Tally) → OpenRead R s d (in-group-of d) p t o 2 1 65535 (record { refusal = 10; at = p; tally = u })
   group-full h e f g o u =
-      entered-refused R s d p t _ (λ z. omega arith) (in-group-of d) o 2 1 65535
+      open-refused R s d p t _ (λ z. omega arith) (in-group-of d) o 2 1 65535
       (λ os m x. stop R s p os t x 10 (h .below) (omega arith) (rw (h .byte, refusal-group R (at os t x) (drop (p + 1) s), le-ltb _ _ (rest-long s p 1 e), m .groups, lt-leb (a .limits .groups) (d .groups) f, lt-ltb (a .limits .nodes) (t .nodes + 1) (omega arith))))
 
-  pub group-on : Room (a .limits) d t → At s p 0x11 → p + 2 ≤ length s → d .groups < a .limits .groups → t .nodes < a .limits .nodes → (k : ℕ) → k ≡ getD table (getD s (p + 1) 0) 0 → k < 65536 → Entered R s d (in-group-of d) p t (a-group t) 2 1 65535 (record { refusal = 0; at = p + 2; tally = record { siblings = 0; nodes = t .nodes + 1; size = t .size + 2; cost = t .cost + k } })
+  pub group-on : Room (a .limits) d t → At s p 0x11 → p + 2 ≤ length s → d .groups < a .limits .groups → t .nodes < a .limits .nodes → (k : ℕ) → k ≡ getD table (getD s (p + 1) 0) 0 → k < 65536 → OpenRead R s d (in-group-of d) p t (a-group t) 2 1 65535 (record { refusal = 0; at = p + 2; tally = record { siblings = 0; nodes = t .nodes + 1; size = t .size + 2; cost = t .cost + k } })
   unfolding enter-group
   group-on room h e f g k q j =
       record {
@@ -90,49 +90,49 @@ module _ (a : Terms) (table s : List ℕ) (d : Depth) (p : ℕ) (t : Tally) wher
       }
 
 -- The count and the width behind a `20`.
-count-at : (s : List ℕ) (p : ℕ) → count (drop (p + 1) s) ≡ word-at s (p + 1)
+count-at : (s : List ℕ) (p : ℕ) → count-operand (drop (p + 1) s) ≡ word-at s (p + 1)
 count-at s p =
     let e : p + 1 + 0 ≡ p + 1 = omega arith in
     simp (getD-drop, e)
 
-width-at : (s : List ℕ) (p : ℕ) → width (drop (p + 1) s) ≡ word-at s (p + 3)
+width-at : (s : List ℕ) (p : ℕ) → width-operand (drop (p + 1) s) ≡ word-at s (p + 3)
 width-at s p =
     let e : p + 1 + 2 ≡ p + 3 = omega arith in
     let f : p + 1 + 3 ≡ p + 3 + 1 = omega arith in
     simp (getD-drop, e, f)
 
 module _ (a : Terms) (table s : List ℕ) (d : Depth) (p : ℕ) (t : Tally) (h : At s p 0x20) (room : Room (a .limits) d t) where
-  refused-repeat : (n : ℕ) → n ≢ 0 → ((os : List Open) → OpenAt d os → (x : List ℕ) → refusal (rules-of a table) (at os t x) 0x20 (drop (p + 1) s) ≡ n) → (o : Open) (u : Tally) → Entered (rules-of a table) s d (in-repeat-of d) p t o 0 0 4294967295 (record { refusal = n; at = place-of n p (length s); tally = u })
+  refused-repeat : (n : ℕ) → n ≢ 0 → ((os : List Open) → OpenAt d os → (x : List ℕ) → refusal (rules-of a table) (at os t x) 0x20 (drop (p + 1) s) ≡ n) → (o : Open) (u : Tally) → OpenRead (rules-of a table) s d (in-repeat-of d) p t o 0 0 4294967295 (record { refusal = n; at = place-of n p (length s); tally = u })
   refused-repeat n z e o u =
-      entered-refused (rules-of a table) s d p t _ z (in-repeat-of d) o 0 0 4294967295
+      open-refused (rules-of a table) s d p t _ z (in-repeat-of d) o 0 0 4294967295
       (λ os m x. stop (rules-of a table) s p os t x n (h .below) z (rw (h .byte) (e os m x)))
 
   -- `20`
-  pub repeat-in-run : a .folds ≡ false → (o : Open) (u : Tally) → Entered (rules-of a table) s d (in-repeat-of d) p t o 0 0 4294967295 (record { refusal = 2; at = p; tally = u })
+  pub repeat-in-run : a .folds ≡ false → (o : Open) (u : Tally) → OpenRead (rules-of a table) s d (in-repeat-of d) p t o 0 0 4294967295 (record { refusal = 2; at = p; tally = u })
   repeat-in-run f =
       refused-repeat 2 (omega arith) (λ os m x. rw (refusal-repeat (rules-of a table) (at os t x) (drop (p + 1) s) (room .nodes), f))
 
   module _ (folds : a .folds ≡ true) where
-    pub repeat-short : length s < p + 5 → (o : Open) (u : Tally) → Entered (rules-of a table) s d (in-repeat-of d) p t o 0 0 4294967295 (record { refusal = 3; at = length s; tally = u })
+    pub repeat-short : length s < p + 5 → (o : Open) (u : Tally) → OpenRead (rules-of a table) s d (in-repeat-of d) p t o 0 0 4294967295 (record { refusal = 3; at = length s; tally = u })
     repeat-short e =
         refused-repeat 3 (omega arith) (λ os m x. rw (refusal-repeat (rules-of a table) (at os t x) (drop (p + 1) s) (room .nodes), folds, lt-ltb _ _ (rest-short s p 4 (h .below) e)))
 
     module _ (long : p + 5 ≤ length s) where
-      pub repeat-few : word-at s (p + 1) < 2 → (o : Open) (u : Tally) → Entered (rules-of a table) s d (in-repeat-of d) p t o 0 0 4294967295 (record { refusal = 6; at = p; tally = u })
+      pub repeat-few : word-at s (p + 1) < 2 → (o : Open) (u : Tally) → OpenRead (rules-of a table) s d (in-repeat-of d) p t o 0 0 4294967295 (record { refusal = 6; at = p; tally = u })
       repeat-few e =
           refused-repeat 6 (omega arith) (λ os m x. rw (refusal-repeat (rules-of a table) (at os t x) (drop (p + 1) s) (room .nodes), folds, le-ltb _ _ (rest-long s p 4 long), count-at s p, lt-ltb _ _ e))
 
       module _ (twice : 2 ≤ word-at s (p + 1)) where
-        pub repeat-wide : a .widest < word-at s (p + 3) → (o : Open) (u : Tally) → Entered (rules-of a table) s d (in-repeat-of d) p t o 0 0 4294967295 (record { refusal = 7; at = p; tally = u })
+        pub repeat-wide : a .widest < word-at s (p + 3) → (o : Open) (u : Tally) → OpenRead (rules-of a table) s d (in-repeat-of d) p t o 0 0 4294967295 (record { refusal = 7; at = p; tally = u })
         repeat-wide e =
             refused-repeat 7 (omega arith) (λ os m x. rw (refusal-repeat (rules-of a table) (at os t x) (drop (p + 1) s) (room .nodes), folds, le-ltb _ _ (rest-long s p 4 long), count-at s p, width-at s p, le-ltb _ _ twice, lt-ltb _ _ e))
 
         module _ (narrow : word-at s (p + 3) ≤ a .widest) where
-          pub repeat-deep : a .limits .repeats ≤ d .repeats → (o : Open) (u : Tally) → Entered (rules-of a table) s d (in-repeat-of d) p t o 0 0 4294967295 (record { refusal = 8; at = p; tally = u })
+          pub repeat-deep : a .limits .repeats ≤ d .repeats → (o : Open) (u : Tally) → OpenRead (rules-of a table) s d (in-repeat-of d) p t o 0 0 4294967295 (record { refusal = 8; at = p; tally = u })
           repeat-deep e =
               refused-repeat 8 (omega arith) (λ os m x. rw (refusal-repeat (rules-of a table) (at os t x) (drop (p + 1) s) (room .nodes), folds, le-ltb _ _ (rest-long s p 4 long), count-at s p, width-at s p, le-ltb _ _ twice, le-ltb _ _ narrow, m .repeats, le-leb (a .limits .repeats) (d .repeats) e))
 
-          pub repeat-on : d .repeats < a .limits .repeats → (k : ℕ) → k ≡ a .first + a .each * (word-at s (p + 1) - 2) → k ≤ 4294967295 → Entered (rules-of a table) s d (in-repeat-of d) p t (repeat-at s p t) 0 0 4294967295 (record { refusal = 0; at = p + 5; tally = record { siblings = 0; nodes = t .nodes; size = t .size; cost = t .cost + k } })
+          pub repeat-on : d .repeats < a .limits .repeats → (k : ℕ) → k ≡ a .first + a .each * (word-at s (p + 1) - 2) → k ≤ 4294967295 → OpenRead (rules-of a table) s d (in-repeat-of d) p t (repeat-at s p t) 0 0 4294967295 (record { refusal = 0; at = p + 5; tally = record { siblings = 0; nodes = t .nodes; size = t .size; cost = t .cost + k } })
           unfolding enter-repeat
           repeat-on e k q j =
               record {
@@ -159,33 +159,33 @@ module _ (a : Terms) (table s : List ℕ) (d : Depth) (p : ℕ) (t : Tally) (h :
 
 -- `12` and `21`, where a sequence has come to its end inside an open group or repeat.
 module _ (a : Terms) (table s : List ℕ) (d : Depth) (p : ℕ) (t i : Tally) (h : Halted s p) (within : i .nodes ≤ a .limits .nodes) where
-  pub left-open : p ≡ length s → (o : Open) (u : Tally) → Left (rules-of a table) s d p t i o (record { refusal = 3; at = p; tally = u })
+  pub left-open : p ≡ length s → (o : Open) (u : Tally) → CloseRead (rules-of a table) s d p t i o (record { refusal = 3; at = p; tally = u })
   left-open e o u =
-      left-refused (rules-of a table) s d p t _ (λ z. omega arith) i o (λ os m x. stop-end (rules-of a table) s p o os i x e)
+      close-refused (rules-of a table) s d p t _ (λ z. omega arith) i o (λ os m x. stop-end (rules-of a table) s p o os i x e)
 
   module _ (more : p ≡ length s → ⊥) where
-    refused-close : (c n : ℕ) → getD s p 0 ≡ c → eqb n 3 ≡ false → n ≢ 0 → (o : Open) → ((os : List Open) → (x : List ℕ) → refusal (rules-of a table) (at (o ∷ os) i x) c (drop (p + 1) s) ≡ n) → (u : Tally) → Left (rules-of a table) s d p t i o (record { refusal = n; at = p; tally = u })
+    refused-close : (c n : ℕ) → getD s p 0 ≡ c → eqb n 3 ≡ false → n ≢ 0 → (o : Open) → ((os : List Open) → (x : List ℕ) → refusal (rules-of a table) (at (o ∷ os) i x) c (drop (p + 1) s) ≡ n) → (u : Tally) → CloseRead (rules-of a table) s d p t i o (record { refusal = n; at = p; tally = u })
     refused-close c n b z y o e u =
-        left-refused (rules-of a table) s d p t _ y i o
+        close-refused (rules-of a table) s d p t _ y i o
         (λ os m x. stop (rules-of a table) s p (o ∷ os) i x n (omega (arith, h .within)) y (rw b (e os x)) ∙ rw z)
 
     -- the close of a group
-    pub group-empty : getD s p 0 ≡ 0x12 → i .siblings ≡ 0 → (u : Tally) → Left (rules-of a table) s d p t i (a-group t) (record { refusal = 5; at = p; tally = u })
+    pub group-empty : getD s p 0 ≡ 0x12 → i .siblings ≡ 0 → (u : Tally) → CloseRead (rules-of a table) s d p t i (a-group t) (record { refusal = 5; at = p; tally = u })
     group-empty b e =
         refused-close 0x12 5 b refl (omega arith) (a-group t)
         (λ os x. rw (refusal-group-end (rules-of a table) (at (a-group t ∷ os) i x) (drop (p + 1) s) within, e))
 
-    pub group-crossed-run : getD s p 0 ≡ 0x21 → a .folds ≡ false → (u : Tally) → Left (rules-of a table) s d p t i (a-group t) (record { refusal = 2; at = p; tally = u })
+    pub group-crossed-run : getD s p 0 ≡ 0x21 → a .folds ≡ false → (u : Tally) → CloseRead (rules-of a table) s d p t i (a-group t) (record { refusal = 2; at = p; tally = u })
     group-crossed-run b e =
         refused-close 0x21 2 b refl (omega arith) (a-group t)
         (λ os x. rw (refusal-repeat-end (rules-of a table) (at (a-group t ∷ os) i x) (drop (p + 1) s), e))
 
-    pub group-crossed : getD s p 0 ≡ 0x21 → a .folds ≡ true → (u : Tally) → Left (rules-of a table) s d p t i (a-group t) (record { refusal = 4; at = p; tally = u })
+    pub group-crossed : getD s p 0 ≡ 0x21 → a .folds ≡ true → (u : Tally) → CloseRead (rules-of a table) s d p t i (a-group t) (record { refusal = 4; at = p; tally = u })
     group-crossed b e =
         refused-close 0x21 4 b refl (omega arith) (a-group t)
         (λ os x. rw (refusal-repeat-end (rules-of a table) (at (a-group t ∷ os) i x) (drop (p + 1) s), e))
 
-    pub group-left : getD s p 0 ≡ 0x12 → (i .siblings ≡ 0 → ⊥) → Grown (a .limits) t (after-group t i) → Left (rules-of a table) s d p t i (a-group t) (record { refusal = 0; at = p + 1; tally = after-group t i })
+    pub group-left : getD s p 0 ≡ 0x12 → (i .siblings ≡ 0 → ⊥) → Grown (a .limits) t (after-group t i) → CloseRead (rules-of a table) s d p t i (a-group t) (record { refusal = 0; at = p + 1; tally = after-group t i })
     unfolding leave-group
     group-left b e g =
         record {
@@ -205,30 +205,30 @@ module _ (a : Terms) (table s : List ℕ) (d : Depth) (p : ℕ) (t i : Tally) (h
 
     -- the close of a repeat
     module _ (folds : a .folds ≡ true) (n w : ℕ) where
-      pub repeat-crossed : getD s p 0 ≡ 0x12 → (u : Tally) → Left (rules-of a table) s d p t i (a-repeat n w t) (record { refusal = 4; at = p; tally = u })
+      pub repeat-crossed : getD s p 0 ≡ 0x12 → (u : Tally) → CloseRead (rules-of a table) s d p t i (a-repeat n w t) (record { refusal = 4; at = p; tally = u })
       repeat-crossed b =
           refused-close 0x12 4 b refl (omega arith) (a-repeat n w t)
           (λ os x. rw (refusal-group-end (rules-of a table) (at (a-repeat n w t ∷ os) i x) (drop (p + 1) s) within))
 
       module _ (b : getD s p 0 ≡ 0x21) where
-        pub repeat-empty : i .siblings ≡ 0 → (u : Tally) → Left (rules-of a table) s d p t i (a-repeat n w t) (record { refusal = 5; at = p; tally = u })
+        pub repeat-empty : i .siblings ≡ 0 → (u : Tally) → CloseRead (rules-of a table) s d p t i (a-repeat n w t) (record { refusal = 5; at = p; tally = u })
         repeat-empty e =
             refused-close 0x21 5 b refl (omega arith) (a-repeat n w t)
             (λ os x. rw (refusal-repeat-end (rules-of a table) (at (a-repeat n w t ∷ os) i x) (drop (p + 1) s), folds, e))
 
         module _ (some : i .siblings ≡ 0 → ⊥) where
-          pub repeat-untrue : (i .siblings ≡ w → ⊥) → (u : Tally) → Left (rules-of a table) s d p t i (a-repeat n w t) (record { refusal = 9; at = p; tally = u })
+          pub repeat-untrue : (i .siblings ≡ w → ⊥) → (u : Tally) → CloseRead (rules-of a table) s d p t i (a-repeat n w t) (record { refusal = 9; at = p; tally = u })
           repeat-untrue e =
               refused-close 0x21 9 b refl (omega arith) (a-repeat n w t)
               (λ os x. rw (refusal-repeat-end (rules-of a table) (at (a-repeat n w t ∷ os) i x) (drop (p + 1) s), folds, ne-eqb _ _ some, ne-eqb _ _ e))
 
           module _ (true-width : i .siblings ≡ w) where
-            pub repeat-full : a .limits .nodes < after-repeat n t i .nodes → (u : Tally) → Left (rules-of a table) s d p t i (a-repeat n w t) (record { refusal = 10; at = p; tally = u })
+            pub repeat-full : a .limits .nodes < after-repeat n t i .nodes → (u : Tally) → CloseRead (rules-of a table) s d p t i (a-repeat n w t) (record { refusal = 10; at = p; tally = u })
             repeat-full e =
                 refused-close 0x21 10 b refl (omega arith) (a-repeat n w t)
                 (λ os x. rw (refusal-repeat-end (rules-of a table) (at (a-repeat n w t ∷ os) i x) (drop (p + 1) s), folds, ne-eqb _ _ some, eq-eqb _ _ true-width, lt-ltb _ _ e))
 
-            pub repeat-left : after-repeat n t i .nodes ≤ a .limits .nodes → Grown (a .limits) t (after-repeat n t i) → Left (rules-of a table) s d p t i (a-repeat n w t) (record { refusal = 0; at = p + 1; tally = after-repeat n t i })
+            pub repeat-left : after-repeat n t i .nodes ≤ a .limits .nodes → Grown (a .limits) t (after-repeat n t i) → CloseRead (rules-of a table) s d p t i (a-repeat n w t) (record { refusal = 0; at = p + 1; tally = after-repeat n t i })
             unfolding leave-repeat
             repeat-left e g =
                 record {

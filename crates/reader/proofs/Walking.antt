@@ -12,7 +12,7 @@ use Rattle.format.specs.Machine.{Rules, Open, a-group, a-repeat, State, refused
 use Rattle.format.specs.declared.Limits.{Limits}
 use Rattle.format.specs.declared.Tally.{Tally}
 use Rattle.format.proofs.Machine.{scan-refuse, scan-end, refusal-unknown}
-use Rattle.reader.specs.Walk.{from, Leads, Stops, OpenAt, Halted, Room, Grown, Item, Sequence, Entered, Left, NoClose, in-group-of, in-repeat-of}
+use Rattle.reader.specs.Walk.{from, GoesOn, Stops, OpenAt, Halted, Room, Grown, ItemRead, SequenceRead, OpenRead, CloseRead, NoClose, in-group-of, in-repeat-of}
 use Rattle.reader.specs.declared.command.Depth.{Depth}
 use Rattle.reader.specs.declared.command.Walk.{Walk}
 
@@ -53,7 +53,7 @@ pass-end R s p t x e = rw (e, drop-length, scan-end R (length s) (at [] t x))
 
 -- Refused walks.
 module _ (R : Rules) (s : List ℕ) (d : Depth) (p : ℕ) (t : Tally) (w : Walk) (no : w .refusal ≡ 0 → ⊥) where
-  pub item-refused : ((os : List Open) → OpenAt d os → Stops R s p os t (w .refusal) (w .at)) → Item R s d p t w
+  pub item-refused : ((os : List Open) → OpenAt d os → Stops R s p os t (w .refusal) (w .at)) → ItemRead R s d p t w
   item-refused h =
       record {
         moves = record { goes = λ e. absurd (no e); stops = λ e. h };
@@ -62,7 +62,7 @@ module _ (R : Rules) (s : List ℕ) (d : Depth) (p : ℕ) (t : Tally) (w : Walk)
         grown = λ e. absurd (no e);
       }
 
-  pub sequence-refused : ((os : List Open) → OpenAt d os → Stops R s p os t (w .refusal) (w .at)) → Sequence R s d p t w
+  pub sequence-refused : ((os : List Open) → OpenAt d os → Stops R s p os t (w .refusal) (w .at)) → SequenceRead R s d p t w
   sequence-refused h =
       record {
         moves = record { goes = λ e. absurd (no e); stops = λ e. h };
@@ -71,8 +71,8 @@ module _ (R : Rules) (s : List ℕ) (d : Depth) (p : ℕ) (t : Tally) (w : Walk)
         grown = λ e. absurd (no e);
       }
 
-  pub entered-refused : (d′ : Depth) (o : Open) (size nodes price : ℕ) → ((os : List Open) → OpenAt d os → Stops R s p os t (w .refusal) (w .at)) → Entered R s d d′ p t o size nodes price w
-  entered-refused d′ o size nodes price h =
+  pub open-refused : (d′ : Depth) (o : Open) (size nodes price : ℕ) → ((os : List Open) → OpenAt d os → Stops R s p os t (w .refusal) (w .at)) → OpenRead R s d d′ p t o size nodes price w
+  open-refused d′ o size nodes price h =
       record {
         moves = record { goes = λ e. absurd (no e); stops = λ e. h };
         ahead = λ e. absurd (no e);
@@ -84,8 +84,8 @@ module _ (R : Rules) (s : List ℕ) (d : Depth) (p : ℕ) (t : Tally) (w : Walk)
         cost-inside = λ e. absurd (no e);
       }
 
-  pub left-refused : (i : Tally) (o : Open) → ((os : List Open) → OpenAt d os → Stops R s p (o ∷ os) i (w .refusal) (w .at)) → Left R s d p t i o w
-  left-refused i o h =
+  pub close-refused : (i : Tally) (o : Open) → ((os : List Open) → OpenAt d os → Stops R s p (o ∷ os) i (w .refusal) (w .at)) → CloseRead R s d p t i o w
+  close-refused i o h =
       record {
         moves = record { goes = λ e. absurd (no e); stops = λ e. h };
         ahead = λ e. absurd (no e);
@@ -94,19 +94,19 @@ module _ (R : Rules) (s : List ℕ) (d : Depth) (p : ℕ) (t : Tally) (w : Walk)
       }
 
 -- A command that opens o, the sequence inside it, and the close of o.
-module _ (R : Rules) (s : List ℕ) (d d′ : Depth) (p : ℕ) (t : Tally) (o : Open) (deeper : (os : List Open) → OpenAt d os → OpenAt d′ (o ∷ os)) (size nodes price : ℕ) (e : Walk) (entered : Entered R s d d′ p t o size nodes price e) where
-  pub entry-refused : (e .refusal ≡ 0 → ⊥) → Item R s d p t e
+module _ (R : Rules) (s : List ℕ) (d d′ : Depth) (p : ℕ) (t : Tally) (o : Open) (deeper : (os : List Open) → OpenAt d os → OpenAt d′ (o ∷ os)) (size nodes price : ℕ) (e : Walk) (entered : OpenRead R s d d′ p t o size nodes price e) where
+  pub entry-refused : (e .refusal ≡ 0 → ⊥) → ItemRead R s d p t e
   entry-refused ends = item-refused R s d p t e ends (entered .moves .stops ends)
 
-  module _ (in-it : e .refusal ≡ 0) (w : Walk) (read : Sequence R s d′ (e .at) (e .tally) w) where
-    pub inside-refused : (w .refusal ≡ 0 → ⊥) → Item R s d p t w
+  module _ (in-it : e .refusal ≡ 0) (w : Walk) (read : SequenceRead R s d′ (e .at) (e .tally) w) where
+    pub inside-refused : (w .refusal ≡ 0 → ⊥) → ItemRead R s d p t w
     inside-refused ends =
         item-refused R s d p t w ends
         (λ os m x.
         let a = entered .moves .goes in-it os m x in
         a .1 ∙ read .moves .stops ends (o ∷ os) (deeper os m) (a .0))
 
-    pub through : w .refusal ≡ 0 → (l : Walk) → Left R s d (w .at) t (w .tally) o l → Item R s d p t l
+    pub through : w .refusal ≡ 0 → (l : Walk) → CloseRead R s d (w .at) t (w .tally) o l → ItemRead R s d p t l
     through all l left =
         record {
           moves = record {
@@ -127,7 +127,7 @@ module _ (R : Rules) (s : List ℕ) (d d′ : Depth) (p : ℕ) (t : Tally) (o : 
 
 -- The items passed so far of a sequence that began at p with the counts t.
 pub record Along (R : Rules) (s : List ℕ) (d : Depth) (p : ℕ) (t : Tally) (q : ℕ) (r : Tally) : Type 0 where
-  pub goes : (os : List Open) → OpenAt d os → Leads R s p os t q os r
+  pub goes : (os : List Open) → OpenAt d os → GoesOn R s p os t q os r
   pub ahead : p ≤ q
   pub within : q ≤ length s
   pub grown : Grown (R .limits) t r
@@ -138,7 +138,7 @@ module _ (R : Rules) (s : List ℕ) (d : Depth) (p : ℕ) (t : Tally) where
       record { goes = λ os m x. (x, refl); ahead = omega arith; within = h; grown = omega arith }
 
   module _ (q : ℕ) (r : Tally) (so-far : Along R s d p t q r) where
-    pub along-ends : Halted s q → Sequence R s d p t (record { refusal = 0; at = q; tally = r })
+    pub along-ends : Halted s q → SequenceRead R s d p t (record { refusal = 0; at = q; tally = r })
     along-ends h =
         record {
           moves = record { goes = λ z. so-far .goes; stops = λ z. absurd (z refl) };
@@ -147,8 +147,8 @@ module _ (R : Rules) (s : List ℕ) (d : Depth) (p : ℕ) (t : Tally) where
           grown = λ z. so-far .grown;
         }
 
-    module _ (w : Walk) (next : Item R s d q r w) where
-      pub along-refused : (w .refusal ≡ 0 → ⊥) → Sequence R s d p t w
+    module _ (w : Walk) (next : ItemRead R s d q r w) where
+      pub along-refused : (w .refusal ≡ 0 → ⊥) → SequenceRead R s d p t w
       along-refused ends =
           sequence-refused R s d p t w ends
           (λ os m x.
@@ -178,7 +178,7 @@ pub repeat-deeper : (d : Depth) (h w : ℕ) (t : Tally) (os : List Open) → Ope
 repeat-deeper d h w t os m = record { groups = m .groups; repeats = omega (arith, m .repeats) }
 
 -- A byte that is no command.
-pub item-unknown : (R : Rules) (s : List ℕ) (d : Depth) (p : ℕ) (t u : Tally) → NoClose s p → (getD s p 0 ≡ 0x10 → ⊥) → (getD s p 0 ≡ 0x11 → ⊥) → (getD s p 0 ≡ 0x20 → ⊥) → Item R s d p t (record { refusal = 1; at = p; tally = u })
+pub item-unknown : (R : Rules) (s : List ℕ) (d : Depth) (p : ℕ) (t u : Tally) → NoClose s p → (getD s p 0 ≡ 0x10 → ⊥) → (getD s p 0 ≡ 0x11 → ⊥) → (getD s p 0 ≡ 0x20 → ⊥) → ItemRead R s d p t (record { refusal = 1; at = p; tally = u })
 item-unknown R s d p t u n a b c =
     item-refused R s d p t _ (λ z. omega arith)
     (λ os m x.

@@ -3,7 +3,7 @@ use mathlib.Core.Path.{_≡_, refl, sym, _∙_}
 use mathlib.Core.Bool.{Bool, true, false}
 use mathlib.Core.List.{List, []}
 use mathlib.Core.Logic.{_≢_}
-use Prim.Native.Nat.{ℕ, _+_, _<_, _≤_}
+use Prim.Native.Nat.{ℕ, _+_, _<_}
 use native.Mathlib.Omega.{arith}
 use lib.Dec.{eqb}
 use lib.ListN.{length, getD, drop}
@@ -13,7 +13,7 @@ use Rattle.format.specs.Machine.{Rules, read, refusal, first-of}
 use Rattle.format.specs.Head.{head-checks, headed, full-head}
 use Rattle.format.specs.Order.{Bytes}
 use Rattle.format.specs.Meaning.{MeansAtCost}
-use Rattle.format.specs.Readings.{run-rules, run-answer, run-reading, fold-rules, fold-outcome, fold-reading, fold-answer}
+use Rattle.format.specs.Readings.{run-rules, as-run-reading, run-reading, fold-rules, fold-outcome, fold-reading, as-fold-reading}
 use Rattle.format.specs.declared.Tally.{Tally}
 use Rattle.format.specs.declared.Head.{Head}
 use Rattle.format.specs.declared.RunReading.{RunReading}
@@ -21,7 +21,7 @@ use Rattle.format.specs.declared.FoldReading.{FoldReading}
 use Rattle.format.proofs.Machine.{refusal-group-end, refusal-repeat-end}
 use Rattle.format.proofs.Heads.{headed-refused, headed-passed}
 use Rattle.format.proofs.Report.{reading-means}
-use Rattle.reader.specs.Walk.{from, rules-of, Sequence, OpenAt, Whole, outcome}
+use Rattle.reader.specs.Walk.{from, rules-of, SequenceRead, OpenAt, Whole, outcome}
 use Rattle.reader.specs.declared.command.Terms.{Terms}
 use Rattle.reader.specs.declared.command.Depth.{Depth}
 use Rattle.reader.specs.declared.command.Walk.{Walk}
@@ -33,7 +33,7 @@ top = record { groups = 0; repeats = 0 }
 abbrev pub none : Tally
 none = record { siblings = 0; nodes = 0; size = 0; cost = 0 }
 
-module _ (a : Terms) (table s : List ℕ) (w : Walk) (walked : Sequence (rules-of a table) s top 0 none w) where
+module _ (a : Terms) (table s : List ℕ) (w : Walk) (walked : SequenceRead (rules-of a table) s top 0 none w) where
   nothing-open : OpenAt top []
   nothing-open = record { groups = refl; repeats = refl }
 
@@ -92,35 +92,35 @@ module _ (s : List ℕ) (w : Walk) (read-it : Whole run-rules s w) where
   run-read e = rw (read-it .reads e .1)
 
 -- What a walk says of a fold is what the reading says.
-pub answered : (R : Rules) (s : List ℕ) (w : Walk) → Whole R s w → fold-answer (outcome w) ≡ fold-answer (read R s)
+pub answered : (R : Rules) (s : List ℕ) (w : Walk) → Whole R s w → as-fold-reading (outcome w) ≡ as-fold-reading (read R s)
 answered R s w walked = by-test (eqb (w .refusal) 0) refl
   where
-    by-test : (b : Bool) → eqb (w .refusal) 0 ≡ b → fold-answer (outcome w) ≡ fold-answer (read R s)
+    by-test : (b : Bool) → eqb (w .refusal) 0 ≡ b → as-fold-reading (outcome w) ≡ as-fold-reading (read R s)
     by-test true e = rw (e, walked .reads (eqb-true _ _ e) .1)
     by-test false e = rw (e, walked .refuses (eqb-false _ _ e))
 
 -- The answers at an entry point: by the head's refusal, or by what follows.
 module _ (h : Head) (n : ℕ) (checked : n ≡ first-of (head-checks limits h)) where
-  pub admit-refused : (s : List ℕ) → n ≢ 0 → record { refusal = n; place = 0; nodes = 0 } ≡ run-answer (headed limits h (read run-rules s))
+  pub admit-refused : (s : List ℕ) → n ≢ 0 → record { refusal = n; place = 0; nodes = 0 } ≡ as-run-reading (headed limits h (read run-rules s))
   admit-refused s some = rw (headed-refused limits h (read run-rules s) n checked some)
 
-  pub admit-read : (s : List ℕ) → n ≡ 0 → (r : RunReading) → r ≡ run-reading s → r ≡ run-answer (headed limits h (read run-rules s))
+  pub admit-read : (s : List ℕ) → n ≡ 0 → (r : RunReading) → r ≡ run-reading s → r ≡ as-run-reading (headed limits h (read run-rules s))
   unfolding run-reading
   admit-read s none r e = e ∙ rw (headed-passed limits h (read run-rules s) (sym none ∙ checked))
 
   module _ (P : Prices) (s : List ℕ) where
-    pub fold-refused : n ≢ 0 → record { refusal = n; place = 0; nodes = 0; length = 0; cost = 0 } ≡ fold-answer (fold-outcome h P s)
+    pub fold-refused : n ≢ 0 → record { refusal = n; place = 0; nodes = 0; length = 0; cost = 0 } ≡ as-fold-reading (fold-outcome h P s)
     unfolding fold-outcome
     fold-refused some = rw (headed-refused limits h (read (fold-rules (h .limit) P) s) n checked some)
 
-    pub fold-read : n ≡ 0 → (w : Walk) → Whole (fold-rules (h .limit) P) s w → fold-answer (outcome w) ≡ fold-answer (fold-outcome h P s)
+    pub fold-read : n ≡ 0 → (w : Walk) → Whole (fold-rules (h .limit) P) s w → as-fold-reading (outcome w) ≡ as-fold-reading (fold-outcome h P s)
     unfolding fold-outcome
     fold-read none w walked =
         rw (headed-passed limits h (read (fold-rules (h .limit) P) s) (sym none ∙ checked)) (answered (fold-rules (h .limit) P) s w walked)
 
 -- The fold reader's answer: it is the reading, and on success means what the report says.
 pub with-meaning : (s table : List ℕ) (k first each : ℕ) → Bytes s → (r : FoldReading)
-    → r ≡ fold-answer (fold-outcome (full-head table k) (priced table first each) s)
+    → r ≡ as-fold-reading (fold-outcome (full-head table k) (priced table first each) s)
     → (r ≡ fold-reading s k table first each) × (r .refusal ≡ 0 → MeansAtCost k table first each s (r .length) (r .cost))
 unfolding fold-reading
 with-meaning s table k first each small r e = (e, reading-means s k table first each small r e)

@@ -23,8 +23,8 @@ abbrev pub from : Rules → List ℕ → ℕ → List Open → Tally → List �
 from R s p os t x = scan R p 0 (record { opens = os; tally = t; text = x }) (drop p s)
 
 -- Reading on from p is reading on from q, whatever has been unrolled.
-abbrev pub Leads : Rules → List ℕ → ℕ → List Open → Tally → ℕ → List Open → Tally → Type 0
-Leads R s p os t q os′ t′ = (x : List ℕ) → (y : List ℕ) × (from R s p os t x ≡ from R s q os′ t′ y)
+abbrev pub GoesOn : Rules → List ℕ → ℕ → List Open → Tally → ℕ → List Open → Tally → Type 0
+GoesOn R s p os t q os′ t′ = (x : List ℕ) → (y : List ℕ) × (from R s p os t x ≡ from R s q os′ t′ y)
 
 -- Reading on from p is refusing.
 abbrev pub Stops : Rules → List ℕ → ℕ → List Open → Tally → (number place : ℕ) → Type 0
@@ -37,7 +37,7 @@ pub record OpenAt (d : Depth) (os : List Open) : Type 0 where
 
 -- A walk from p came to w: under every stack of open things, which it changes from `pre` to `post`.
 pub record Moves (R : Rules) (s : List ℕ) (d : Depth) (p : ℕ) (t : Tally) (pre post : List Open → List Open) (w : Walk) : Type 0 where
-  pub goes : w .refusal ≡ 0 → (os : List Open) → OpenAt d os → Leads R s p (pre os) t (w .at) (post os) (w .tally)
+  pub goes : w .refusal ≡ 0 → (os : List Open) → OpenAt d os → GoesOn R s p (pre os) t (w .at) (post os) (w .tally)
   pub stops : (w .refusal ≡ 0 → ⊥) → (os : List Open) → OpenAt d os → Stops R s p (pre os) t (w .refusal) (w .at)
 
 -- A command stands at p.
@@ -92,14 +92,14 @@ abbrev pub repeat-at : List ℕ → ℕ → Tally → Open
 repeat-at s p t = a-repeat (word-at s (p + 1)) (word-at s (p + 3)) t
 
 -- An item was read from p on.
-pub record Item (R : Rules) (s : List ℕ) (d : Depth) (p : ℕ) (t : Tally) (w : Walk) : Type 0 where
+pub record ItemRead (R : Rules) (s : List ℕ) (d : Depth) (p : ℕ) (t : Tally) (w : Walk) : Type 0 where
   pub moves : Moves R s d p t (λ os. os) (λ os. os) w
   pub ahead : w .refusal ≡ 0 → p < w .at
   pub within : w .refusal ≡ 0 → w .at ≤ length s
   pub grown : w .refusal ≡ 0 → Grown (R .limits) t (w .tally)
 
 -- A sequence was read from p on, up to the end of the input or to a close.
-pub record Sequence (R : Rules) (s : List ℕ) (d : Depth) (p : ℕ) (t : Tally) (w : Walk) : Type 0 where
+pub record SequenceRead (R : Rules) (s : List ℕ) (d : Depth) (p : ℕ) (t : Tally) (w : Walk) : Type 0 where
   pub moves : Moves R s d p t (λ os. os) (λ os. os) w
   pub ahead : w .refusal ≡ 0 → p ≤ w .at
   pub halted : w .refusal ≡ 0 → Halted s (w .at)
@@ -113,7 +113,7 @@ abbrev pub in-repeat-of : Depth → Depth
 in-repeat-of d = record { groups = d .groups; repeats = d .repeats + 1 }
 
 -- The command at p opened o, and the counts inside are those.
-pub record Entered (R : Rules) (s : List ℕ) (d d′ : Depth) (p : ℕ) (t : Tally) (o : Open) (size nodes price : ℕ) (w : Walk) : Type 0 where
+pub record OpenRead (R : Rules) (s : List ℕ) (d d′ : Depth) (p : ℕ) (t : Tally) (o : Open) (size nodes price : ℕ) (w : Walk) : Type 0 where
   pub moves : Moves R s d p t (λ os. os) (λ os. o ∷ os) w
   pub ahead : w .refusal ≡ 0 → p < w .at
   pub within : w .refusal ≡ 0 → w .at ≤ length s
@@ -124,7 +124,7 @@ pub record Entered (R : Rules) (s : List ℕ) (d d′ : Depth) (p : ℕ) (t : Ta
   pub cost-inside : w .refusal ≡ 0 → w .tally .cost ≤ t .cost + price
 
 -- The close at p ended o, whose outer counts are t; the counts inside it were i.
-pub record Left (R : Rules) (s : List ℕ) (d : Depth) (p : ℕ) (t i : Tally) (o : Open) (w : Walk) : Type 0 where
+pub record CloseRead (R : Rules) (s : List ℕ) (d : Depth) (p : ℕ) (t i : Tally) (o : Open) (w : Walk) : Type 0 where
   pub moves : Moves R s d p i (λ os. o ∷ os) (λ os. os) w
   pub ahead : w .refusal ≡ 0 → p < w .at
   pub within : w .refusal ≡ 0 → w .at ≤ length s

@@ -8,7 +8,7 @@ ghost use mathlib.Core.Bool.{true};
 ghost use Prim.Native.Nat.{_+_, _*_, _<_, _≤_};
 ghost use lib.ListN.{length, getD};
 ghost use Rattle.format.specs.Machine.{a-group, a-repeat, after-repeat};
-ghost use Rattle.reader.specs.Walk.{At, Room, Halted, Sane, Item, Entered, Left, in-group-of, in-repeat-of, rules-of, word-at, repeat-at};
+ghost use Rattle.reader.specs.Walk.{At, Room, Halted, Sane, ItemRead, OpenRead, CloseRead, in-group-of, in-repeat-of, rules-of, word-at, repeat-at};
 
 // What the reader was asked: the limits, whether repeats may stand in the input, the width limit, and the repeat prices.
 pub struct Terms {
@@ -46,12 +46,12 @@ pub fn wide_cost(x: u16) -> u64
 }
 
 // The price of a label; 0 where the table does not have it.
-pub fn price(costs: &[u16], label: u8) -> u64
-    ensures { λ r. ⌜ (r ≡ getD (now (costs .entry)) label 0) × (r < 65536) ⌝ }
+pub fn price(table: &[u16], label: u8) -> u64
+    ensures { λ r. ⌜ (r ≡ getD (now (table .entry)) label 0) × (r < 65536) ⌝ }
 {
     let at = wide(label);
-    if at < costs.len() {
-        return wide_cost(costs[at]);
+    if at < table.len() {
+        return wide_cost(table[at]);
     }
     0
 }
@@ -88,11 +88,11 @@ pub fn refused(number: u8, at: usize, t: Tally) -> Walk
 }
 
 // A step: refusals 3 and 10.
-pub fn step(s: &[u8], costs: &[u16], a: Terms, at: usize, d: Depth, t: Tally) -> Walk
+pub fn step(s: &[u8], table: &[u16], a: Terms, at: usize, d: Depth, t: Tally) -> Walk
     requires { ⌜ At (now s) at 0x10 ⌝ }
     requires { ⌜ Room (a .limits) d t ⌝ }
     requires { ⌜ Sane a ⌝ }
-    ensures { λ r. ⌜ Item (rules-of a (now (costs .entry))) (now (s .entry)) d at t r ⌝ }
+    ensures { λ r. ⌜ ItemRead (rules-of a (now (table .entry))) (now (s .entry)) d at t r ⌝ }
 {
     if s.len() - at < 2 {
         return refused(3, s.len(), t);
@@ -101,7 +101,7 @@ pub fn step(s: &[u8], costs: &[u16], a: Terms, at: usize, d: Depth, t: Tally) ->
     if bounds.nodes <= t.nodes {
         return refused(10, at, t);
     }
-    let p = price(costs, s[at + 1]);
+    let p = price(table, s[at + 1]);
     Walk {
         refusal: 0,
         at: at + 2,
@@ -115,11 +115,11 @@ pub fn step(s: &[u8], costs: &[u16], a: Terms, at: usize, d: Depth, t: Tally) ->
 }
 
 // The open of a group: refusals 3, 8 and 10.
-pub fn enter_group(s: &[u8], costs: &[u16], a: Terms, at: usize, d: Depth, t: Tally) -> Walk
+pub fn enter_group(s: &[u8], table: &[u16], a: Terms, at: usize, d: Depth, t: Tally) -> Walk
     requires { ⌜ At (now s) at 0x11 ⌝ }
     requires { ⌜ Room (a .limits) d t ⌝ }
     requires { ⌜ Sane a ⌝ }
-    ensures { λ r. ⌜ Entered (rules-of a (now (costs .entry))) (now (s .entry)) d (in-group-of d) at t (a-group t) 2 1 65535 r ⌝ }
+    ensures { λ r. ⌜ OpenRead (rules-of a (now (table .entry))) (now (s .entry)) d (in-group-of d) at t (a-group t) 2 1 65535 r ⌝ }
 {
     if s.len() - at < 2 {
         return refused(3, s.len(), t);
@@ -131,7 +131,7 @@ pub fn enter_group(s: &[u8], costs: &[u16], a: Terms, at: usize, d: Depth, t: Ta
     if bounds.nodes <= t.nodes {
         return refused(10, at, t);
     }
-    let p = price(costs, s[at + 1]);
+    let p = price(table, s[at + 1]);
     Walk {
         refusal: 0,
         at: at + 2,
@@ -147,7 +147,7 @@ pub fn enter_group(s: &[u8], costs: &[u16], a: Terms, at: usize, d: Depth, t: Ta
 // The close of a group whose outer counts are t and inner counts i: refusals 3 at the end, 2, 4 and 5.
 pub fn leave_group(
     s: &[u8],
-    costs: &[u16],
+    table: &[u16],
     a: Terms,
     at: usize,
     d: Depth,
@@ -160,7 +160,7 @@ pub fn leave_group(
     requires { ⌜ (t .nodes + 1 ≤ i .nodes) × (i .nodes ≤ a .limits .nodes) ⌝ }
     requires { ⌜ (t .size ≤ i .size) × (i .size + 3 * t .nodes + 1 ≤ t .size + 3 * i .nodes) ⌝ }
     requires { ⌜ i .cost + 4294967296 * t .nodes ≤ t .cost + 4294967296 * i .nodes ⌝ }
-    ensures { λ r. ⌜ Left (rules-of a (now (costs .entry))) (now (s .entry)) d at t i (a-group t) r ⌝ }
+    ensures { λ r. ⌜ CloseRead (rules-of a (now (table .entry))) (now (s .entry)) d at t i (a-group t) r ⌝ }
 {
     if at == s.len() {
         return refused(3, at, t);
@@ -187,11 +187,11 @@ pub fn leave_group(
 }
 
 // The open of a repeat: refusals 2, 3, 6, 7 and 8.
-pub fn enter_repeat(s: &[u8], costs: &[u16], a: Terms, at: usize, d: Depth, t: Tally) -> Walk
+pub fn enter_repeat(s: &[u8], table: &[u16], a: Terms, at: usize, d: Depth, t: Tally) -> Walk
     requires { ⌜ At (now s) at 0x20 ⌝ }
     requires { ⌜ Room (a .limits) d t ⌝ }
     requires { ⌜ Sane a ⌝ }
-    ensures { λ r. ⌜ Entered (rules-of a (now (costs .entry))) (now (s .entry)) d (in-repeat-of d) at t (repeat-at (now (s .entry)) at t) 0 0 4294967295 r ⌝ }
+    ensures { λ r. ⌜ OpenRead (rules-of a (now (table .entry))) (now (s .entry)) d (in-repeat-of d) at t (repeat-at (now (s .entry)) at t) 0 0 4294967295 r ⌝ }
     ensures { λ r. ⌜ (r .refusal ≡ 0 → (a .folds ≡ true) × (2 ≤ word-at (now (s .entry)) (at + 1)) × (at + 5 ≤ length (now (s .entry)))) ⌝ }
 {
     if !a.folds {
@@ -245,7 +245,7 @@ fn after_passes(count: usize, t: Tally, i: Tally) -> Tally
 // The close of a repeat whose outer counts are t and inner counts i: refusals 3 at the end, 4, 5, 9 and 10.
 pub fn leave_repeat(
     s: &[u8],
-    costs: &[u16],
+    table: &[u16],
     a: Terms,
     at: usize,
     d: Depth,
@@ -260,7 +260,7 @@ pub fn leave_repeat(
     requires { ⌜ (a .folds ≡ true) × (2 ≤ count) × (count < 65536) ⌝ }
     requires { ⌜ (t .nodes + i .siblings ≤ i .nodes) × (i .nodes ≤ a .limits .nodes) ⌝ }
     requires { ⌜ (t .size ≤ i .size) × (i .size + 3 * t .nodes ≤ t .size + 3 * i .nodes) × (i .cost + 4294967296 * t .nodes ≤ t .cost + 4294967296 * i .nodes + 4294967296) ⌝ }
-    ensures { λ r. ⌜ Left (rules-of a (now (costs .entry))) (now (s .entry)) d at t i (a-repeat count width t) r ⌝ }
+    ensures { λ r. ⌜ CloseRead (rules-of a (now (table .entry))) (now (s .entry)) d at t i (a-repeat count width t) r ⌝ }
 {
     if at == s.len() {
         return refused(3, at, t);

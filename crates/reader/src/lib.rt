@@ -27,15 +27,15 @@ ghost use mathlib.Core.Bool.{true};
 ghost use Rattle.format.specs.Limits.{limits, priced};
 ghost use Rattle.format.specs.Machine.{read};
 ghost use Rattle.format.specs.Head.{headed};
-ghost use Rattle.format.specs.Readings.{run-rules, run-answer, run-reading, fold-outcome, measured, fold-reading, fold-answer};
+ghost use Rattle.format.specs.Readings.{run-rules, as-run-reading, run-reading, fold-outcome, measured, fold-reading, as-fold-reading};
 ghost use Rattle.format.specs.Meaning.{MeansAtCost};
 ghost use Rattle.format.specs.Parts.{node-part, part-of};
 ghost use Rattle.reader.specs.Walk.{Sane, Whole, outcome, rules-of};
 
 // The whole input: the top sequence, then the end and no close.
-fn whole(s: &[u8], costs: &[u16], a: Terms) -> Walk
+fn whole(s: &[u8], table: &[u16], a: Terms) -> Walk
     requires { ⌜ Sane a ⌝ }
-    ensures { λ r. ⌜ Whole (rules-of a (now (costs .entry))) (now (s .entry)) r ⌝ }
+    ensures { λ r. ⌜ Whole (rules-of a (now (table .entry))) (now (s .entry)) r ⌝ }
 {
     let none = Tally {
         siblings: 0,
@@ -47,7 +47,7 @@ fn whole(s: &[u8], costs: &[u16], a: Terms) -> Walk
         groups: 0,
         repeats: 0,
     };
-    let w = sequence(s, costs, a, 0, top, none);
+    let w = sequence(s, table, a, 0, top, none);
     if w.refusal != 0 {
         return w;
     }
@@ -94,7 +94,7 @@ pub fn read_run(run: &[u8]) -> RunReading
 
 // The admission of a run at an entry point with this head: the checks of the head, then the run's own refusals; or the nodes.
 pub fn admit(run: &[u8], head: Head) -> RunReading
-    ensures { λ r. ⌜ r ≡ run-answer (headed limits head (read run-rules (now (run .entry)))) ⌝ }
+    ensures { λ r. ⌜ r ≡ as-run-reading (headed limits head (read run-rules (now (run .entry)))) ⌝ }
 {
     let refusal = head_refusal(Format::limits(), head);
     if refusal != 0 {
@@ -144,7 +144,7 @@ pub fn same_node(run: &[u8], a: usize, b: usize) -> bool
 
 // The answer about a fold that was walked.
 fn answer(w: Walk) -> FoldReading
-    ensures { λ r. ⌜ r ≡ fold-answer (outcome w) ⌝ }
+    ensures { λ r. ⌜ r ≡ as-fold-reading (outcome w) ⌝ }
 {
     if w.refusal != 0 {
         return FoldReading {
@@ -167,8 +167,8 @@ fn answer(w: Walk) -> FoldReading
 
 // A fold at an entry point with this head: the checks of the head, then refusals 1 and 3 to 10; or the nodes and the bytes of
 // the run and the fold's cost.
-fn read_headed(fold: &[u8], head: Head, costs: &[u16], first: u16, each: u16) -> FoldReading
-    ensures { λ r. ⌜ r ≡ fold-answer (fold-outcome head (priced (now (costs .entry)) first each) (now (fold .entry))) ⌝ }
+fn read_headed(fold: &[u8], head: Head, table: &[u16], first: u16, each: u16) -> FoldReading
+    ensures { λ r. ⌜ r ≡ as-fold-reading (fold-outcome head (priced (now (table .entry)) first each) (now (fold .entry))) ⌝ }
 {
     let bounds = Format::limits();
     let number = head_refusal(bounds, head);
@@ -188,12 +188,12 @@ fn read_headed(fold: &[u8], head: Head, costs: &[u16], first: u16, each: u16) ->
         first: wide_cost(first),
         each: wide_cost(each),
     };
-    answer(whole(fold, costs, a))
+    answer(whole(fold, table, a))
 }
 
 // A fold at a width limit, without costs: refusals 12, 1 and 3 to 10, or the nodes and the bytes of the run at cost 0.
 pub fn measure(fold: &[u8], limit: usize) -> FoldReading
-    ensures { λ r. ⌜ r ≡ fold-answer (measured (now (fold .entry)) limit) ⌝ }
+    ensures { λ r. ⌜ r ≡ as-fold-reading (measured (now (fold .entry)) limit) ⌝ }
 {
     let free: [u16; 0] = [0; 0];
     let head = Head {
@@ -205,13 +205,13 @@ pub fn measure(fold: &[u8], limit: usize) -> FoldReading
 
 // The fold reader: refusals 11, 12, 1 and 3 to 10, or the nodes and the bytes of the run and the fold's cost. What it accepts
 // means, in the report's words, a run of that length at that cost.
-pub fn read_fold(fold: &[u8], limit: usize, costs: &[u16], first: u16, each: u16) -> FoldReading
-    ensures answered { λ r. ⌜ r ≡ fold-reading (now (fold .entry)) limit (now (costs .entry)) first each ⌝ }
-    ensures meant { λ r. ⌜ (r .refusal ≡ 0 → MeansAtCost limit (now (costs .entry)) first each (now (fold .entry)) (r .length) (r .cost)) ⌝ }
+pub fn read_fold(fold: &[u8], limit: usize, table: &[u16], first: u16, each: u16) -> FoldReading
+    ensures answered { λ r. ⌜ r ≡ fold-reading (now (fold .entry)) limit (now (table .entry)) first each ⌝ }
+    ensures meant { λ r. ⌜ (r .refusal ≡ 0 → MeansAtCost limit (now (table .entry)) first each (now (fold .entry)) (r .length) (r .cost)) ⌝ }
 {
     let head = Head {
-        labels: costs.len(),
+        labels: table.len(),
         limit,
     };
-    read_headed(fold, head, costs, first, each)
+    read_headed(fold, head, table, first, each)
 }

@@ -14,14 +14,14 @@ use format::Format;
 use format::Tally;
 ghost use Prim.Native.Nat.{_≤_, _<_};
 ghost use lib.ListN.{length};
-ghost use Rattle.reader.specs.Walk.{At, NoClose, Room, Sane, Item, Sequence, rules-of};
+ghost use Rattle.reader.specs.Walk.{At, NoClose, Room, Sane, ItemRead, SequenceRead, rules-of};
 
 // The items from `at` on, up to the end of the input or to a close.
-pub fn sequence(s: &[u8], costs: &[u16], a: Terms, at: usize, d: Depth, t: Tally) -> Walk
+pub fn sequence(s: &[u8], table: &[u16], a: Terms, at: usize, d: Depth, t: Tally) -> Walk
     requires { ⌜ at ≤ length (now s) ⌝ }
     requires { ⌜ Room (a .limits) d t ⌝ }
     requires { ⌜ Sane a ⌝ }
-    ensures { λ r. ⌜ Sequence (rules-of a (now (costs .entry))) (now (s .entry)) d at t r ⌝ }
+    ensures { λ r. ⌜ SequenceRead (rules-of a (now (table .entry))) (now (s .entry)) d at t r ⌝ }
 {
     let mut p = at;
     let mut now = t;
@@ -41,7 +41,7 @@ pub fn sequence(s: &[u8], costs: &[u16], a: Terms, at: usize, d: Depth, t: Tally
                 tally: now,
             };
         }
-        let w = item(s, costs, a, p, d, now);
+        let w = item(s, table, a, p, d, now);
         if w.refusal != 0 {
             return w;
         }
@@ -56,33 +56,33 @@ pub fn sequence(s: &[u8], costs: &[u16], a: Terms, at: usize, d: Depth, t: Tally
 }
 
 // The item at `at`, which is no close.
-fn item(s: &[u8], costs: &[u16], a: Terms, at: usize, d: Depth, t: Tally) -> Walk
+fn item(s: &[u8], table: &[u16], a: Terms, at: usize, d: Depth, t: Tally) -> Walk
     requires { ⌜ NoClose (now s) at ⌝ }
     requires { ⌜ Room (a .limits) d t ⌝ }
     requires { ⌜ Sane a ⌝ }
-    ensures { λ r. ⌜ Item (rules-of a (now (costs .entry))) (now (s .entry)) d at t r ⌝ }
+    ensures { λ r. ⌜ ItemRead (rules-of a (now (table .entry))) (now (s .entry)) d at t r ⌝ }
 {
     let c = s[at];
     if c == Format::STEP {
-        return step(s, costs, a, at, d, t);
+        return step(s, table, a, at, d, t);
     }
     if c == Format::GROUP {
-        return group(s, costs, a, at, d, t);
+        return group(s, table, a, at, d, t);
     }
     if c == Format::REPEAT {
-        return repeat(s, costs, a, at, d, t);
+        return repeat(s, table, a, at, d, t);
     }
     refused(1, at, t)
 }
 
 // The group at `at`.
-fn group(s: &[u8], costs: &[u16], a: Terms, at: usize, d: Depth, t: Tally) -> Walk
+fn group(s: &[u8], table: &[u16], a: Terms, at: usize, d: Depth, t: Tally) -> Walk
     requires { ⌜ At (now s) at 0x11 ⌝ }
     requires { ⌜ Room (a .limits) d t ⌝ }
     requires { ⌜ Sane a ⌝ }
-    ensures { λ r. ⌜ Item (rules-of a (now (costs .entry))) (now (s .entry)) d at t r ⌝ }
+    ensures { λ r. ⌜ ItemRead (rules-of a (now (table .entry))) (now (s .entry)) d at t r ⌝ }
 {
-    let e = enter_group(s, costs, a, at, d, t);
+    let e = enter_group(s, table, a, at, d, t);
     if e.refusal != 0 {
         return e;
     }
@@ -92,23 +92,23 @@ fn group(s: &[u8], costs: &[u16], a: Terms, at: usize, d: Depth, t: Tally) -> Wa
         groups: d.groups + 1,
         repeats: d.repeats,
     };
-    let w = sequence(s, costs, a, from, deeper, inner);
+    let w = sequence(s, table, a, from, deeper, inner);
     if w.refusal != 0 {
         return w;
     }
     let to = w.at;
     let read = w.tally;
-    leave_group(s, costs, a, to, d, t, read)
+    leave_group(s, table, a, to, d, t, read)
 }
 
 // The repeat at `at`.
-fn repeat(s: &[u8], costs: &[u16], a: Terms, at: usize, d: Depth, t: Tally) -> Walk
+fn repeat(s: &[u8], table: &[u16], a: Terms, at: usize, d: Depth, t: Tally) -> Walk
     requires { ⌜ At (now s) at 0x20 ⌝ }
     requires { ⌜ Room (a .limits) d t ⌝ }
     requires { ⌜ Sane a ⌝ }
-    ensures { λ r. ⌜ Item (rules-of a (now (costs .entry))) (now (s .entry)) d at t r ⌝ }
+    ensures { λ r. ⌜ ItemRead (rules-of a (now (table .entry))) (now (s .entry)) d at t r ⌝ }
 {
-    let e = enter_repeat(s, costs, a, at, d, t);
+    let e = enter_repeat(s, table, a, at, d, t);
     if e.refusal != 0 {
         return e;
     }
@@ -120,11 +120,11 @@ fn repeat(s: &[u8], costs: &[u16], a: Terms, at: usize, d: Depth, t: Tally) -> W
         groups: d.groups,
         repeats: d.repeats + 1,
     };
-    let w = sequence(s, costs, a, from, deeper, inner);
+    let w = sequence(s, table, a, from, deeper, inner);
     if w.refusal != 0 {
         return w;
     }
     let to = w.at;
     let read = w.tally;
-    leave_repeat(s, costs, a, to, d, count, width, t, read)
+    leave_repeat(s, table, a, to, d, count, width, t, read)
 }

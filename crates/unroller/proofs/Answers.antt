@@ -1,4 +1,4 @@
--- The answers of the unroller, as its contract has them: a refusal by the first row that applies, or the run written.
+-- The answers of the unroller, as its contract has them: a refusal by the first check that applies, or the run written.
 use mathlib.Core.Path.{_≡_, refl, sym, ap, _∙_}
 use mathlib.Core.Bool.{Bool, true, false}
 use mathlib.Core.List.{List, [], _++_, append-nil}
@@ -10,11 +10,11 @@ use lib.Dec.{ltb}
 use lib.ListN.{length, take, drop}
 use lib.Seq.{sets-eq, take-at}
 use borrow.Author.Tests.{lt-ltb, le-ltb}
-use Rattle.format.specs.Forest.{bytes}
+use Rattle.format.specs.Forest.{bytes, at-most}
 use Rattle.format.specs.Machine.{Outcome, refused, accepted}
 use Rattle.format.specs.Order.{Bytes}
 use Rattle.format.specs.Head.{limit-head}
-use Rattle.format.specs.Readings.{free, fold-rules, fold-answer, measured}
+use Rattle.format.specs.Readings.{free, fold-rules, as-fold-reading, measured}
 use Rattle.format.specs.Shape.{Reads}
 use Rattle.format.specs.Meaning.{Means}
 use Rattle.format.specs.declared.FoldReading.{FoldReading}
@@ -23,7 +23,7 @@ use Rattle.format.specs.declared.Unrolled.{Unrolled}
 use Rattle.format.proofs.Bridge.{parses}
 use Rattle.format.proofs.Report.{accepted-means, accepted-length, outcome-read, outcome-some}
 use Rattle.unroller.specs.Unrolling.{unroll-answer, unroll-output}
-use Rattle.unroller.specs.Writing.{Sequence, Put}
+use Rattle.unroller.specs.Writing.{SequenceAt, PassedOver}
 use Rattle.unroller.specs.declared.write.Place.{Place}
 
 -- What the contract promises of the answer and of the output.
@@ -64,16 +64,16 @@ pub record Measured (s : List ℕ) (k n : ℕ) : Type 0 where
 abbrev pub top : Place
 top = record { at = 0; to = 0 }
 
-module _ (s : List ℕ) (small : Bytes s) (k : ℕ) (m : FoldReading) (reads : m ≡ fold-answer (measured s k)) where
+module _ (s : List ℕ) (small : Bytes s) (k : ℕ) (m : FoldReading) (reads : m ≡ as-fold-reading (measured s k)) where
   pub fold-measured : m .refusal ≡ 0 → Measured s k (m .length)
   fold-measured e = go (measured s k) refl
     where
       go : (o : Outcome) → measured s k ≡ o → Measured s k (m .length)
       go (refused n p) q =
-          let same : m ≡ fold-answer (refused n p) = reads ∙ ap fold-answer q in
+          let same : m ≡ as-fold-reading (refused n p) = reads ∙ ap as-fold-reading q in
           absurd (outcome-some (limit-head k) free s n p q (rw same at e))
       go (accepted t x) q =
-          let same : m ≡ fold-answer (accepted t x) = reads ∙ ap fold-answer q in
+          let same : m ≡ as-fold-reading (accepted t x) = reads ∙ ap as-fold-reading q in
           let r = outcome-read (limit-head k) free s t x q in
           record {
             tally = t;
@@ -89,10 +89,10 @@ module _ (s : List ℕ) (small : Bytes s) (k : ℕ) (m : FoldReading) (reads : m
       where
         go : (o : Outcome) → measured s k ≡ o → Promised s k out out (record { refusal = m .refusal; place = m .place; length = 0 })
         go (refused n p) q =
-            let same : m ≡ fold-answer (refused n p) = reads ∙ ap fold-answer q in
+            let same : m ≡ as-fold-reading (refused n p) = reads ∙ ap as-fold-reading q in
             promised s k small out out _ (rw (q, same)) (rw q)
         go (accepted t x) q =
-            let same : m ≡ fold-answer (accepted t x) = reads ∙ ap fold-answer q in
+            let same : m ≡ as-fold-reading (accepted t x) = reads ∙ ap as-fold-reading q in
             absurd (e (rw same))
 
     module _ (r : Measured s k (m .length)) where
@@ -102,21 +102,21 @@ module _ (s : List ℕ) (small : Bytes s) (k : ℕ) (m : FoldReading) (reads : m
           promised s k small out out _ (rw (r .reading, lt-ltb _ _ f)) (rw (r .reading, lt-ltb _ _ f))
 
       module _ (enough : m .length ≤ length out) where
-        pub whole-fold : Sequence s (length out) top (r .tree .tree)
+        pub whole-fold : SequenceAt s (length out) top (r .tree .tree)
         whole-fold =
             let a = r .tree in
             record {
               rest = [];
               stands = record {
                 form = sym (a .form) ∙ sym (append-nil (bytes (a .tree)));
-                allowed = record { widest = k };
+                allowed = at-most k;
                 sound = a .shape .sound;
                 fits = omega (arith, r .size, ap length (a .text));
               };
               ends = tt;
             }
 
-        pub run-written : (after : List ℕ) (q : Place) → Put out after top (r .tree .tree) q
+        pub run-written : (after : List ℕ) (q : Place) → PassedOver out after top (r .tree .tree) q
             → Promised s k out after (record { refusal = 0; place = 0; length = m .length })
         run-written after q y =
             let x = r .text in

@@ -10,7 +10,7 @@ use Rattle.format.specs.Forest.{Forest, end, step, group, repeat, join, copies,
 use Rattle.format.specs.Machine.{times}
 use Rattle.format.proofs.Bridge.{length-times, times-more, word-again}
 use Rattle.format.proofs.Forests.{join-end, bytes-join, bytes-copies, unroll-join, sound-parts}
-use Rattle.unroller.specs.Writing.{Ends, One, one-step, one-group, one-repeat, Stands, Sequence, Item}
+use Rattle.unroller.specs.Writing.{Ends, One, one-step, one-group, one-repeat, FormAt, SequenceAt, ItemAt}
 use Rattle.unroller.specs.declared.write.Place.{Place}
 
 -- What each kind of item unrolls to, and how long that is.
@@ -51,7 +51,7 @@ one-some (one-group l b) = omega arith
 one-some (one-repeat h w b) = omega arith
 
 -- The bytes from a place on are those of the tree and the rest.
-module _ {s : List ℕ} {room : ℕ} {w : Place} {f : Forest} {rest : List ℕ} (z : Stands s room w f rest) where
+module _ {s : List ℕ} {room : ℕ} {w : Place} {f : Forest} {rest : List ℕ} (z : FormAt s room w f rest) where
   byte-at : (k p : ℕ) → w .at + k ≡ p → getD s p 0 ≡ getD (bytes f ++ rest) k 0
   byte-at k p e = rw (← e) (sym (getD-drop (w .at) s k 0) ∙ rw (z .form))
 
@@ -73,7 +73,7 @@ pub record RepeatAt (s : List ℕ) (room : ℕ) (w : Place) (f : Forest) : Type 
   pub there : w .at + 5 + length (bytes body) < length s
   pub operand : getD s (w .at + 1) 0 * 256 + getD s (w .at + 1 + 1) 0 ≡ count
   pub some : 1 ≤ count
-  pub inside : Sequence s room (record { at = w .at + 5; to = w .to }) body
+  pub inside : SequenceAt s room (record { at = w .at + 5; to = w .to }) body
   pub fits : w .to + length (bytes (unroll body)) + (count - 1) * length (bytes (unroll body)) ≤ room
 
 -- A group at a place: its body stands behind the label, in any output as long.
@@ -82,12 +82,12 @@ pub record GroupAt (s : List ℕ) (room : ℕ) (w : Place) (f : Forest) : Type 0
   pub is : f ≡ group (getD s (w .at + 1) 0) body end
   pub byte : getD s (w .at) 0 ≡ 0x11
   pub there : w .at + 2 + length (bytes body) < length s
-  pub inside : (n : ℕ) → n ≡ room → Sequence s n (record { at = w .at + 2; to = w .to + 2 }) body
+  pub inside : (n : ℕ) → n ≡ room → SequenceAt s n (record { at = w .at + 2; to = w .to + 2 }) body
   pub fits : w .to + 3 + length (bytes (unroll body)) ≤ room
 
 -- Which kind of item stands at a place is seen by its first byte.
 module _ {s : List ℕ} {room : ℕ} {w : Place} where
-  repeat-stands : {f : Forest} {rest : List ℕ} → One f → Stands s room w f rest → getD s (w .at) 0 ≡ 0x20 → RepeatAt s room w f
+  repeat-stands : {f : Forest} {rest : List ℕ} → One f → FormAt s room w f rest → getD s (w .at) 0 ≡ 0x20 → RepeatAt s room w f
   unfolding bytes
   repeat-stands (one-step l) z e = absurd (omega (arith, first-byte z))
   repeat-stands (one-group l b) z e = absurd (omega (arith, first-byte z))
@@ -114,7 +114,7 @@ module _ {s : List ℕ} {room : ℕ} {w : Place} where
         fits = omega (arith, z .fits, size-repeat h k b some);
       }
 
-  group-stands : {f : Forest} {rest : List ℕ} → One f → Stands s room w f rest → getD s (w .at) 0 ≢ 0x20 → getD s (w .at) 0 ≢ 0x10
+  group-stands : {f : Forest} {rest : List ℕ} → One f → FormAt s room w f rest → getD s (w .at) 0 ≢ 0x20 → getD s (w .at) 0 ≢ 0x10
       → GroupAt s room w f
   unfolding bytes
   group-stands (one-step l) z e g = absurd (g (first-byte z))
@@ -138,21 +138,21 @@ module _ {s : List ℕ} {room : ℕ} {w : Place} where
         fits = omega (arith, z .fits, size-group l b);
       }
 
-  step-stands : {f : Forest} {rest : List ℕ} → One f → Stands s room w f rest → getD s (w .at) 0 ≡ 0x10
+  step-stands : {f : Forest} {rest : List ℕ} → One f → FormAt s room w f rest → getD s (w .at) 0 ≡ 0x10
       → f ≡ step (getD s (w .at + 1) 0) end
   unfolding bytes
   step-stands (one-step l) z e = rw (byte-at z 1 (w .at + 1) refl)
   step-stands (one-group l b) z e = absurd (omega (arith, first-byte z))
   step-stands (one-repeat h k b) z e = absurd (omega (arith, first-byte z))
 
-  node-stands : {f : Forest} {rest : List ℕ} → One f → Stands s room w f rest → getD s (w .at) 0 ≢ 0x20
+  node-stands : {f : Forest} {rest : List ℕ} → One f → FormAt s room w f rest → getD s (w .at) 0 ≢ 0x20
       → (w .at + 2 ≤ length s) × (w .to + 2 ≤ room)
   unfolding bytes
   node-stands (one-step l) z e = (omega (arith, remain z), omega (arith, z .fits, size-step l))
   node-stands (one-group l b) z e = (omega (arith, remain z), omega (arith, z .fits, size-group l b))
   node-stands (one-repeat h k b) z e = absurd (e (first-byte z))
 
-  module _ {f : Forest} (i : Item s room w f) where
+  module _ {f : Forest} (i : ItemAt s room w f) where
     pub item-there : w .at < length s
     item-there = omega (arith, remain (i .stands), one-some (i .one))
 
@@ -169,8 +169,8 @@ module _ {s : List ℕ} {room : ℕ} {w : Place} where
     item-group e g = group-stands (i .one) (i .stands) e g
 
 -- A sequence that stands at a place stands there part by part.
-module _ {s : List ℕ} {room : ℕ} {w : Place} (f g : Forest) {rest : List ℕ} (z : Stands s room w (join f g) rest) where
-  pub front-stands : Stands s room w f (bytes g ++ rest)
+module _ {s : List ℕ} {room : ℕ} {w : Place} (f g : Forest) {rest : List ℕ} (z : FormAt s room w (join f g) rest) where
+  pub front-stands : FormAt s room w f (bytes g ++ rest)
   front-stands =
       record {
         form = z .form ∙ rw bytes-join (append-assoc (bytes f) (bytes g) rest);
@@ -179,7 +179,7 @@ module _ {s : List ℕ} {room : ℕ} {w : Place} (f g : Forest) {rest : List ℕ
         fits = omega (arith, z .fits, size-join f g);
       }
 
-  pub back-stands : (r : Place) → r .at ≡ w .at + length (bytes f) → r .to ≡ w .to + length (bytes (unroll f)) → Stands s room r g rest
+  pub back-stands : (r : Place) → r .at ≡ w .at + length (bytes f) → r .to ≡ w .to + length (bytes (unroll f)) → FormAt s room r g rest
   back-stands r e h =
       record {
         form =
@@ -198,7 +198,7 @@ pub record Cut (f : Forest) : Type 0 where
   pub one : One front
 
 module _ {s : List ℕ} {room : ℕ} {w : Place} where
-  cut : (f : Forest) (rest : List ℕ) → Ends rest → Stands s room w f rest → w .at < length s
+  cut : (f : Forest) (rest : List ℕ) → Ends rest → FormAt s room w f rest → w .at < length s
       → getD s (w .at) 0 ≢ 0x12 → getD s (w .at) 0 ≢ 0x21 → Cut f
   unfolding join bytes
   cut end [] n z e g h = absurd (omega (arith, remain z))
@@ -209,14 +209,14 @@ module _ {s : List ℕ} {room : ℕ} {w : Place} where
   cut (repeat k m b f) rest n z e g h = record { front = repeat k m b end; back = f; split = refl; one = one-repeat k m b }
 
   -- Where no close stands before the end, a sequence has a first item.
-  pub sequence-cut : {f : Forest} → Sequence s room w f → w .at < length s → getD s (w .at) 0 ≢ 0x12 → getD s (w .at) 0 ≢ 0x21 → Cut f
+  pub sequence-cut : {f : Forest} → SequenceAt s room w f → w .at < length s → getD s (w .at) 0 ≢ 0x12 → getD s (w .at) 0 ≢ 0x21 → Cut f
   sequence-cut {f} q e g h = cut f (q .rest) (q .ends) (q .stands) e g h
 
 -- Where no item begins, a sequence is empty.
 abbrev pub NoItem : List ℕ → Place → Type 0
 NoItem s w = w .at < length s → (getD s (w .at) 0 ≢ 0x10) × (getD s (w .at) 0 ≢ 0x11) × (getD s (w .at) 0 ≢ 0x20)
 
-pub sequence-ended : {s : List ℕ} {room : ℕ} {w : Place} (f : Forest) {rest : List ℕ} → Stands s room w f rest → NoItem s w → f ≡ end
+pub sequence-ended : {s : List ℕ} {room : ℕ} {w : Place} (f : Forest) {rest : List ℕ} → FormAt s room w f rest → NoItem s w → f ≡ end
 unfolding bytes
 sequence-ended end z e = refl
 sequence-ended (step l f) z e = absurd (e (omega (arith, remain z)) .0 (first-byte z))

@@ -9,14 +9,14 @@ use lib.Seq.{sets, length-sets}
 use Rattle.format.specs.Forest.{Forest, end, step, group, repeat, join, unroll, bytes}
 use Rattle.format.specs.Machine.{times}
 use Rattle.format.proofs.Forests.{join-end, join-assoc, bytes-join, unroll-join}
-use Rattle.unroller.specs.Writing.{Stands, Sequence, Item, Put}
+use Rattle.unroller.specs.Writing.{FormAt, SequenceAt, ItemAt, PassedOver}
 use Rattle.unroller.specs.declared.write.Place.{Place}
 use Rattle.format.proofs.Lists.{sets-append}
 use Rattle.unroller.proofs.Stores.{sets-part}
 use Rattle.unroller.proofs.Places.{unrolled-step, unrolled-group, unrolled-repeat, size-step, size-group, size-repeat, one-some, RepeatAt, GroupAt, item-step, front-stands, back-stands, Cut, sequence-cut, NoItem, sequence-ended}
 
 -- Writing keeps the length of the output.
-put-length : {a b : List ℕ} {w r : Place} {f : Forest} → Put a b w f r → length b ≡ length a
+put-length : {a b : List ℕ} {w r : Place} {f : Forest} → PassedOver a b w f r → length b ≡ length a
 put-length {a} {b} {w} {r} {f} y = ap length (y .output) ∙ length-sets a (w .to) (bytes (unroll f))
 
 -- The place behind the open and the label of a node.
@@ -31,7 +31,7 @@ pub opened-length : (s out : List ℕ) (w : Place) → length (opened s out w) �
 opened-length s out w = simp length-set
 
 -- A step is its command and its label.
-put-step : (out : List ℕ) (w : Place) (c l : ℕ) → c ≡ 0x10 → Put out (set (set out (w .to) c) (w .to + 1) l) w (step l end) (behind w)
+put-step : (out : List ℕ) (w : Place) (c l : ℕ) → c ≡ 0x10 → PassedOver out (set (set out (w .to) c) (w .to + 1) l) w (step l end) (behind w)
 unfolding bytes
 put-step out w c l e =
     record {
@@ -40,14 +40,14 @@ put-step out w c l e =
       output = let n : w .to + 1 ≡ suc (w .to) = omega arith in rw (unrolled-step l, e, n);
     }
 
-pub step-put : {s : List ℕ} (out : List ℕ) {w : Place} {f : Forest} → Item s (length out) w f → getD s (w .at) 0 ≡ 0x10
-    → Put out (opened s out w) w f (behind w)
+pub step-put : {s : List ℕ} (out : List ℕ) {w : Place} {f : Forest} → ItemAt s (length out) w f → getD s (w .at) 0 ≡ 0x10
+    → PassedOver out (opened s out w) w f (behind w)
 step-put {s} out {w} i e = rw (item-step i e) (put-step out w _ (getD s (w .at + 1) 0) e)
 
 -- A group is its open and its label, its body and its close.
 put-group : (out : List ℕ) (w : Place) (c l : ℕ) (b : Forest) (r : Place) (after : List ℕ) → c ≡ 0x11
-    → Put (set (set out (w .to) c) (w .to + 1) l) after (behind w) b r
-    → Put out (set after (r .to) 0x12) w (group l b end) (record { at = r .at + 1; to = r .to + 1 })
+    → PassedOver (set (set out (w .to) c) (w .to + 1) l) after (behind w) b r
+    → PassedOver out (set after (r .to) 0x12) w (group l b end) (record { at = r .at + 1; to = r .to + 1 })
 unfolding bytes
 put-group out w c l b r after e y =
     record {
@@ -63,12 +63,12 @@ put-group out w c l b r after e y =
     }
 
 module _ {s : List ℕ} (out : List ℕ) {w : Place} {f : Forest} (q : GroupAt s (length out) w f) where
-  pub group-inside : Sequence s (length (opened s out w)) (behind w) (q .body)
+  pub group-inside : SequenceAt s (length (opened s out w)) (behind w) (q .body)
   group-inside = q .inside (length (opened s out w)) (opened-length s out w)
 
   module _ {r : Place} {after : List ℕ}
-      (put : (b : Forest) → Sequence s (length (opened s out w)) (behind w) b → Put (opened s out w) after (behind w) b r) where
-    body-put : Put (opened s out w) after (behind w) (q .body) r
+      (put : (b : Forest) → SequenceAt s (length (opened s out w)) (behind w) b → PassedOver (opened s out w) after (behind w) b r) where
+    body-put : PassedOver (opened s out w) after (behind w) (q .body) r
     body-put = put (q .body) group-inside
 
     pub group-next : r .at < length s
@@ -77,16 +77,16 @@ module _ {s : List ℕ} (out : List ℕ) {w : Place} {f : Forest} (q : GroupAt s
     pub group-room : r .to < length after
     group-room = omega (arith, body-put .reached, q .fits, put-length body-put, opened-length s out w)
 
-    pub group-put : Put out (set after (r .to) 0x12) w f (record { at = r .at + 1; to = r .to + 1 })
+    pub group-put : PassedOver out (set after (r .to) 0x12) w f (record { at = r .at + 1; to = r .to + 1 })
     group-put = rw (q .is) (put-group out w _ (getD s (w .at + 1) 0) (q .body) r after (q .byte) body-put)
 
 -- A repeat is its body, written once and then copied on.
 put-repeat : (out : List ℕ) (w : Place) (h k : ℕ) (b : Forest) (r : Place) (after last : List ℕ) (to : ℕ) → 1 ≤ h
     → w .to + length (bytes (unroll b)) ≤ length out
-    → Put out after (record { at = w .at + 5; to = w .to }) b r
+    → PassedOver out after (record { at = w .at + 5; to = w .to }) b r
     → to ≡ r .to + (h - 1) * (r .to - w .to)
     → last ≡ sets after (r .to) (times (h - 1) (drop (w .to) (take (r .to) after)))
-    → Put out last w (repeat h k b end) (record { at = r .at + 1; to = to })
+    → PassedOver out last w (repeat h k b end) (record { at = r .at + 1; to = to })
 unfolding bytes
 put-repeat out w h k b r after last to some fits y there copied =
     let x = bytes (unroll b) in
@@ -108,9 +108,9 @@ module _ {s : List ℕ} (out : List ℕ) {w : Place} {f : Forest} (q : RepeatAt 
   repeat-some = omega (arith, q .operand, q .some)
 
   module _ {r : Place} {after : List ℕ}
-      (put : (b : Forest) → Sequence s (length out) (record { at = w .at + 5; to = w .to }) b
-      → Put out after (record { at = w .at + 5; to = w .to }) b r) where
-    pass-put : Put out after (record { at = w .at + 5; to = w .to }) (q .body) r
+      (put : (b : Forest) → SequenceAt s (length out) (record { at = w .at + 5; to = w .to }) b
+      → PassedOver out after (record { at = w .at + 5; to = w .to }) b r) where
+    pass-put : PassedOver out after (record { at = w .at + 5; to = w .to }) (q .body) r
     pass-put = put (q .body) (q .inside)
 
     pub repeat-next : r .at < length s
@@ -123,14 +123,14 @@ module _ {s : List ℕ} (out : List ℕ) {w : Place} {f : Forest} (q : RepeatAt 
 
     pub repeat-put : {to : ℕ} {last : List ℕ} → to ≡ r .to + (count - 1) * (r .to - w .to)
         → last ≡ sets after (r .to) (times (count - 1) (drop (w .to) (take (r .to) after)))
-        → Put out last w f (record { at = r .at + 1; to = to })
+        → PassedOver out last w f (record { at = r .at + 1; to = to })
     repeat-put {to} {last} e g =
         let n = read ∙ q .operand in
         rw (q .is)
         (put-repeat out w (q .count) (q .width) (q .body) r after last to (q .some) (omega (arith, q .fits)) pass-put (rw n at e) (rw n at g))
 
 -- One sequence behind another.
-put-join : {a b c : List ℕ} {w r q : Place} {f g : Forest} → Put a b w f r → Put b c r g q → Put a c w (join f g) q
+put-join : {a b c : List ℕ} {w r q : Place} {f g : Forest} → PassedOver a b w f r → PassedOver b c r g q → PassedOver a c w (join f g) q
 put-join {a} {b} {c} {w} {r} {q} {f} {g} y z =
     let e : bytes (unroll (join f g)) ≡ bytes (unroll f) ++ bytes (unroll g) = rw unroll-join (bytes-join (unroll f) (unroll g)) in
     record {
@@ -146,10 +146,10 @@ pub record Along (s before now : List ℕ) (w p : Place) (f : Forest) : Type 0 w
   pub done : Forest
   pub left : Forest
   pub split : join done left ≡ f
-  pub put : Put before now w done p
-  pub ahead : Sequence s (length before) p left
+  pub put : PassedOver before now w done p
+  pub ahead : SequenceAt s (length before) p left
 
-pub along-none : (s out : List ℕ) (w : Place) (f : Forest) → Sequence s (length out) w f → Along s out out w w f
+pub along-none : (s out : List ℕ) (w : Place) (f : Forest) → SequenceAt s (length out) w f → Along s out out w w f
 unfolding join unroll bytes
 along-none s out w f z =
     record {
@@ -164,7 +164,7 @@ module _ {s before now : List ℕ} {w p : Place} {f : Forest} (a : Along s befor
   pub along-length : length now ≡ length before
   along-length = put-length (a .put)
 
-  pub along-ends : NoItem s p → Put before now w f p
+  pub along-ends : NoItem s p → PassedOver before now w f p
   along-ends e =
       let n = sequence-ended (a .left) (a .ahead .stands) e in
       let m : a .done ≡ f = sym (join-end (a .done)) ∙ ap (join (a .done)) (sym n) ∙ a .split in
@@ -175,10 +175,10 @@ module _ {s before now : List ℕ} {w p : Place} {f : Forest} (a : Along s befor
     cut : Cut (a .left)
     cut = sequence-cut (a .ahead) there g h
 
-    stands : Stands s (length before) p (join (cut .front) (cut .back)) (a .ahead .rest)
+    stands : FormAt s (length before) p (join (cut .front) (cut .back)) (a .ahead .rest)
     stands = rw (cut .split) (a .ahead .stands)
 
-    next : Item s (length now) p (cut .front)
+    next : ItemAt s (length now) p (cut .front)
     next =
         record {
           rest = bytes (cut .back) ++ a .ahead .rest;
@@ -186,10 +186,10 @@ module _ {s before now : List ℕ} {w p : Place} {f : Forest} (a : Along s befor
           one = cut .one;
         }
 
-    pub along-item : (i : Forest) × Item s (length now) p i
+    pub along-item : (i : Forest) × ItemAt s (length now) p i
     along-item = (cut .front, next)
 
-    module _ {after : List ℕ} {r : Place} (put : (i : Forest) → Item s (length now) p i → Put now after p i r) where
+    module _ {after : List ℕ} {r : Place} (put : (i : Forest) → ItemAt s (length now) p i → PassedOver now after p i r) where
       pub along-further : p .at < r .at
       along-further = omega (arith, put (cut .front) next .passed, one-some (cut .one))
 

@@ -22,26 +22,26 @@ pub data One : Forest → Type 0 where
 
 -- At a place stands the byte form of f, sound at some width limit, with `rest` behind it; what f unrolls to has room in an
 -- output of that many bytes.
-pub record Stands (s : List ℕ) (room : ℕ) (w : Place) (f : Forest) (rest : List ℕ) : Type 0 where
+pub record FormAt (s : List ℕ) (room : ℕ) (w : Place) (f : Forest) (rest : List ℕ) : Type 0 where
   pub form : drop (w .at) s ≡ bytes f ++ rest
   pub allowed : Allowed
   pub sound : Sound allowed f
   pub fits : w .to + length (bytes (unroll f)) ≤ room
 
 -- At a place stands the sequence f, whole.
-pub record Sequence (s : List ℕ) (room : ℕ) (w : Place) (f : Forest) : Type 0 where
+pub record SequenceAt (s : List ℕ) (room : ℕ) (w : Place) (f : Forest) : Type 0 where
   pub rest : List ℕ
-  pub stands : Stands s room w f rest
+  pub stands : FormAt s room w f rest
   pub ends : Ends rest
 
 -- At a place stands the item f.
-pub record Item (s : List ℕ) (room : ℕ) (w : Place) (f : Forest) : Type 0 where
+pub record ItemAt (s : List ℕ) (room : ℕ) (w : Place) (f : Forest) : Type 0 where
   pub rest : List ℕ
-  pub stands : Stands s room w f rest
+  pub stands : FormAt s room w f rest
   pub one : One f
 
 -- From w to r the walk passed over f and wrote what it unrolls to, and nothing else.
-pub record Put (before after : List ℕ) (w : Place) (f : Forest) (r : Place) : Type 0 where
+pub record PassedOver (before after : List ℕ) (w : Place) (f : Forest) (r : Place) : Type 0 where
   pub passed : r .at ≡ w .at + length (bytes f)
   pub reached : r .to ≡ w .to + length (bytes (unroll f))
   pub output : after ≡ sets before (w .to) (bytes (unroll f))

@@ -11,7 +11,7 @@ returns : tie.Need-returns
 returns c =
     let known = c .before .before in
     let a = known .before .args in
-    with-meaning (a .fold .now) (a .costs .now) (a .limit) (a .first) (a .each) (λ i. known .shared-slice-known .given i .fits)
+    with-meaning (a .fold .now) (a .table .now) (a .limit) (a .first) (a .each) (λ i. known .shared-slice-known .given i .fits)
     (c .read-headed .result) (c .read-headed .ensures)
 
 pub read-fold-spec : {M : Type 1} → statement M

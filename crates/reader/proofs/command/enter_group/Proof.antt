@@ -13,21 +13,21 @@ refused-requires c κs = search needs
 
 returns : tie.Need-returns
 returns c =
-    let S = c .before .before .before .before in rw (c .refused .ensures) (group-short (S .args .a) (S .args .costs .now) (S .args .s .now) (S .args .d) (S .args .at) (S .args .t) (S .pre .0) (omega (arith, S .pre .0 .below)) _ _)
+    let S = c .before .before .before .before in rw (c .refused .ensures) (group-short (S .args .a) (S .args .table .now) (S .args .s .now) (S .args .d) (S .args .at) (S .args .t) (S .pre .0) (omega (arith, S .pre .0 .below)) _ _)
 
 refused-requires-2 : tie.Need-refused-requires-2
 refused-requires-2 c κs = search needs
 
 returns-2 : tie.Need-returns-2
 returns-2 c =
-    let S = c .before .before .before .before .before .before .before .before in rw (c .refused2 .ensures) (group-deep (S .args .a) (S .args .costs .now) (S .args .s .now) (S .args .d) (S .args .at) (S .args .t) (S .pre .0) (omega (arith, S .pre .0 .below)) (omega arith) _ _)
+    let S = c .before .before .before .before .before .before .before .before in rw (c .refused2 .ensures) (group-deep (S .args .a) (S .args .table .now) (S .args .s .now) (S .args .d) (S .args .at) (S .args .t) (S .pre .0) (omega (arith, S .pre .0 .below)) (omega arith) _ _)
 
 refused-requires-3 : tie.Need-refused-requires-3
 refused-requires-3 c κs = search needs
 
 returns-3 : tie.Need-returns-3
 returns-3 c =
-    let S = c .before .before .before .before .before .before .before .before .before .before .before in rw (c .refused3 .ensures) (group-full (S .args .a) (S .args .costs .now) (S .args .s .now) (S .args .d) (S .args .at) (S .args .t) (S .pre .0) (omega (arith, S .pre .0 .below)) (omega arith) (omega arith) _ _)
+    let S = c .before .before .before .before .before .before .before .before .before .before .before in rw (c .refused3 .ensures) (group-full (S .args .a) (S .args .table .now) (S .args .s .now) (S .args .d) (S .args .at) (S .args .t) (S .pre .0) (omega (arith, S .pre .0 .below)) (omega arith) (omega arith) _ _)
 
 add-price : tie.Need-add-price
 add-price c = search needs
@@ -52,7 +52,7 @@ add-t16 c = search needs
 
 returns-4 : tie.Need-returns-4
 returns-4 c =
-    let S = c .before .before .before .before .before .before .before .before .before .before .before .before .before .before .before in group-on (S .args .a) (S .args .costs .now) (S .args .s .now) (S .args .d) (S .args .at) (S .args .t) (S .pre .1 .0) (S .pre .0) (omega (arith, S .pre .0 .below, c .before .before .before .before .before .before .before .before .before .before .before .before .if1 .left)) (omega arith) (omega arith) _ (c .before .before .before .price .ensures .0) (c .before .before .before .price .ensures .1)
+    let S = c .before .before .before .before .before .before .before .before .before .before .before .before .before .before .before in group-on (S .args .a) (S .args .table .now) (S .args .s .now) (S .args .d) (S .args .at) (S .args .t) (S .pre .1 .0) (S .pre .0) (omega (arith, S .pre .0 .below, c .before .before .before .before .before .before .before .before .before .before .before .before .if1 .left)) (omega arith) (omega arith) _ (c .before .before .before .price .ensures .0) (c .before .before .before .price .ensures .1)
 
 pub enter-group-spec : {M : Type 1} → statement M
 enter-group-spec =

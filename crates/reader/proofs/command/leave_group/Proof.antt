@@ -10,7 +10,7 @@ refused-requires c κs = search needs
 
 returns : tie.Need-returns
 returns c =
-    let S = c .before .before .before .before in rw (c .refused .ensures) (left-open (S .args .a) (S .args .costs .now) (S .args .s .now) (S .args .d) (S .args .at) (S .args .t) (S .args .i) (S .pre .0) (S .pre .1 .1 .1 .0 .1) (c .before .if1 .taken) _ _)
+    let S = c .before .before .before .before in rw (c .refused .ensures) (left-open (S .args .a) (S .args .table .now) (S .args .s .now) (S .args .d) (S .args .at) (S .args .t) (S .args .i) (S .pre .0) (S .pre .1 .1 .1 .0 .1) (c .before .if1 .taken) _ _)
 
 shared-slice-read-if2 : tie.Need-shared-slice-read-if2
 shared-slice-read-if2 c = search needs
@@ -20,7 +20,7 @@ refused-requires-2 c κs = search needs
 
 returns-2 : tie.Need-returns-2
 returns-2 c =
-    let S = c .before .before .before .before .before .before .before .before in rw (c .refused2 .ensures) (group-empty (S .args .a) (S .args .costs .now) (S .args .s .now) (S .args .d) (S .args .at) (S .args .t) (S .args .i) (S .pre .0) (S .pre .1 .1 .1 .0 .1) (c .before .before .before .before .before .if1 .left) (c .before .before .before .if2 .taken) (c .before .if3 .taken) _)
+    let S = c .before .before .before .before .before .before .before .before in rw (c .refused2 .ensures) (group-empty (S .args .a) (S .args .table .now) (S .args .s .now) (S .args .d) (S .args .at) (S .args .t) (S .args .i) (S .pre .0) (S .pre .1 .1 .1 .0 .1) (c .before .before .before .before .before .if1 .left) (c .before .before .before .if2 .taken) (c .before .if3 .taken) _)
 
 add-t13 : tie.Need-add-t13
 add-t13 c = search needs
@@ -33,21 +33,21 @@ add-t15 c = search needs
 
 returns-3 : tie.Need-returns-3
 returns-3 c =
-    let S = c .before .before .before .before .before .before .before .before .before in group-left (S .args .a) (S .args .costs .now) (S .args .s .now) (S .args .d) (S .args .at) (S .args .t) (S .args .i) (S .pre .0) (S .pre .1 .1 .1 .0 .1) (c .before .before .before .before .before .before .if1 .left) (c .before .before .before .before .if2 .taken) (c .before .before .if3 .left) (omega (arith, S .pre .1))
+    let S = c .before .before .before .before .before .before .before .before .before in group-left (S .args .a) (S .args .table .now) (S .args .s .now) (S .args .d) (S .args .at) (S .args .t) (S .args .i) (S .pre .0) (S .pre .1 .1 .1 .0 .1) (c .before .before .before .before .before .before .if1 .left) (c .before .before .before .before .if2 .taken) (c .before .before .if3 .left) (omega (arith, S .pre .1))
 
 refused-requires-3 : tie.Need-refused-requires-3
 refused-requires-3 c κs = search needs
 
 returns-4 : tie.Need-returns-4
 returns-4 c =
-    let S = c .before .before .before .before .before .before .before in rw (c .refused3 .ensures) (group-crossed (S .args .a) (S .args .costs .now) (S .args .s .now) (S .args .d) (S .args .at) (S .args .t) (S .args .i) (S .pre .0) (S .pre .1 .1 .1 .0 .1) (c .before .before .before .before .if1 .left) (S .pre .0 .close (c .before .before .before .before .if1 .left) (c .before .before .if2 .left)) (c .before .if4 .taken) _)
+    let S = c .before .before .before .before .before .before .before in rw (c .refused3 .ensures) (group-crossed (S .args .a) (S .args .table .now) (S .args .s .now) (S .args .d) (S .args .at) (S .args .t) (S .args .i) (S .pre .0) (S .pre .1 .1 .1 .0 .1) (c .before .before .before .before .if1 .left) (S .pre .0 .close (c .before .before .before .before .if1 .left) (c .before .before .if2 .left)) (c .before .if4 .taken) _)
 
 refused-requires-4 : tie.Need-refused-requires-4
 refused-requires-4 c κs = search needs
 
 returns-5 : tie.Need-returns-5
 returns-5 c =
-    let S = c .before .before .before .before .before .before .before in rw (c .refused4 .ensures) (group-crossed-run (S .args .a) (S .args .costs .now) (S .args .s .now) (S .args .d) (S .args .at) (S .args .t) (S .args .i) (S .pre .0) (S .pre .1 .1 .1 .0 .1) (c .before .before .before .before .if1 .left) (S .pre .0 .close (c .before .before .before .before .if1 .left) (c .before .before .if2 .left)) (c .before .if4 .left) _)
+    let S = c .before .before .before .before .before .before .before in rw (c .refused4 .ensures) (group-crossed-run (S .args .a) (S .args .table .now) (S .args .s .now) (S .args .d) (S .args .at) (S .args .t) (S .args .i) (S .pre .0) (S .pre .1 .1 .1 .0 .1) (c .before .before .before .before .if1 .left) (S .pre .0 .close (c .before .before .before .before .if1 .left) (c .before .before .if2 .left)) (c .before .if4 .left) _)
 
 pub leave-group-spec : {M : Type 1} → statement M
 leave-group-spec =

@@ -25,7 +25,7 @@ returns c =
 
 returns-2 : tie.Need-returns-2
 returns-2 c =
-    let S = c .before .before .before in (sym (List·getD-eq-default (S .args .costs .now) 0 {n = S .args .label} (omega arith)), lit< tt)
+    let S = c .before .before .before in (sym (List·getD-eq-default (S .args .table .now) 0 {n = S .args .label} (omega arith)), lit< tt)
 
 pub price-spec : {M : Type 1} → statement M
 price-spec =

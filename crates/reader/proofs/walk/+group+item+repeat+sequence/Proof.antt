@@ -81,28 +81,28 @@ sequence-calls t = (item-below t, item.Post)
 group-enter-group-requires : (t : ℕ) → group-lts.Need-enter-group-requires (group-calls t) (group-start t) group.Post
 group-enter-group-requires t c κs =
     let S = c .before .before in
-    let R = rules-of (S .args .a) (S .args .costs .now) in
+    let R = rules-of (S .args .a) (S .args .table .now) in
     let s = S .args .s .now in
     (S .pre .1 .0, (S .pre .1 .1 .0, S .pre .1 .1 .1))
 
 group-returns : (t : ℕ) → group-lts.Need-returns (group-calls t) (group-start t) group.Post
 group-returns t c =
     let S = c .before .before .before .before .before in
-    let R = rules-of (S .args .a) (S .args .costs .now) in
+    let R = rules-of (S .args .a) (S .args .table .now) in
     let s = S .args .s .now in
     entry-refused R s (S .args .d) (in-group-of (S .args .d)) (S .args .at) (S .args .t) (a-group (S .args .t)) (group-deeper (S .args .d) (S .args .t)) 2 1 65535 (c .before .before .enter-group .result) (c .before .before .enter-group .ensures) (c .if1 .taken)
 
 group-add-t15 : (t : ℕ) → group-lts.Need-add-t15 (group-calls t) (group-start t) group.Post
 group-add-t15 t c =
     let S = c .before .before .before .before .before .before .before in
-    let R = rules-of (S .args .a) (S .args .costs .now) in
+    let R = rules-of (S .args .a) (S .args .table .now) in
     let s = S .args .s .now in
     omega (arith, S .pre .1 .1 .0 .groups)
 
 group-sequence-requires : (t : ℕ) → group-lts.Need-sequence-requires (group-calls t) (group-start t) group.Post
 group-sequence-requires t c κs =
     let S = c .before .before .before .before .before .before .before in
-    let R = rules-of (S .args .a) (S .args .costs .now) in
+    let R = rules-of (S .args .a) (S .args .table .now) in
     let s = S .args .s .now in
     let e = c .before .before .before .before .enter-group .ensures in
     let z = c .before .before .if1 .left in
@@ -113,14 +113,14 @@ group-sequence-requires t c κs =
 group-returns-2 : (t : ℕ) → group-lts.Need-returns-2 (group-calls t) (group-start t) group.Post
 group-returns-2 t c =
     let S = c .before .before .before .before .before .before .before .before .before .before in
-    let R = rules-of (S .args .a) (S .args .costs .now) in
+    let R = rules-of (S .args .a) (S .args .table .now) in
     let s = S .args .s .now in
     inside-refused R s (S .args .d) (in-group-of (S .args .d)) (S .args .at) (S .args .t) (a-group (S .args .t)) (group-deeper (S .args .d) (S .args .t)) 2 1 65535 (c .before .before .before .before .before .before .before .enter-group .result) (c .before .before .before .before .before .before .before .enter-group .ensures) (c .before .before .before .before .before .if1 .left) (c .before .before .sequence .result) (c .before .before .sequence .ensures) (c .if2 .taken)
 
 group-leave-group-requires : (t : ℕ) → group-lts.Need-leave-group-requires (group-calls t) (group-start t) group.Post
 group-leave-group-requires t c κs =
     let S = c .before .before .before .before .before .before .before .before .before .before .before in
-    let R = rules-of (S .args .a) (S .args .costs .now) in
+    let R = rules-of (S .args .a) (S .args .table .now) in
     let s = S .args .s .now in
     let e = c .before .before .before .before .before .before .before .before .enter-group .ensures in
     let z = c .before .before .before .before .before .before .if1 .left in
@@ -137,21 +137,21 @@ group-leave-group-requires t c κs =
 group-returns-3 : (t : ℕ) → group-lts.Need-returns-3 (group-calls t) (group-start t) group.Post
 group-returns-3 t c =
     let S = c .before .before .before .before .before .before .before .before .before .before .before .before in
-    let R = rules-of (S .args .a) (S .args .costs .now) in
+    let R = rules-of (S .args .a) (S .args .table .now) in
     let s = S .args .s .now in
     through R s (S .args .d) (in-group-of (S .args .d)) (S .args .at) (S .args .t) (a-group (S .args .t)) (group-deeper (S .args .d) (S .args .t)) 2 1 65535 (c .before .before .before .before .before .before .before .before .before .enter-group .result) (c .before .before .before .before .before .before .before .before .before .enter-group .ensures) (c .before .before .before .before .before .before .before .if1 .left) (c .before .before .before .before .sequence .result) (c .before .before .before .before .sequence .ensures) (c .before .before .if2 .left) (c .leave-group .result) (c .leave-group .ensures)
 
 item-shared-slice-read-c : (t : ℕ) → item-lts.Need-shared-slice-read-c (item-calls t) (item-start t) item.Post
 item-shared-slice-read-c t c =
     let S = c .before .before .before in
-    let R = rules-of (S .args .a) (S .args .costs .now) in
+    let R = rules-of (S .args .a) (S .args .table .now) in
     let s = S .args .s .now in
     S .pre .1 .0 .below
 
 item-step-requires : (t : ℕ) → item-lts.Need-step-requires (item-calls t) (item-start t) item.Post
 item-step-requires t c κs =
     let S = c .before .before .before .before in
-    let R = rules-of (S .args .a) (S .args .costs .now) in
+    let R = rules-of (S .args .a) (S .args .table .now) in
     let s = S .args .s .now in
     ((record { below = S .pre .1 .0 .below; byte = c .if1 .taken }), (S .pre .1 .1 .0, S .pre .1 .1 .1))
 
@@ -161,7 +161,7 @@ item-returns t c = c .step .ensures
 item-group-requires : (t : ℕ) → item-lts.Need-group-requires (item-calls t) (item-start t) item.Post
 item-group-requires t c κs =
     let S = c .before .before .before .before .before in
-    let R = rules-of (S .args .a) (S .args .costs .now) in
+    let R = rules-of (S .args .a) (S .args .table .now) in
     let s = S .args .s .now in
     (omega (arith, S .pre .0), ((record { below = S .pre .1 .0 .below; byte = c .if2 .taken }), S .pre .1 .1))
 
@@ -171,7 +171,7 @@ item-returns-2 t c = c .group .ensures
 item-repeat-requires : (t : ℕ) → item-lts.Need-repeat-requires (item-calls t) (item-start t) item.Post
 item-repeat-requires t c κs =
     let S = c .before .before .before .before .before .before in
-    let R = rules-of (S .args .a) (S .args .costs .now) in
+    let R = rules-of (S .args .a) (S .args .table .now) in
     let s = S .args .s .now in
     (omega (arith, S .pre .0), ((record { below = S .pre .1 .0 .below; byte = c .if3 .taken }), S .pre .1 .1))
 
@@ -184,28 +184,28 @@ item-refused-requires t c κs = tt
 item-returns-4 : (t : ℕ) → item-lts.Need-returns-4 (item-calls t) (item-start t) item.Post
 item-returns-4 t c =
     let S = c .before .before .before .before .before .before .before in
-    let R = rules-of (S .args .a) (S .args .costs .now) in
+    let R = rules-of (S .args .a) (S .args .table .now) in
     let s = S .args .s .now in
     rw (c .refused .ensures) (item-unknown R s (S .args .d) (S .args .at) (S .args .t) _ (S .pre .1 .0) (c .before .before .before .if1 .left) (c .before .before .if2 .left) (c .before .if3 .left))
 
 repeat-enter-repeat-requires : (t : ℕ) → repeat-lts.Need-enter-repeat-requires (repeat-calls t) (repeat-start t) repeat.Post
 repeat-enter-repeat-requires t c κs =
     let S = c .before .before in
-    let R = rules-of (S .args .a) (S .args .costs .now) in
+    let R = rules-of (S .args .a) (S .args .table .now) in
     let s = S .args .s .now in
     (S .pre .1 .0, (S .pre .1 .1 .0, S .pre .1 .1 .1))
 
 repeat-returns : (t : ℕ) → repeat-lts.Need-returns (repeat-calls t) (repeat-start t) repeat.Post
 repeat-returns t c =
     let S = c .before .before .before .before .before in
-    let R = rules-of (S .args .a) (S .args .costs .now) in
+    let R = rules-of (S .args .a) (S .args .table .now) in
     let s = S .args .s .now in
     entry-refused R s (S .args .d) (in-repeat-of (S .args .d)) (S .args .at) (S .args .t) (repeat-at s (S .args .at) (S .args .t)) (repeat-deeper (S .args .d) (word-at s (S .args .at + 1)) (word-at s (S .args .at + 3)) (S .args .t)) 0 0 4294967295 (c .before .before .enter-repeat .result) (c .before .before .enter-repeat .ensures .0) (c .if1 .taken)
 
 repeat-add-operand : (t : ℕ) → repeat-lts.Need-add-operand (repeat-calls t) (repeat-start t) repeat.Post
 repeat-add-operand t c =
     let S = c .before .before .before .before .before in
-    let R = rules-of (S .args .a) (S .args .costs .now) in
+    let R = rules-of (S .args .a) (S .args .table .now) in
     let s = S .args .s .now in
     omega (arith, c .before .before .enter-repeat .ensures .1 (c .if1 .left))
 
@@ -215,7 +215,7 @@ repeat-operand-requires t c κs = tt
 repeat-add-operand-2 : (t : ℕ) → repeat-lts.Need-add-operand-2 (repeat-calls t) (repeat-start t) repeat.Post
 repeat-add-operand-2 t c =
     let S = c .before .before .before .before .before .before in
-    let R = rules-of (S .args .a) (S .args .costs .now) in
+    let R = rules-of (S .args .a) (S .args .table .now) in
     let s = S .args .s .now in
     omega (arith, c .before .before .before .enter-repeat .ensures .1 (c .before .if1 .left))
 
@@ -225,14 +225,14 @@ repeat-operand-requires-2 t c κs = tt
 repeat-add-t17 : (t : ℕ) → repeat-lts.Need-add-t17 (repeat-calls t) (repeat-start t) repeat.Post
 repeat-add-t17 t c =
     let S = c .before .before .before .before .before .before .before .before .before in
-    let R = rules-of (S .args .a) (S .args .costs .now) in
+    let R = rules-of (S .args .a) (S .args .table .now) in
     let s = S .args .s .now in
     omega (arith, S .pre .1 .1 .0 .repeats)
 
 repeat-sequence-requires : (t : ℕ) → repeat-lts.Need-sequence-requires (repeat-calls t) (repeat-start t) repeat.Post
 repeat-sequence-requires t c κs =
     let S = c .before .before .before .before .before .before .before .before .before in
-    let R = rules-of (S .args .a) (S .args .costs .now) in
+    let R = rules-of (S .args .a) (S .args .table .now) in
     let s = S .args .s .now in
     let e = c .before .before .before .before .before .before .enter-repeat .ensures .0 in
     let z = c .before .before .before .before .if1 .left in
@@ -243,14 +243,14 @@ repeat-sequence-requires t c κs =
 repeat-returns-2 : (t : ℕ) → repeat-lts.Need-returns-2 (repeat-calls t) (repeat-start t) repeat.Post
 repeat-returns-2 t c =
     let S = c .before .before .before .before .before .before .before .before .before .before .before .before in
-    let R = rules-of (S .args .a) (S .args .costs .now) in
+    let R = rules-of (S .args .a) (S .args .table .now) in
     let s = S .args .s .now in
     inside-refused R s (S .args .d) (in-repeat-of (S .args .d)) (S .args .at) (S .args .t) (repeat-at s (S .args .at) (S .args .t)) (repeat-deeper (S .args .d) (word-at s (S .args .at + 1)) (word-at s (S .args .at + 3)) (S .args .t)) 0 0 4294967295 (c .before .before .before .before .before .before .before .before .before .enter-repeat .result) (c .before .before .before .before .before .before .before .before .before .enter-repeat .ensures .0) (c .before .before .before .before .before .before .before .if1 .left) (c .before .before .sequence .result) (c .before .before .sequence .ensures) (c .if2 .taken)
 
 repeat-leave-repeat-requires : (t : ℕ) → repeat-lts.Need-leave-repeat-requires (repeat-calls t) (repeat-start t) repeat.Post
 repeat-leave-repeat-requires t c κs =
     let S = c .before .before .before .before .before .before .before .before .before .before .before .before .before in
-    let R = rules-of (S .args .a) (S .args .costs .now) in
+    let R = rules-of (S .args .a) (S .args .table .now) in
     let s = S .args .s .now in
     let e = c .before .before .before .before .before .before .before .before .before .before .enter-repeat .ensures .0 in
     let z = c .before .before .before .before .before .before .before .before .if1 .left in
@@ -268,20 +268,20 @@ repeat-leave-repeat-requires t c κs =
 repeat-returns-3 : (t : ℕ) → repeat-lts.Need-returns-3 (repeat-calls t) (repeat-start t) repeat.Post
 repeat-returns-3 t c =
     let S = c .before .before .before .before .before .before .before .before .before .before .before .before .before .before in
-    let R = rules-of (S .args .a) (S .args .costs .now) in
+    let R = rules-of (S .args .a) (S .args .table .now) in
     let s = S .args .s .now in
     through R s (S .args .d) (in-repeat-of (S .args .d)) (S .args .at) (S .args .t) (repeat-at s (S .args .at) (S .args .t)) (repeat-deeper (S .args .d) (word-at s (S .args .at + 1)) (word-at s (S .args .at + 3)) (S .args .t)) 0 0 4294967295 (c .before .before .before .before .before .before .before .before .before .before .before .enter-repeat .result) (c .before .before .before .before .before .before .before .before .before .before .before .enter-repeat .ensures .0) (c .before .before .before .before .before .before .before .before .before .if1 .left) (c .before .before .before .before .sequence .result) (c .before .before .before .before .sequence .ensures) (c .before .before .if2 .left) (c .leave-repeat .result) (rw (c .before .before .before .before .before .before .before .before .operand .ensures .0, c .before .before .before .before .before .before .before .operand2 .ensures .0) at (c .leave-repeat .ensures))
 
 abbrev sequence-Inv : sequence-lts.InvT-loop
-sequence-Inv s costs a at d p₀ now₀ p now = Along (rules-of a costs) s d at now₀ p now
+sequence-Inv s table a at d p₀ now₀ p now = Along (rules-of a table) s d at now₀ p now
 
 abbrev sequence-μ : sequence-lts.MeasureT-loop
-sequence-μ s costs a at d p₀ now₀ p now = length s - p
+sequence-μ s table a at d p₀ now₀ p now = length s - p
 
 sequence-loop-holds : (t : ℕ) → sequence-lts.Need-loop-holds (sequence-calls t) (sequence-start t) sequence.Post sequence-Inv sequence-μ
 sequence-loop-holds t c =
     let S = c .before .before in
-    let R = rules-of (S .args .a) (S .args .costs .now) in
+    let R = rules-of (S .args .a) (S .args .table .now) in
     let s = S .args .s .now in
     along-none R s (S .args .d) (S .args .at) (S .args .t) (S .pre .1 .0) (S .pre .1 .1 .0 .nodes)
 
@@ -291,28 +291,28 @@ sequence-shared-slice-read-c t c = omega arith
 sequence-returns : (t : ℕ) → sequence-lts.Need-returns (sequence-calls t) (sequence-start t) sequence.Post sequence-Inv sequence-μ
 sequence-returns t c =
     let S = c .before .before .before .before .before .before in
-    let R = rules-of (S .args .a) (S .args .costs .now) in
+    let R = rules-of (S .args .a) (S .args .table .now) in
     let s = S .args .s .now in
     along-ends R s (S .args .d) (S .args .at) (S .args .t) (c .before .before .before .loop .p) (c .before .before .before .loop .now) (c .before .before .before .loop .inv) (record { within = c .before .before .before .loop .inv .within; close = λ _ n. absurd (n (c .if1 .taken)) })
 
 sequence-returns-2 : (t : ℕ) → sequence-lts.Need-returns-2 (sequence-calls t) (sequence-start t) sequence.Post sequence-Inv sequence-μ
 sequence-returns-2 t c =
     let S = c .before .before .before .before .before .before .before in
-    let R = rules-of (S .args .a) (S .args .costs .now) in
+    let R = rules-of (S .args .a) (S .args .table .now) in
     let s = S .args .s .now in
     along-ends R s (S .args .d) (S .args .at) (S .args .t) (c .before .before .before .before .loop .p) (c .before .before .before .before .loop .now) (c .before .before .before .before .loop .inv) (record { within = c .before .before .before .before .loop .inv .within; close = λ _ _. c .if2 .taken })
 
 sequence-item-requires : (t : ℕ) → sequence-lts.Need-item-requires (sequence-calls t) (sequence-start t) sequence.Post sequence-Inv sequence-μ
 sequence-item-requires t c κs =
     let S = c .before .before .before .before .before .before .before in
-    let R = rules-of (S .args .a) (S .args .costs .now) in
+    let R = rules-of (S .args .a) (S .args .table .now) in
     let s = S .args .s .now in
     (omega (arith, S .pre .0, c .before .before .before .before .loop .inv .ahead, c .before .before .before .loop-test .taken), (record { below = c .before .before .before .loop-test .taken; no-group-end = c .before .if1 .left; no-repeat-end = c .if2 .left }, (room-grown (S .args .a .limits) (S .args .d) (S .args .t) (c .before .before .before .before .loop .now) (S .pre .1 .1 .0) (c .before .before .before .before .loop .inv .grown), S .pre .1 .1 .1)))
 
 sequence-returns-3 : (t : ℕ) → sequence-lts.Need-returns-3 (sequence-calls t) (sequence-start t) sequence.Post sequence-Inv sequence-μ
 sequence-returns-3 t c =
     let S = c .before .before .before .before .before .before .before .before .before .before in
-    let R = rules-of (S .args .a) (S .args .costs .now) in
+    let R = rules-of (S .args .a) (S .args .table .now) in
     let s = S .args .s .now in
     along-refused R s (S .args .d) (S .args .at) (S .args .t) (c .before .before .before .before .before .before .before .loop .p) (c .before .before .before .before .before .before .before .loop .now) (c .before .before .before .before .before .before .before .loop .inv) (c .before .before .item .result) (c .before .before .item .ensures) (c .if3 .taken)
 
@@ -322,14 +322,14 @@ sequence-loop-less t c = omega (arith, c .before .before .before .item .ensures 
 sequence-loop-again : (t : ℕ) → sequence-lts.Need-loop-again (sequence-calls t) (sequence-start t) sequence.Post sequence-Inv sequence-μ
 sequence-loop-again t c =
     let S = c .before .before .before .before .before .before .before .before .before .before .before in
-    let R = rules-of (S .args .a) (S .args .costs .now) in
+    let R = rules-of (S .args .a) (S .args .table .now) in
     let s = S .args .s .now in
     along-more R s (S .args .d) (S .args .at) (S .args .t) (c .before .before .before .before .before .before .before .before .loop .p) (c .before .before .before .before .before .before .before .before .loop .now) (c .before .before .before .before .before .before .before .before .loop .inv) (c .before .before .before .item .result) (c .before .before .before .item .ensures) (c .before .if3 .left)
 
 sequence-returns-4 : (t : ℕ) → sequence-lts.Need-returns-4 (sequence-calls t) (sequence-start t) sequence.Post sequence-Inv sequence-μ
 sequence-returns-4 t c =
     let S = c .before .before .before .before in
-    let R = rules-of (S .args .a) (S .args .costs .now) in
+    let R = rules-of (S .args .a) (S .args .table .now) in
     let s = S .args .s .now in
     along-ends R s (S .args .d) (S .args .at) (S .args .t) (c .before .loop .p) (c .before .loop .now) (c .before .loop .inv) (record { within = c .before .loop .inv .within; close = λ n _. absurd (n (omega (arith, c .before .loop .inv .within, c .loop-test .left))) })
 

@@ -9,7 +9,7 @@ use borrow.Fn.Kinds.{In}
 use borrow.Fn.PlainCycle.{Measures, is, falls, and}
 use Rattle.format.specs.Forest.{Forest}
 use Rattle.reader.proofs.operand.Reads as operand-reads
-use Rattle.unroller.specs.Writing.{Sequence}
+use Rattle.unroller.specs.Writing.{SequenceAt}
 use Rattle.unroller.proofs.Places.{RepeatAt, GroupAt, item-there, item-repeat, item-node, item-group}
 use Rattle.unroller.proofs.Walks.{opened-length, step-put, group-inside, group-next, group-room, group-put, repeat-some, repeat-next, repeat-room, repeat-put, Along, along-none, along-length, along-ends, along-item, along-further, along-more}
 use Rattle.unroller.proofs.write.copy_on.Reads as copy-on-reads
@@ -180,7 +180,7 @@ module _ (t : ℕ) where
       λ f i. group-put (S .args .out .now) (item-group i (p .before .before .before .before .if1 .left) (p .before .before .if2 .left)) (p .put-sequence2 .ensures)
 
 abbrev Inv-loop : sequence-lts.InvT-loop
-Inv-loop s out₀ p₀ out p = (f : Forest) → Sequence s (length out₀) p₀ f → Along s out₀ out p₀ p f
+Inv-loop s out₀ p₀ out p = (f : Forest) → SequenceAt s (length out₀) p₀ f → Along s out₀ out p₀ p f
 
 abbrev μ-loop : sequence-lts.MeasureT-loop
 μ-loop s out₀ p₀ out p = length s - p .at
