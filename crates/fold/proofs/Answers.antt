@@ -12,7 +12,7 @@ use Rattle.format.specs.Limits.{limits, priced}
 use Rattle.format.specs.Order.{Bytes}
 use Rattle.format.specs.Forest.{bytes, at-most}
 use Rattle.format.specs.Machine.{Outcome, refused, accepted, read}
-use Rattle.format.specs.Readings.{run-rules, run-answer, run-reading}
+use Rattle.format.specs.Readings.{run-rules, as-run-reading, run-reading}
 use Rattle.format.specs.Tree.{tree-of}
 use Rattle.format.specs.declared.RunReading.{RunReading}
 use Rattle.format.specs.declared.Folded.{Folded}
@@ -21,7 +21,7 @@ use Rattle.format.proofs.Bridge.{sound-widest, sound-within}
 use Rattle.optimum.specs.Cheapest.{cheapest}
 use Rattle.optimum.proofs.Cheapest.{cheapest-optimal}
 use Rattle.optimum.proofs.Demands.{run-shape, run-nodes}
-use Rattle.folder.specs.Folding.{Verdict, refuses, folds, of-run, folding, fold-answer, fold-output}
+use Rattle.folder.specs.Folding.{Verdict, refuses, folds, verdict, folding, fold-answer, fold-output}
 use Rattle.fold.specs.Text.{three-lines, refusal-line}
 use Rattle.fold.specs.Printed.{lines-of, printed}
 use Rattle.fold.proofs.Room.{fold-short, enough-work, too-little-work}
@@ -35,7 +35,7 @@ decided : (s : List ℕ) → Bytes s → Decided (run-reading s .nodes) (folding
 unfolding run-reading folding
 decided s small = by-outcome (read run-rules s) refl
   where
-    by-outcome : (o : Outcome) → read run-rules s ≡ o → Decided (run-answer o .nodes) (of-run (at-most (limits .width)) (priced (replicate 256 1) 1 0) s o)
+    by-outcome : (o : Outcome) → read run-rules s ≡ o → Decided (as-run-reading o .nodes) (verdict (at-most (limits .width)) (priced (replicate 256 1) 1 0) s o)
     by-outcome (refused n p) e = refusing n p (refused-some run-rules s n p e)
     by-outcome (accepted t x) e =
         let k = limits .width in

@@ -1,6 +1,6 @@
 -- The folder's answer as a whole: what the run and the prices decide, what fold_run rests on, and what the slices then hold.
 use mathlib.Core.Path.{_≡_, refl, sym, ap, _∙_}
-use mathlib.Core.Bool.{Bool, true, false}
+use mathlib.Core.Bool.{Bool, true, false, true≢false}
 use mathlib.Core.List.{List, _++_}
 use Prim.Native.Nat.{ℕ, zero, suc, _+_, _-_, _*_, _<_, _≤_}
 use native.Mathlib.Nat.{mul-le-mul, zero-add}
@@ -9,27 +9,31 @@ use native.Mathlib.Omega.{arith}
 use lib.Dec.{ltb}
 use lib.ListN.{length, getD, take, drop, List·getD-eq-default}
 use lib.Seq.{take-at}
-use borrow.Author.Tests.{lt-ltb, ltb-true, le-ltb, eq-eqb, ne-eqb}
+use borrow.Author.Tests.{ltb-false, ltb-true}
 use Rattle.format.specs.Limits.{limits, Prices, priced, of-repeat}
 use Rattle.format.specs.Order.{Bytes}
 use Rattle.format.specs.Forest.{nodes, bytes, at-most}
 use Rattle.format.specs.Machine.{Outcome, refused, accepted, read}
-use Rattle.format.specs.Readings.{run-rules, run-answer, run-reading}
+use Rattle.format.specs.Head.{full-head}
+use Rattle.format.specs.Readings.{run-rules, format-rules, as-run-reading, run-outcome}
 use Rattle.format.specs.Tree.{tree-of}
 use Rattle.format.specs.declared.Tally.{Tally}
 use Rattle.format.specs.declared.RunReading.{RunReading}
 use Rattle.format.specs.declared.Folded.{Folded}
+use Rattle.format.proofs.Heads.{headed-accepted, headed-narrow, headed-each}
 use Rattle.format.proofs.Bridge.{sound-widest, sound-within}
 use Rattle.format.proofs.Refusals.{refused-some, refused-small}
 use Rattle.optimum.specs.Cheapest.{cheapest, best-cost}
+use Rattle.optimum.specs.Verdict.{Verdict, refuses, folds, verdict}
 use Rattle.optimum.specs.Demands.{CheapestWithin, CheapestOver, MinimumTree}
 use Rattle.optimum.proofs.Demands.{run-form, run-shape, run-nodes, cheapest-small, cheapest-bytes}
 use Rattle.optimum.proofs.Minimum.{cheapest-minimum}
 use Rattle.table.specs.Listing.{Spelled}
 use Rattle.filling.specs.Filling.{Prepared, prices-of, LevelReady}
 use Rattle.table.specs.Table.{cells}
-use Rattle.folder.specs.Folding.{Verdict, refuses, folds, of-run, folding, fold-answer, fold-output, fold-work}
-use Rattle.folder.specs.Run.{PriceList, RunFolded}
+use Rattle.folder.specs.Folding.{folding, short-work, fold-answer, fold-output, fold-work}
+use Rattle.folder.specs.inner.Prices.{PriceList}
+use Rattle.folder.specs.inner.Run.{RunFolded}
 
 -- The list of repeat prices is that of the two lent ones.
 module _ (table prices : List ℕ) (first each : ℕ) (p : PriceList first each prices) where
@@ -39,7 +43,7 @@ module _ (table prices : List ℕ) (first each : ℕ) (p : PriceList first each 
   each-is : getD prices 3 0 - getD prices 2 0 ≡ each
   each-is = omega (arith, first-is, p .price-of 3 (omega arith) (omega arith))
 
-  pub prices-same : prices-of table prices ≡ priced table first each
+  prices-same : prices-of table prices ≡ priced table first each
   prices-same = rw (each-is, first-is)
 
   pub prepared : first < 65536 → each < 65536 → ((l : ℕ) → getD table l 0 < 65536) → Prepared table prices
@@ -64,98 +68,112 @@ module _ (table prices : List ℕ) (first each : ℕ) (p : PriceList first each 
         | no b ↦ omega (arith, List·getD-eq-default prices 0 {n = suc (suc h)} (omega (arith, p .long)))
       ]
 
--- The verdict, as each test decides it.
-module _ (s : List ℕ) (k : ℕ) (table : List ℕ) (first each : ℕ) where
-  pub verdict-table : (length table ≡ 256 → ⊥) → folding s k table first each ≡ refuses 11 0
+-- The two lent ones are widened first.
+pub prices-priced : (table prices : List ℕ) (first each wide-first wide-each : ℕ) → wide-first ≡ first → wide-each ≡ each → PriceList wide-first wide-each prices
+    → prices-of table prices ≡ priced table first each
+prices-priced table prices first each wide-first wide-each a b p = prices-same table prices wide-first wide-each p ∙ rw (a, b)
+
+-- The verdict, as the admission decides it.
+module _ (s : List ℕ) (k : ℕ) (table : List ℕ) (first each : ℕ) (r : RunReading) (admitted : r ≡ as-run-reading (run-outcome (full-head table k) s)) where
+  verdict-at : (o : Outcome) → run-outcome (full-head table k) s ≡ o → folding s k table first each ≡ verdict (at-most k) (priced table first each) s o
   unfolding folding
-  verdict-table e = rw (ne-eqb _ _ e)
+  verdict-at o e = rw e
 
-  module _ (whole-table : length table ≡ 256) where
-    pub verdict-limit : limits .width < k → folding s k table first each ≡ refuses 12 0
-    unfolding folding
-    verdict-limit e = rw (eq-eqb _ _ whole-table, lt-ltb _ _ e)
+  answer-at : (o : Outcome) → run-outcome (full-head table k) s ≡ o → r ≡ as-run-reading o
+  answer-at o e = admitted ∙ ap as-run-reading e
 
-    module _ (narrow : k ≤ limits .width) (r : RunReading) (reading : r ≡ run-reading s) where
-      verdict-read : (o : Outcome) → read run-rules s ≡ o → folding s k table first each ≡ of-run (at-most k) (priced table first each) s o
-      unfolding folding
-      verdict-read o e = rw (eq-eqb _ _ whole-table, le-ltb _ _ narrow, e)
+  pub verdict-refused : (r .refusal ≡ 0 → ⊥) → folding s k table first each ≡ refuses (r .refusal) (r .place)
+  verdict-refused z = by-outcome (run-outcome (full-head table k) s) refl
+    where
+      by-outcome : (o : Outcome) → run-outcome (full-head table k) s ≡ o → folding s k table first each ≡ refuses (r .refusal) (r .place)
+      by-outcome (refused n p) e = verdict-at (refused n p) e ∙ rw (answer-at (refused n p) e)
+      by-outcome (accepted t x) e = absurd (z (ap (λ (y : RunReading). y .refusal) (answer-at (accepted t x) e)))
 
-      pub verdict-refused : (r .refusal ≡ 0 → ⊥) → folding s k table first each ≡ refuses (r .refusal) (r .place)
-      unfolding run-reading
-      verdict-refused z = by-outcome (read run-rules s) refl
-        where
-          by-outcome : (o : Outcome) → read run-rules s ≡ o → folding s k table first each ≡ refuses (r .refusal) (r .place)
-          by-outcome (refused n p) e = let q = reading ∙ ap run-answer e in verdict-read (refused n p) e ∙ rw q
-          by-outcome (accepted t x) e = let q = reading ∙ ap run-answer e in absurd (z (ap (λ (y : RunReading). y .refusal) q))
+  -- A number of the admission is none of the folder's own, and 0 only where the run is accepted.
+  number-low : (n p : ℕ) → run-outcome (full-head table k) s ≡ refused n p → (n ≡ 0 → ⊥) × (n ≡ 14 → ⊥)
+  unfolding run-outcome
+  number-low =
+      headed-each limits (full-head table k) (read run-rules s) (λ n. (n ≡ 0 → ⊥) × (n ≡ 14 → ⊥)) (omega arith, omega arith) (omega arith, omega arith)
+      (λ n p e. (refused-some run-rules s n p e, λ z. omega (arith, refused-small run-rules s n p e)))
 
-      -- The run's own refusals are not the folder's.
-      pub run-number : r .refusal ≡ 14 → ⊥
-      unfolding run-reading
-      run-number z = by-outcome (read run-rules s) refl
-        where
-          by-outcome : (o : Outcome) → read run-rules s ≡ o → ⊥
-          by-outcome (refused n p) e = omega (arith, refused-small run-rules s n p e, ap (λ (y : RunReading). y .refusal) (reading ∙ ap run-answer e))
-          by-outcome (accepted t x) e = omega (arith, ap (λ (y : RunReading). y .refusal) (reading ∙ ap run-answer e))
+  pub run-number : r .refusal ≡ 14 → ⊥
+  run-number z = by-outcome (run-outcome (full-head table k) s) refl
+    where
+      by-outcome : (o : Outcome) → run-outcome (full-head table k) s ≡ o → ⊥
+      by-outcome (refused n p) e = number-low n p e .1 (sym (ap (λ (y : RunReading). y .refusal) (answer-at (refused n p) e)) ∙ z)
+      by-outcome (accepted t x) e = omega (arith, ap (λ (y : RunReading). y .refusal) (answer-at (accepted t x) e))
 
-      -- An accepted run: its tree, and the verdict.
-      pub record Accepted : Type 0 where
-        pub tally : Tally
-        pub text : List ℕ
-        pub accepts : read run-rules s ≡ accepted tally text
-        pub count : tally .nodes ≡ r .nodes
+  -- An accepted run: its reading, and the verdict.
+  pub record Accepted : Type 0 where
+    pub tally : Tally
+    pub text : List ℕ
+    pub admits : run-outcome (full-head table k) s ≡ accepted tally text
+    pub all : tally .nodes ≡ r .nodes
 
-      pub accepted-run : r .refusal ≡ 0 → Accepted
-      unfolding run-reading
-      accepted-run z = by-outcome (read run-rules s) refl
-        where
-          by-outcome : (o : Outcome) → read run-rules s ≡ o → Accepted
-          by-outcome (refused n p) e =
-              let q = reading ∙ ap run-answer e in
-              absurd (refused-some run-rules s n p e (sym (ap (λ (y : RunReading). y .refusal) q) ∙ z))
-          by-outcome (accepted t x) e =
-              let q = reading ∙ ap run-answer e in
-              record { tally = t; text = x; accepts = e; count = sym (ap (λ (y : RunReading). y .nodes) q) }
+  pub accepted-run : r .refusal ≡ 0 → Accepted
+  accepted-run z = by-outcome (run-outcome (full-head table k) s) refl
+    where
+      by-outcome : (o : Outcome) → run-outcome (full-head table k) s ≡ o → Accepted
+      by-outcome (refused n p) e = absurd (number-low n p e .0 (sym (ap (λ (y : RunReading). y .refusal) (answer-at (refused n p) e)) ∙ z))
+      by-outcome (accepted t x) e = record { tally = t; text = x; admits = e; all = sym (ap (λ (y : RunReading). y .nodes) (answer-at (accepted t x) e)) }
 
-      module _ (a : Accepted) where
-        pub verdict-folds : folding s k table first each ≡ folds (r .nodes) (bytes (cheapest (at-most k) (priced table first each) (tree-of s))) (best-cost (at-most k) (priced table first each) (tree-of s))
-        verdict-folds = verdict-read (accepted (a .tally) (a .text)) (a .accepts) ∙ rw (a .count)
+  module _ (a : Accepted) where
+    accepts : read run-rules s ≡ accepted (a .tally) (a .text)
+    unfolding run-outcome
+    accepts = headed-accepted limits (full-head table k) (read run-rules s) (a .tally) (a .text) (a .admits)
 
-        module _ (small : Bytes s) where
-          pub spelled : Spelled s
-          spelled =
-              let h = run-shape s small (a .tally) (a .text) (a .accepts) in
-              record {
-                form = run-form s small (a .tally) (a .text) (a .accepts);
-                run = λ A. record {
-                  plain = h .plain refl;
-                  sound = sound-within (record { widest = 0 }) A (tree-of s) (omega (arith, sound-widest (record { widest = 0 }) (tree-of s) (h .sound))) (h .sound);
-                };
-              }
+    narrow : k ≤ limits .width
+    unfolding run-outcome
+    narrow = headed-narrow limits (full-head table k) (read run-rules s) (a .tally) (a .text) (a .admits)
 
-          pub node-count-is : nodes (tree-of s) ≡ r .nodes
-          node-count-is = sym (run-nodes s small (a .tally) (a .text) (a .accepts)) ∙ a .count
+    pub verdict-folds : folding s k table first each ≡ folds (r .nodes) (bytes (cheapest (at-most k) (priced table first each) (tree-of s))) (best-cost (at-most k) (priced table first each) (tree-of s))
+    verdict-folds = verdict-at (accepted (a .tally) (a .text)) (a .admits) ∙ rw (a .all)
 
-          pub few : r .nodes ≤ 1024
-          few = omega (arith, node-count-is, run-shape s small (a .tally) (a .text) (a .accepts) .total)
+    module _ (small : Bytes s) where
+      pub spelled : Spelled s
+      spelled =
+          let h = run-shape s small (a .tally) (a .text) accepts in
+          record {
+            form = run-form s small (a .tally) (a .text) accepts;
+            run = λ A. record {
+              plain = h .plain refl;
+              sound = sound-within (at-most 0) A (tree-of s) (omega (arith, sound-widest (at-most 0) (tree-of s) (h .sound))) (h .sound);
+            };
+          }
 
-          pub level-ready : (prices costs choices : List ℕ) → cells (r .nodes) ≤ length costs → cells (r .nodes) ≤ length choices → Prepared table prices → LevelReady s 0 k table prices costs choices
-          level-ready prices costs choices x y p =
-              record {
-                spelled = spelled;
-                total = omega (arith, node-count-is, few);
-                cost-room = rw (zero-add (nodes (tree-of s)), node-count-is) x;
-                choice-room = rw (zero-add (nodes (tree-of s)), node-count-is) y;
-                prepared = p;
-              }
+      pub node-count-is : nodes (tree-of s) ≡ r .nodes
+      node-count-is = sym (run-nodes s small (a .tally) (a .text) accepts) ∙ a .all
 
-          -- Demand 3 and the report's problem, of the cheapest fold.
-          pub demands : CheapestWithin s k (priced table first each) (bytes (cheapest (at-most k) (priced table first each) (tree-of s))) (best-cost (at-most k) (priced table first each) (tree-of s))
-              × MinimumTree s k table first each (bytes (cheapest (at-most k) (priced table first each) (tree-of s)))
-          demands =
-              let P = priced table first each in
-              let best = cheapest-bytes s small (a .tally) (a .text) (a .accepts) k narrow P in
-              let coded = cheapest-small s small (a .tally) (a .text) (a .accepts) k narrow P in
-              (best, cheapest-minimum s small (a .tally) (a .text) (a .accepts) k narrow table first each _ _ coded best)
+      pub few : r .nodes ≤ 1024
+      few = omega (arith, node-count-is, run-shape s small (a .tally) (a .text) accepts .total)
+
+      pub level-ready : (prices costs choices : List ℕ) → cells (r .nodes) ≤ length costs → cells (r .nodes) ≤ length choices → Prepared table prices → LevelReady s 0 k table prices costs choices
+      level-ready prices costs choices x y p =
+          record {
+            spelled = spelled;
+            total = omega (arith, node-count-is, few);
+            cost-room = rw (zero-add (nodes (tree-of s)), node-count-is) x;
+            choice-room = rw (zero-add (nodes (tree-of s)), node-count-is) y;
+            prepared = p;
+          }
+
+      -- Demand 3 and the report's problem, of the cheapest fold.
+      pub demands : CheapestWithin s k (format-rules (priced table first each)) (bytes (cheapest (at-most k) (priced table first each) (tree-of s))) (best-cost (at-most k) (priced table first each) (tree-of s))
+          × MinimumTree s k table first each (bytes (cheapest (at-most k) (priced table first each) (tree-of s)))
+      demands =
+          let P = priced table first each in
+          let best = cheapest-bytes s small (a .tally) (a .text) accepts k narrow P in
+          let coded = cheapest-small s small (a .tally) (a .text) accepts k narrow P in
+          (best, cheapest-minimum s small (a .tally) (a .text) accepts k narrow table first each _ _ coded best)
+
+-- Work that is not too short has its entries.
+pub long-enough : (n costs choices : ℕ) → short-work n costs choices ≡ false → (cells n ≤ costs) × (cells n ≤ choices)
+long-enough n costs choices e = by-tests (ltb costs (cells n)) (ltb choices (cells n)) refl refl e
+  where
+    by-tests : (a b : Bool) → ltb costs (cells n) ≡ a → ltb choices (cells n) ≡ b → short-work n costs choices ≡ false → (cells n ≤ costs) × (cells n ≤ choices)
+    by-tests false false x y z = (ltb-false _ _ x, ltb-false _ _ y)
+    by-tests false true x y z = absurd (true≢false (sym (rw (x, y)) ∙ z))
+    by-tests true b x y z = absurd (true≢false (sym (rw x) ∙ z))
 
 -- All that the folder promises, at a verdict.
 module _ (run : List ℕ) (k : ℕ) (table : List ℕ) (first each : ℕ) (v : Verdict) (costs choices out : List ℕ) where
@@ -165,9 +183,9 @@ module _ (run : List ℕ) (k : ℕ) (table : List ℕ) (first each : ℕ) (v : V
   -- What holds of the fold, whatever the verdict's words: on success and after 14.
   abbrev Held : (out′ : List ℕ) → Folded → Type 0
   Held out′ r =
-      (r .refusal ≡ 0 → CheapestWithin run k P (take (r .length) out′) (r .cost))
+      (r .refusal ≡ 0 → CheapestWithin run k (format-rules P) (take (r .length) out′) (r .cost))
       × ((r .refusal ≡ 0 → MinimumTree run k table first each (take (r .length) out′))
-      × (r .refusal ≡ 14 → CheapestOver (length out) run k P))
+      × (r .refusal ≡ 14 → CheapestOver (length out) run k (format-rules P)))
 
   abbrev pub Met : (costs′ choices′ out′ : List ℕ) → Folded → Type 0
   Met costs′ choices′ out′ r =
@@ -190,23 +208,14 @@ module _ (run : List ℕ) (k : ℕ) (table : List ℕ) (first each : ℕ) (v : V
   met-refused n p e z w r q = (q ∙ rw e, (rw e, (rw e, (rw e, unheld n z w out r (number n p r q)))))
 
   module _ (n : ℕ) (f : List ℕ) (c : ℕ) (e : v ≡ folds n f c) where
-    pub met-short-costs : length costs < cells n → (r : Folded) → r ≡ refused-as 13 0 → Met costs choices out r
-    met-short-costs l r q =
-        let x = lt-ltb (length costs) (cells n) l in
-        (q ∙ rw (e, x), (rw (e, x), (rw (e, x), (rw (e, x), unheld 13 (omega arith) (omega arith) out r (number 13 0 r q)))))
-
-    module _ (long-costs : cells n ≤ length costs) where
-      pub met-short-choices : length choices < cells n → (r : Folded) → r ≡ refused-as 13 0 → Met costs choices out r
-      met-short-choices l r q =
-          let w = le-ltb (length costs) (cells n) long-costs in
-          let x = lt-ltb (length choices) (cells n) l in
-          (q ∙ rw (e, w, x), (rw (e, w, x), (rw (e, w, x), (rw (e, w, x), unheld 13 (omega arith) (omega arith) out r (number 13 0 r q)))))
+    pub met-short : short-work n (length costs) (length choices) ≡ true → (r : Folded) → r ≡ refused-as 13 0 → Met costs choices out r
+    met-short x r q = (q ∙ rw (e, x), (rw (e, x), (rw (e, x), (rw (e, x), unheld 13 (omega arith) (omega arith) out r (number 13 0 r q)))))
 
   -- The run is folded.
   module _ (n : ℕ) (e : v ≡ folds n (bytes (cheapest (at-most k) P (tree-of run))) (best-cost (at-most k) P (tree-of run)))
-      (long-costs : cells n ≤ length costs) (long-choices : cells n ≤ length choices)
+      (long : short-work n (length costs) (length choices) ≡ false)
       (costs′ choices′ out′ : List ℕ) (r : Folded) (folded : RunFolded run n k P costs costs′ choices choices′ out out′ r)
-      (demands : CheapestWithin run k P (bytes (cheapest (at-most k) P (tree-of run))) (best-cost (at-most k) P (tree-of run))
+      (demands : CheapestWithin run k (format-rules P) (bytes (cheapest (at-most k) P (tree-of run))) (best-cost (at-most k) P (tree-of run))
       × MinimumTree run k table first each (bytes (cheapest (at-most k) P (tree-of run)))) where
     abbrev f : List ℕ
     f = bytes (cheapest (at-most k) P (tree-of run))
@@ -223,12 +232,10 @@ module _ (run : List ℕ) (k : ℕ) (table : List ℕ) (first each : ℕ) (v : V
         (λ y. rw (q, w, x) (demands .0), (λ y. rw (q, w, x) (demands .1), λ y. let z = ap (λ (u : Folded). u .refusal) q in absurd (omega arith)))
 
     pub met-folded : Met costs′ choices′ out′ r
-    met-folded =
-        let x = le-ltb (length costs) (cells n) long-costs in
-        let y = le-ltb (length choices) (cells n) long-choices in (
-          folded .answered ∙ rw (e, x, y),
-          (
-            folded .written ∙ rw (e, x, y),
-            (folded .costs-cleared ∙ rw (e, x, y), (folded .choices-cleared ∙ rw (e, x, y), held (ltb (length out) (length f)) refl)),
-          ),
-        )
+    met-folded = (
+      folded .answered ∙ rw (e, long),
+      (
+        folded .written ∙ rw (e, long),
+        (folded .costs-cleared ∙ rw (e, long), (folded .choices-cleared ∙ rw (e, long), held (ltb (length out) (length f)) refl)),
+      ),
+    )

@@ -1,24 +1,22 @@
 -- What the folder answers, writes and leaves in the work slices, for every run, limit, prices and lent slices.
-use mathlib.Core.Bool.{Bool, not, cond, _||_}
+use mathlib.Core.Bool.{Bool, cond, _||_}
 use mathlib.Core.List.{List, _++_}
 use Prim.Native.Nat.{ℕ}
-use lib.Dec.{eqb, ltb}
+use lib.Dec.{ltb}
 use lib.ListN.{length, drop, replicate}
-use Rattle.format.specs.Limits.{limits, priced}
+use Rattle.format.specs.Limits.{priced}
 use Rattle.format.specs.Forest.{at-most}
-use Rattle.format.specs.Machine.{read}
-use Rattle.format.specs.Readings.{run-rules}
+use Rattle.format.specs.Head.{full-head}
+use Rattle.format.specs.Readings.{run-outcome}
 use Rattle.format.specs.declared.Folded.{Folded}
-pub use Rattle.optimum.specs.Verdict.{Verdict, refuses, folds, of-run}
+use Rattle.optimum.specs.Verdict.{Verdict, refuses, folds, verdict}
 use Rattle.table.specs.Table.{cells}
 
--- 11 for the table, then 12 for the limit, then the run's own refusals.
+-- The checks of table and limit, then the run's own refusals; or the cheapest fold.
 unfoldable pub folding : List ℕ → (limit : ℕ) → (table : List ℕ) → (first each : ℕ) → Verdict
-unfolding read
+unfolding run-outcome
 folding s k table first each =
-    cond (not (eqb (length table) 256)) (refuses 11 0)
-    (cond (ltb (limits .width) k) (refuses 12 0)
-    (of-run (at-most k) (priced table first each) s (read run-rules s)))
+    verdict (at-most k) (priced table first each) s (run-outcome (full-head table k) s)
 
 -- A work slice is too short for n nodes.
 abbrev pub short-work : (n costs choices : ℕ) → Bool

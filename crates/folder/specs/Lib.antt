@@ -1,3 +1,3 @@
 -- The folder's answer, and what its outer functions promise.
 pub mod Folding
-pub mod Run
+pub mod inner

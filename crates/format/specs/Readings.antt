@@ -42,6 +42,11 @@ unfoldable pub run-reading : List ℕ → RunReading
 unfolding read
 run-reading s = as-run-reading (read run-rules s)
 
+-- A run at an entry point with this head: the checks of the head, then the run's own refusals.
+unfoldable pub run-outcome : Head → List ℕ → Outcome
+unfolding headed read
+run-outcome h s = headed limits h (read run-rules s)
+
 -- What is answered about a fold.
 abbrev pub as-fold-reading : Outcome → FoldReading
 as-fold-reading (refused n p) = record { refusal = n; place = p; nodes = 0; length = 0; cost = 0 }

@@ -10,10 +10,10 @@ use lib.ListN.{length, getD, drop}
 use borrow.Author.Tests.{eqb-true, eqb-false}
 use Rattle.format.specs.Limits.{limits, Prices, priced}
 use Rattle.format.specs.Machine.{Rules, read, refusal, first-of}
-use Rattle.format.specs.Head.{head-checks, headed, full-head}
+use Rattle.format.specs.Head.{head-checks, full-head}
 use Rattle.format.specs.Order.{Bytes}
 use Rattle.format.specs.Meaning.{MeansAtCost}
-use Rattle.format.specs.Readings.{run-rules, as-run-reading, run-reading, fold-rules, fold-outcome, fold-reading, as-fold-reading}
+use Rattle.format.specs.Readings.{run-rules, as-run-reading, run-outcome, run-reading, fold-rules, fold-outcome, fold-reading, as-fold-reading}
 use Rattle.format.specs.declared.Tally.{Tally}
 use Rattle.format.specs.declared.Head.{Head}
 use Rattle.format.specs.declared.RunReading.{RunReading}
@@ -101,11 +101,12 @@ answered R s w walked = by-test (eqb (w .refusal) 0) refl
 
 -- The answers at an entry point: by the head's refusal, or by what follows.
 module _ (h : Head) (n : ℕ) (checked : n ≡ first-of (head-checks limits h)) where
-  pub admit-refused : (s : List ℕ) → n ≢ 0 → record { refusal = n; place = 0; nodes = 0 } ≡ as-run-reading (headed limits h (read run-rules s))
+  pub admit-refused : (s : List ℕ) → n ≢ 0 → record { refusal = n; place = 0; nodes = 0 } ≡ as-run-reading (run-outcome h s)
+  unfolding run-outcome
   admit-refused s some = rw (headed-refused limits h (read run-rules s) n checked some)
 
-  pub admit-read : (s : List ℕ) → n ≡ 0 → (r : RunReading) → r ≡ run-reading s → r ≡ as-run-reading (headed limits h (read run-rules s))
-  unfolding run-reading
+  pub admit-read : (s : List ℕ) → n ≡ 0 → (r : RunReading) → r ≡ run-reading s → r ≡ as-run-reading (run-outcome h s)
+  unfolding run-reading run-outcome
   admit-read s none r e = e ∙ rw (headed-passed limits h (read run-rules s) (sym none ∙ checked))
 
   module _ (P : Prices) (s : List ℕ) where

@@ -24,10 +24,8 @@ use node::starts_at;
 use walk::sequence;
 ghost use mathlib.Core.Path.{_≡_};
 ghost use mathlib.Core.Bool.{true};
-ghost use Rattle.format.specs.Limits.{limits, priced};
-ghost use Rattle.format.specs.Machine.{read};
-ghost use Rattle.format.specs.Head.{headed};
-ghost use Rattle.format.specs.Readings.{run-rules, as-run-reading, run-reading, fold-outcome, measured, fold-reading, as-fold-reading};
+ghost use Rattle.format.specs.Limits.{priced};
+ghost use Rattle.format.specs.Readings.{as-run-reading, run-outcome, run-reading, fold-outcome, measured, fold-reading, as-fold-reading};
 ghost use Rattle.format.specs.Meaning.{MeansAtCost};
 ghost use Rattle.format.specs.Parts.{node-part, part-of};
 ghost use Rattle.reader.specs.Walk.{Sane, Whole, outcome, rules-of};
@@ -94,7 +92,7 @@ pub fn read_run(run: &[u8]) -> RunReading
 
 // The admission of a run at an entry point with this head: the checks of the head, then the run's own refusals; or the nodes.
 pub fn admit(run: &[u8], head: Head) -> RunReading
-    ensures { λ r. ⌜ r ≡ as-run-reading (headed limits head (read run-rules (now (run .entry)))) ⌝ }
+    ensures { λ r. ⌜ r ≡ as-run-reading (run-outcome head (now (run .entry))) ⌝ }
 {
     let refusal = head_refusal(Format::limits(), head);
     if refusal != 0 {

@@ -1,56 +1,69 @@
--- `fold` meets its contract.
-use borrow.Author.Needs.{needs}
+-- `fold` meets its contract: admitted or refused, with work enough or not, and folded.
+use mathlib.Core.Path.{_≡_, sym, _∙_}
+use Prim.Native.Nat.{ℕ, _≤_}
 use native.Mathlib.Omega.{arith}
+use borrow.Author.Needs.{needs}
+use lib.ListN.{length}
+use Rattle.format.specs.Order.{Bytes}
+use Rattle.table.specs.Table.{cells}
 use Rattle.folder.specs.Folding.{folding}
-use Rattle.folder.proofs.Verdicts.{prices-same, prepared, verdict-table, verdict-limit, verdict-refused, verdict-folds, accepted-run, few, level-ready, node-count-is, demands, run-number, met-refused, met-short-costs, met-short-choices, met-folded}
+use Rattle.folder.proofs.Verdicts.{Accepted, prices-priced, prepared, verdict-refused, verdict-folds, accepted-run, few, level-ready, node-count-is, demands, run-number, long-enough, met-refused, met-short, met-folded}
 use Rattle.folder.proofs.fold.Statement.{statement}
 use Rattle.folder.proofs.fold.Tie as tie
+
+-- The function's start, from the admission; the run's bytes; the verdict.
+abbrev start : tie.After-admit → tie.Start
+start c = c .before .before .before .before .before .before
+
+small : (c : tie.After-admit) → Bytes (start c .args .run .now)
+small c = λ i. c .before .before .before .before .before .shared-slice-known .given i .fits
+
+abbrev Accepts : tie.After-admit → Type 0
+Accepts c =
+    let a = start c .args in
+    Accepted (a .run .now) (a .limit) (a .table .now) (a .first) (a .each) (c .admit .result) (c .admit .ensures)
+
+accepts : (c : tie.Else1) → Accepts (c .before .before)
+accepts c =
+    let A = c .before .before in
+    let a = start A .args in
+    accepted-run (a .run .now) (a .limit) (a .table .now) (a .first) (a .each) (A .admit .result) (A .admit .ensures) (c .if1 .left)
+
+admit-requires : tie.Need-admit-requires
+admit-requires c κs = search needs
 
 refuse-requires : tie.Need-refuse-requires
 refuse-requires c κs = search needs
 
 returns : tie.Need-returns
 returns c =
-    let S = c .before .before .before .before .before .before .before in met-refused (S .args .run .now) (S .args .limit) (S .args .table .now) (S .args .first) (S .args .each) (folding (S .args .run .now) (S .args .limit) (S .args .table .now) (S .args .first) (S .args .each)) (S .args .costs .now) (S .args .choices .now) (S .args .out .now) 11 0 (verdict-table (S .args .run .now) (S .args .limit) (S .args .table .now) (S .args .first) (S .args .each) (c .before .if1 .taken)) (λ z. omega arith) (λ z. omega arith) (c .refuse .result) (c .refuse .ensures)
+    let A = c .before .before .before in
+    let a = start A .args in
+    met-refused (a .run .now) (a .limit) (a .table .now) (a .first) (a .each) (folding (a .run .now) (a .limit) (a .table .now) (a .first) (a .each)) (a .costs .now)
+    (a .choices .now) (a .out .now) (A .admit .result .refusal) (A .admit .result .place)
+    (verdict-refused (a .run .now) (a .limit) (a .table .now) (a .first) (a .each) (A .admit .result) (A .admit .ensures) (c .before .if1 .taken))
+    (c .before .if1 .taken)
+    (run-number (a .run .now) (a .limit) (a .table .now) (a .first) (a .each) (A .admit .result) (A .admit .ensures))
+    (c .refuse .result) (c .refuse .ensures)
+
+short-of-requires : tie.Need-short-of-requires
+short-of-requires c κs =
+    let A = c .before .before in
+    let a = start A .args in
+    few (a .run .now) (a .limit) (a .table .now) (a .first) (a .each) (A .admit .result) (A .admit .ensures) (accepts c) (small A)
 
 refuse-requires-2 : tie.Need-refuse-requires-2
 refuse-requires-2 c κs = search needs
 
 returns-2 : tie.Need-returns-2
 returns-2 c =
-    let S = c .before .before .before .before .before .before .before .before in met-refused (S .args .run .now) (S .args .limit) (S .args .table .now) (S .args .first) (S .args .each) (folding (S .args .run .now) (S .args .limit) (S .args .table .now) (S .args .first) (S .args .each)) (S .args .costs .now) (S .args .choices .now) (S .args .out .now) 12 0 (verdict-limit (S .args .run .now) (S .args .limit) (S .args .table .now) (S .args .first) (S .args .each) (c .before .before .if1 .left) (c .before .if2 .taken)) (λ z. omega arith) (λ z. omega arith) (c .refuse2 .result) (c .refuse2 .ensures)
-
-read-run-requires : tie.Need-read-run-requires
-read-run-requires c κs = search needs
-
-refuse-requires-3 : tie.Need-refuse-requires-3
-refuse-requires-3 c κs = search needs
-
-returns-3 : tie.Need-returns-3
-returns-3 c =
-    let S = c .before .before .before .before .before .before .before .before .before .before .before in met-refused (S .args .run .now) (S .args .limit) (S .args .table .now) (S .args .first) (S .args .each) (folding (S .args .run .now) (S .args .limit) (S .args .table .now) (S .args .first) (S .args .each)) (S .args .costs .now) (S .args .choices .now) (S .args .out .now) (c .before .before .before .read-run .result .refusal) (c .before .before .before .read-run .result .place) (verdict-refused (S .args .run .now) (S .args .limit) (S .args .table .now) (S .args .first) (S .args .each) (c .before .before .before .before .before .if1 .left) (c .before .before .before .before .if2 .left) (c .before .before .before .read-run .result) (c .before .before .before .read-run .ensures) (c .before .if3 .taken)) (c .before .if3 .taken) (run-number (S .args .run .now) (S .args .limit) (S .args .table .now) (S .args .first) (S .args .each) (c .before .before .before .before .before .if1 .left) (c .before .before .before .before .if2 .left) (c .before .before .before .read-run .result) (c .before .before .before .read-run .ensures)) (c .refuse3 .result) (c .refuse3 .ensures)
-
-entries-requires : tie.Need-entries-requires
-entries-requires c κs =
-    let S = c .before .before .before .before .before .before .before .before .before .before in few (S .args .run .now) (S .args .limit) (S .args .table .now) (S .args .first) (S .args .each) (c .before .before .before .before .if1 .left) (c .before .before .before .if2 .left) (c .before .before .read-run .result) (c .before .before .read-run .ensures) (accepted-run (S .args .run .now) (S .args .limit) (S .args .table .now) (S .args .first) (S .args .each) (c .before .before .before .before .if1 .left) (c .before .before .before .if2 .left) (c .before .before .read-run .result) (c .before .before .read-run .ensures) (c .if3 .left)) (λ i. c .before .before .before .before .before .before .before .before .before .shared-slice-known .given i .fits)
-
-refuse-requires-4 : tie.Need-refuse-requires-4
-refuse-requires-4 c κs = search needs
-
-returns-4 : tie.Need-returns-4
-returns-4 c =
-    let S = c .before .before .before .before .before .before .before .before .before .before .before .before .before in met-short-costs (S .args .run .now) (S .args .limit) (S .args .table .now) (S .args .first) (S .args .each) (folding (S .args .run .now) (S .args .limit) (S .args .table .now) (S .args .first) (S .args .each)) (S .args .costs .now) (S .args .choices .now) (S .args .out .now) _ _ _ (verdict-folds (S .args .run .now) (S .args .limit) (S .args .table .now) (S .args .first) (S .args .each) (c .before .before .before .before .before .before .before .if1 .left) (c .before .before .before .before .before .before .if2 .left) (c .before .before .before .before .before .read-run .result) (c .before .before .before .before .before .read-run .ensures) (accepted-run (S .args .run .now) (S .args .limit) (S .args .table .now) (S .args .first) (S .args .each) (c .before .before .before .before .before .before .before .if1 .left) (c .before .before .before .before .before .before .if2 .left) (c .before .before .before .before .before .read-run .result) (c .before .before .before .before .before .read-run .ensures) (c .before .before .before .if3 .left))) (omega (arith, c .before .if4 .taken, c .before .before .entries .ensures)) (c .refuse4 .result) (c .refuse4 .ensures)
-
-entries-requires-2 : tie.Need-entries-requires-2
-entries-requires-2 c κs =
-    let S = c .before .before .before .before .before .before .before .before .before .before .before .before in few (S .args .run .now) (S .args .limit) (S .args .table .now) (S .args .first) (S .args .each) (c .before .before .before .before .before .before .if1 .left) (c .before .before .before .before .before .if2 .left) (c .before .before .before .before .read-run .result) (c .before .before .before .before .read-run .ensures) (accepted-run (S .args .run .now) (S .args .limit) (S .args .table .now) (S .args .first) (S .args .each) (c .before .before .before .before .before .before .if1 .left) (c .before .before .before .before .before .if2 .left) (c .before .before .before .before .read-run .result) (c .before .before .before .before .read-run .ensures) (c .before .before .if3 .left)) (λ i. c .before .before .before .before .before .before .before .before .before .before .before .shared-slice-known .given i .fits)
-
-refuse-requires-5 : tie.Need-refuse-requires-5
-refuse-requires-5 c κs = search needs
-
-returns-5 : tie.Need-returns-5
-returns-5 c =
-    let S = c .before .before .before .before .before .before .before .before .before .before .before .before .before .before .before in met-short-choices (S .args .run .now) (S .args .limit) (S .args .table .now) (S .args .first) (S .args .each) (folding (S .args .run .now) (S .args .limit) (S .args .table .now) (S .args .first) (S .args .each)) (S .args .costs .now) (S .args .choices .now) (S .args .out .now) _ _ _ (verdict-folds (S .args .run .now) (S .args .limit) (S .args .table .now) (S .args .first) (S .args .each) (c .before .before .before .before .before .before .before .before .before .if1 .left) (c .before .before .before .before .before .before .before .before .if2 .left) (c .before .before .before .before .before .before .before .read-run .result) (c .before .before .before .before .before .before .before .read-run .ensures) (accepted-run (S .args .run .now) (S .args .limit) (S .args .table .now) (S .args .first) (S .args .each) (c .before .before .before .before .before .before .before .before .before .if1 .left) (c .before .before .before .before .before .before .before .before .if2 .left) (c .before .before .before .before .before .before .before .read-run .result) (c .before .before .before .before .before .before .before .read-run .ensures) (c .before .before .before .before .before .if3 .left))) (omega (arith, c .before .before .before .if4 .left, c .before .before .before .before .entries .ensures)) (omega (arith, c .before .if5 .taken, c .before .before .entries2 .ensures)) (c .refuse5 .result) (c .refuse5 .ensures)
+    let W = c .before .before in
+    let A = W .before .before .before in
+    let a = start A .args in
+    met-short (a .run .now) (a .limit) (a .table .now) (a .first) (a .each) (folding (a .run .now) (a .limit) (a .table .now) (a .first) (a .each)) (a .costs .now)
+    (a .choices .now) (a .out .now) _ _ _
+    (verdict-folds (a .run .now) (a .limit) (a .table .now) (a .first) (a .each) (A .admit .result) (A .admit .ensures) (accepts (W .before)))
+    (sym (W .short-of .ensures) ∙ c .before .if2 .taken) (c .refuse2 .result) (c .refuse2 .ensures)
 
 wide-cost-requires : tie.Need-wide-cost-requires
 wide-cost-requires c κs = search needs
@@ -67,9 +80,23 @@ prepare-requires c κs = search needs
 slice-aggregate-fold-run : tie.Need-slice-aggregate-fold-run
 slice-aggregate-fold-run c = search needs
 
+-- From the prepared prices back to the two tests.
+abbrev work : tie.After-prepare → tie.Else2
+work c = c .before .before .before .before
+
 fold-run-requires : tie.Need-fold-run-requires
 fold-run-requires c κs =
-    let S = c .before .before .before .before .before .before .before .before .before .before .before .before .before .before .before .before .before .before .before .before .before .before .before in (level-ready (S .args .run .now) (S .args .limit) (S .args .table .now) (S .args .first) (S .args .each) (c .before .before .before .before .before .before .before .before .before .before .before .before .before .before .before .before .before .if1 .left) (c .before .before .before .before .before .before .before .before .before .before .before .before .before .before .before .before .if2 .left) (c .before .before .before .before .before .before .before .before .before .before .before .before .before .before .before .read-run .result) (c .before .before .before .before .before .before .before .before .before .before .before .before .before .before .before .read-run .ensures) (accepted-run (S .args .run .now) (S .args .limit) (S .args .table .now) (S .args .first) (S .args .each) (c .before .before .before .before .before .before .before .before .before .before .before .before .before .before .before .before .before .if1 .left) (c .before .before .before .before .before .before .before .before .before .before .before .before .before .before .before .before .if2 .left) (c .before .before .before .before .before .before .before .before .before .before .before .before .before .before .before .read-run .result) (c .before .before .before .before .before .before .before .before .before .before .before .before .before .before .before .read-run .ensures) (c .before .before .before .before .before .before .before .before .before .before .before .before .before .if3 .left)) (λ i. c .before .before .before .before .before .before .before .before .before .before .before .before .before .before .before .before .before .before .before .before .before .before .shared-slice-known .given i .fits) _ _ _ (omega (arith, c .before .before .before .before .before .before .before .before .before .before .before .if4 .left, c .before .before .before .before .before .before .before .before .before .before .before .before .entries .ensures)) (omega (arith, c .before .before .before .before .before .before .before .before .before .if5 .left, c .before .before .before .before .before .before .before .before .before .before .entries2 .ensures)) (prepared (S .args .table .now) (c .before .before .before .before .before .prepare .last .1 .1 .0) (c .before .before .before .before .before .before .before .before .wide-cost .result) (c .before .before .before .before .before .before .before .wide-cost2 .result) (c .before .before .before .before .before .prepare .ensures) (c .before .before .before .before .before .before .before .before .wide-cost .ensures .1) (c .before .before .before .before .before .before .before .wide-cost2 .ensures .1) (λ i. c .before .before .before .before .before .before .before .before .before .before .before .before .before .before .before .before .before .before .before .before .before .shared-slice-known2 .given i .fits)), node-count-is (S .args .run .now) (S .args .limit) (S .args .table .now) (S .args .first) (S .args .each) (c .before .before .before .before .before .before .before .before .before .before .before .before .before .before .before .before .before .if1 .left) (c .before .before .before .before .before .before .before .before .before .before .before .before .before .before .before .before .if2 .left) (c .before .before .before .before .before .before .before .before .before .before .before .before .before .before .before .read-run .result) (c .before .before .before .before .before .before .before .before .before .before .before .before .before .before .before .read-run .ensures) (accepted-run (S .args .run .now) (S .args .limit) (S .args .table .now) (S .args .first) (S .args .each) (c .before .before .before .before .before .before .before .before .before .before .before .before .before .before .before .before .before .if1 .left) (c .before .before .before .before .before .before .before .before .before .before .before .before .before .before .before .before .if2 .left) (c .before .before .before .before .before .before .before .before .before .before .before .before .before .before .before .read-run .result) (c .before .before .before .before .before .before .before .before .before .before .before .before .before .before .before .read-run .ensures) (c .before .before .before .before .before .before .before .before .before .before .before .before .before .if3 .left)) (λ i. c .before .before .before .before .before .before .before .before .before .before .before .before .before .before .before .before .before .before .before .before .before .before .shared-slice-known .given i .fits))
+    let P = c .before .before .before .before .before in
+    let W = work P in
+    let A = W .before .before .before .before in
+    let a = start A .args in
+    let long = long-enough _ _ _ (sym (W .before .short-of .ensures) ∙ W .if2 .left) in
+    let d = accepts (W .before .before) in (
+      level-ready (a .run .now) (a .limit) (a .table .now) (a .first) (a .each) (A .admit .result) (A .admit .ensures) d (small A) _ _ _ (long .0) (long .1)
+          (prepared (a .table .now) _ _ _ (P .prepare .ensures) (P .before .before .before .wide-cost .ensures .1) (P .before .before .wide-cost2 .ensures .1)
+          (λ l. A .before .before .before .before .shared-slice-known2 .given l .fits)),
+      node-count-is (a .run .now) (a .limit) (a .table .now) (a .first) (a .each) (A .admit .result) (A .admit .ensures) d (small A),
+    )
 
 same-length : tie.Need-same-length
 same-length c = search needs
@@ -80,27 +107,34 @@ same-length-2 c = search needs
 same-length-3 : tie.Need-same-length-3
 same-length-3 c = search needs
 
-returns-6 : tie.Need-returns-6
-returns-6 c =
-    let S = c .before .before .before .before .before .before .before .before .before .before .before .before .before .before .before .before .before .before .before .before .before .before .before .before .before .before .before .before .before .before in let a = (accepted-run (S .args .run .now) (S .args .limit) (S .args .table .now) (S .args .first) (S .args .each) (c .before .before .before .before .before .before .before .before .before .before .before .before .before .before .before .before .before .before .before .before .before .before .before .before .if1 .left) (c .before .before .before .before .before .before .before .before .before .before .before .before .before .before .before .before .before .before .before .before .before .before .before .if2 .left) (c .before .before .before .before .before .before .before .before .before .before .before .before .before .before .before .before .before .before .before .before .before .before .read-run .result) (c .before .before .before .before .before .before .before .before .before .before .before .before .before .before .before .before .before .before .before .before .before .before .read-run .ensures) (c .before .before .before .before .before .before .before .before .before .before .before .before .before .before .before .before .before .before .before .before .if3 .left)) in met-folded (S .args .run .now) (S .args .limit) (S .args .table .now) (S .args .first) (S .args .each) (folding (S .args .run .now) (S .args .limit) (S .args .table .now) (S .args .first) (S .args .each)) (S .args .costs .now) (S .args .choices .now) (S .args .out .now) _ (verdict-folds (S .args .run .now) (S .args .limit) (S .args .table .now) (S .args .first) (S .args .each) (c .before .before .before .before .before .before .before .before .before .before .before .before .before .before .before .before .before .before .before .before .before .before .before .before .if1 .left) (c .before .before .before .before .before .before .before .before .before .before .before .before .before .before .before .before .before .before .before .before .before .before .before .if2 .left) (c .before .before .before .before .before .before .before .before .before .before .before .before .before .before .before .before .before .before .before .before .before .before .read-run .result) (c .before .before .before .before .before .before .before .before .before .before .before .before .before .before .before .before .before .before .before .before .before .before .read-run .ensures) a) (omega (arith, c .before .before .before .before .before .before .before .before .before .before .before .before .before .before .before .before .before .before .if4 .left, c .before .before .before .before .before .before .before .before .before .before .before .before .before .before .before .before .before .before .before .entries .ensures)) (omega (arith, c .before .before .before .before .before .before .before .before .before .before .before .before .before .before .before .before .if5 .left, c .before .before .before .before .before .before .before .before .before .before .before .before .before .before .before .before .before .entries2 .ensures)) _ _ _ (c .before .before .before .before .before .before .fold-run .result) (rw (prices-same (S .args .table .now) (c .before .before .before .before .before .before .before .before .before .before .before .before .prepare .last .1 .1 .0) (c .before .before .before .before .before .before .before .before .before .before .before .before .before .before .before .wide-cost .result) (c .before .before .before .before .before .before .before .before .before .before .before .before .before .before .wide-cost2 .result) (c .before .before .before .before .before .before .before .before .before .before .before .before .prepare .ensures), c .before .before .before .before .before .before .before .before .before .before .before .before .before .before .before .wide-cost .ensures .0, c .before .before .before .before .before .before .before .before .before .before .before .before .before .before .wide-cost2 .ensures .0) at (c .before .before .before .before .before .before .fold-run .ensures)) (demands (S .args .run .now) (S .args .limit) (S .args .table .now) (S .args .first) (S .args .each) (c .before .before .before .before .before .before .before .before .before .before .before .before .before .before .before .before .before .before .before .before .before .before .before .before .if1 .left) (c .before .before .before .before .before .before .before .before .before .before .before .before .before .before .before .before .before .before .before .before .before .before .before .if2 .left) (c .before .before .before .before .before .before .before .before .before .before .before .before .before .before .before .before .before .before .before .before .before .before .read-run .result) (c .before .before .before .before .before .before .before .before .before .before .before .before .before .before .before .before .before .before .before .before .before .before .read-run .ensures) a (λ i. c .before .before .before .before .before .before .before .before .before .before .before .before .before .before .before .before .before .before .before .before .before .before .before .before .before .before .before .before .before .shared-slice-known .given i .fits))
+returns-3 : tie.Need-returns-3
+returns-3 c =
+    let F = c .before .before .before .before .before .before in
+    let P = F .before .before .before .before .before .before in
+    let W = work P in
+    let A = W .before .before .before .before in
+    let a = start A .args in
+    let d = accepts (W .before .before) in
+    let first = P .before .before .before .wide-cost in
+    let each = P .before .before .wide-cost2 in
+    let same = prices-priced (a .table .now) (P .prepare .last .1 .1 .0) (a .first) (a .each) _ _ (first .ensures .0) (each .ensures .0) (P .prepare .ensures) in
+    met-folded (a .run .now) (a .limit) (a .table .now) (a .first) (a .each) (folding (a .run .now) (a .limit) (a .table .now) (a .first) (a .each)) (a .costs .now)
+    (a .choices .now) (a .out .now) _
+    (verdict-folds (a .run .now) (a .limit) (a .table .now) (a .first) (a .each) (A .admit .result) (A .admit .ensures) d)
+    (sym (W .before .short-of .ensures) ∙ W .if2 .left) _ _ _ (F .fold-run .result)
+    (rw same at (F .fold-run .ensures))
+    (demands (a .run .now) (a .limit) (a .table .now) (a .first) (a .each) (A .admit .result) (A .admit .ensures) d (small A))
 
 pub fold-spec : {M : Type 1} → statement M
 fold-spec =
     tie.close
     (tie.spec
+    admit-requires
     refuse-requires
     returns
+    short-of-requires
     refuse-requires-2
     returns-2
-    read-run-requires
-    refuse-requires-3
-    returns-3
-    entries-requires
-    refuse-requires-4
-    returns-4
-    entries-requires-2
-    refuse-requires-5
-    returns-5
     wide-cost-requires
     wide-cost-requires-2
     slice-aggregate-prepare
@@ -110,4 +144,4 @@ fold-spec =
     same-length
     same-length-2
     same-length-3
-    returns-6)
+    returns-3)

@@ -1,10 +1,10 @@
--- `prepare` meets its contract.
+-- `folder::prices::prepare` meets its contract.
 use mathlib.Core.Path.{sym, _∙_}
 use Prim.Native.Nat.{_-_}
 use native.Mathlib.Omega.{arith}
-use Rattle.folder.proofs.Runs.{PricesUpto, prices-more, prices-all, price-fits}
-use Rattle.folder.proofs.prepare.Statement.{statement}
-use Rattle.folder.proofs.prepare.Tie as tie
+use Rattle.folder.proofs.PriceLists.{PricesUpto, prices-more, prices-all, price-fits}
+use Rattle.folder.proofs.prices.prepare.Statement.{statement}
+use Rattle.folder.proofs.prices.prepare.Tie as tie
 
 abbrev Inv-loop : tie.InvT-loop
 Inv-loop first each prices₀ h₀ prices h = PricesUpto first each h prices

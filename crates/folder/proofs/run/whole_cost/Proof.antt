@@ -1,12 +1,12 @@
--- `whole_cost` meets its contract.
+-- `folder::run::whole_cost` meets its contract.
 use borrow.Author.Needs.{needs}
 use mathlib.Core.Path.{ap, _∙_}
 use Prim.Native.Nat.{ℕ}
 use native.Mathlib.Omega.{arith}
 use lib.ListN.{getD}
 use Rattle.table.proofs.Cells.{cell-in}
-use Rattle.folder.proofs.whole_cost.Statement.{statement}
-use Rattle.folder.proofs.whole_cost.Tie as tie
+use Rattle.folder.proofs.run.whole_cost.Statement.{statement}
+use Rattle.folder.proofs.run.whole_cost.Tie as tie
 
 returns : tie.Need-returns
 returns c = search needs

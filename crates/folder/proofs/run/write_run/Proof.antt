@@ -1,7 +1,7 @@
--- `write_run` meets its contract.
+-- `folder::run::write_run` meets its contract.
 use borrow.Author.Needs.{needs}
-use Rattle.folder.proofs.write_run.Statement.{statement}
-use Rattle.folder.proofs.write_run.Tie as tie
+use Rattle.folder.proofs.run.write_run.Statement.{statement}
+use Rattle.folder.proofs.run.write_run.Tie as tie
 
 put-fold-requires : tie.Need-put-fold-requires
 put-fold-requires c κs = search needs

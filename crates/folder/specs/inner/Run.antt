@@ -1,0 +1,46 @@
+-- The steps that fold an accepted run: its table is filled, the fold is measured and written by it, and the table is cleared.
+use mathlib.Core.Path.{_≡_}
+use mathlib.Core.Bool.{cond}
+use mathlib.Core.List.{List, _++_}
+use Prim.Native.Nat.{ℕ, _≤_}
+use lib.Dec.{ltb}
+use lib.ListN.{length, drop, replicate}
+use Rattle.format.specs.Limits.{Prices}
+use Rattle.format.specs.Forest.{nodes, bytes, at-most}
+use Rattle.format.specs.Tree.{tree-of}
+use Rattle.format.specs.declared.Folded.{Folded}
+use Rattle.optimum.specs.Cheapest.{cheapest, best-cost}
+use Rattle.table.specs.Listing.{Spelled}
+use Rattle.table.specs.Table.{Filled, cells}
+
+-- The table of an accepted run of n nodes is filled.
+pub record RunFilled (run : List ℕ) (n limit : ℕ) (P : Prices) (costs choices : List ℕ) : Type 0 where
+  pub spelled : Spelled run
+  pub all : nodes (tree-of run) ≡ n
+  pub few : n ≤ 1024
+  pub cost-room : cells n ≤ length costs
+  pub choice-room : cells n ≤ length choices
+  pub filled : Filled (at-most limit) P 0 (tree-of run) costs choices
+
+-- The answer and the output where the fold f of cost c is to be written: 14 where there is no room for it.
+abbrev pub room-answer : (room : ℕ) (f : List ℕ) (c : ℕ) → Folded
+room-answer room f c =
+    cond (ltb room (length f)) (record { refusal = 14; place = 0; length = 0; cost = 0 })
+    (record { refusal = 0; place = 0; length = length f; cost = c })
+
+abbrev pub room-output : (f out : List ℕ) → List ℕ
+room-output f out = cond (ltb (length out) (length f)) out (f ++ drop (length f) out)
+
+-- The cheapest fold is written where there is room, for whatever limit and prices the table was filled.
+pub record RunWritten (run : List ℕ) (n : ℕ) (costs choices out out′ : List ℕ) (r : Folded) : Type 0 where
+  pub answered : (limit : ℕ) (P : Prices) → RunFilled run n limit P costs choices
+      → r ≡ room-answer (length out) (bytes (cheapest (at-most limit) P (tree-of run))) (best-cost (at-most limit) P (tree-of run))
+  pub written : (limit : ℕ) (P : Prices) → RunFilled run n limit P costs choices
+      → out′ ≡ room-output (bytes (cheapest (at-most limit) P (tree-of run))) out
+
+-- An accepted run of n nodes is folded: the answer, the output and both work slices, with room enough in these.
+pub record RunFolded (run : List ℕ) (n limit : ℕ) (P : Prices) (costs costs′ choices choices′ out out′ : List ℕ) (r : Folded) : Type 0 where
+  pub answered : r ≡ room-answer (length out) (bytes (cheapest (at-most limit) P (tree-of run))) (best-cost (at-most limit) P (tree-of run))
+  pub written : out′ ≡ room-output (bytes (cheapest (at-most limit) P (tree-of run))) out
+  pub costs-cleared : costs′ ≡ replicate (cells n) 0 ++ drop (cells n) costs
+  pub choices-cleared : choices′ ≡ replicate (cells n) 0 ++ drop (cells n) choices
