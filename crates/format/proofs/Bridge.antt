@@ -352,7 +352,7 @@ module _ (R : Rules) (t : Tally) (x : List ℕ) where
         omega arith
 
     group-end-there : (s : List ℕ) → Accepts p st (0x12 ∷ s) → GroupEndPasses st
-    group-end-there s e = group-end-passed R st s (omega arith) (scan-passed R p st 0x12 s e)
+    group-end-there s e = group-end-passed R st s (scan-passed R p st 0x12 s e)
 
     repeat-end-there : (s : List ℕ) → Accepts p st (0x21 ∷ s) → RepeatEndPasses R st
     repeat-end-there s e = repeat-end-passed R st s (scan-passed R p st 0x21 s e)
@@ -516,7 +516,7 @@ module _ (R : Rules) (t : Tally) (x : List ℕ) where
     parse-command s group-byte short small pass e = parse-group s short small (group-passed R st s pass) e
     parse-command s group-end-byte short small pass e = none-read st room (0x12 ∷ s) at-group-end
     parse-command s repeat-byte short small pass e =
-        parse-repeat s short small (repeat-passed R st s (omega arith) pass) e
+        parse-repeat s short small (repeat-passed R st s pass) e
     parse-command s repeat-end-byte short small pass e = none-read st room (0x21 ∷ s) at-repeat-end
     parse-command s (other-byte {c} h) short small pass e = absurd (omega (arith, sym (refusal-unknown R st s c h) ∙ pass))
 
@@ -610,11 +610,6 @@ bytes-apart (repeat h w b f) (group k d g) r s m n e = absurd (omega (arith, byt
 pub bytes-injective : (f g : Forest) → bytes f ≡ bytes g → f ≡ g
 bytes-injective f g e =
     bytes-apart f g [] [] (omega arith) (omega arith) (append-nil (bytes f) ∙ e ∙ sym (append-nil (bytes g))) .0
-
--- Bytes read as one tree only, whatever the rules.
-pub reads-once : {R S : Rules} {s : List ℕ} {t u : Tally} {x y : List ℕ} (a : Reads R s t x) (b : Reads S s u y)
-    → a .tree ≡ b .tree
-reads-once a b = bytes-injective (a .tree) (b .tree) (a .form ∙ sym (b .form))
 
 -- Bytes that read as a tree are accepted: with `parses`, the machine accepts exactly those.
 pub reads-accepted : {R : Rules} {s : List ℕ} {t : Tally} {x : List ℕ} → Reads R s t x → read R s ≡ accepted t x

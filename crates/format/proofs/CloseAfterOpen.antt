@@ -12,7 +12,7 @@ use lib.ListN.{length, getD, take, drop}
 use borrow.Author.Tests.{le-ltb, eqb-true, not-false}
 use Rattle.format.specs.Machine.{Rules, State, Open, a-group, a-repeat, Check, _when_, first-of, checks, refusal, read, advance, operands, is-close, in-group, in-repeat, leave-group, leave-repeat, refused}
 use Rattle.format.specs.Reasons.{None, Reached, at-start, passed, Because, at-command, left-open, OneKind, CloseAfterOpen}
-use Rattle.format.proofs.Machine.{refusal-unknown, Command, step-byte, group-byte, group-end-byte, repeat-byte, repeat-end-byte, other-byte, command, group-end-passed, repeat-passed, repeat-end-passed, total-within}
+use Rattle.format.proofs.Machine.{refusal-unknown, Command, step-byte, group-byte, group-end-byte, repeat-byte, repeat-end-byte, other-byte, command, group-end-passed, repeat-passed, repeat-end-passed}
 use Rattle.format.proofs.Refusals.{Each, first-each, refused-exactly}
 
 -- Every open repeat has a count of at least 2, so at its close one sibling inside it is at least two outside.
@@ -65,9 +65,9 @@ module _ (R : Rules) (st : State) (rest : List ℕ) where
   kept step-byte z e = record { twice = z; leaves = some-sibling (omega arith) }
   kept group-byte z e = record { twice = z; leaves = new-group refl refl }
   kept group-end-byte z e =
-      group-end-kept (st .opens) z (group-end-passed R st rest (total-within R st rest 0x12 e) e .inner)
+      group-end-kept (st .opens) z (group-end-passed R st rest e .inner)
   kept repeat-byte z e =
-      record { twice = (repeat-passed R st rest (total-within R st rest 0x20 e) e .twice, z); leaves = new-repeat refl refl }
+      record { twice = (repeat-passed R st rest e .twice, z); leaves = new-repeat refl refl }
   kept repeat-end-byte z e =
       let y = repeat-end-passed R st rest e in
       repeat-end-kept (st .opens) z (y .inner) (y .some)
@@ -99,7 +99,7 @@ module _ (R : Rules) (st : State) (rest : List ℕ) where
   empty-repeat : (s : List ℕ) → refusal R st 0x20 rest ≡ 0 → refusal R (advance (R .prices) 0x20 rest st) 0x21 s ≡ 5
   unfolding advance refusal
   empty-repeat s e =
-      rw (repeat-passed R st rest (total-within R st rest 0x20 e) e .folds, le-ltb (length s) 0 (omega arith))
+      rw (repeat-passed R st rest e .folds, le-ltb (length s) 0 (omega arith))
 
   close-five : (c d : ℕ) (s : List ℕ) → OneKind c d → refusal R st c rest ≡ 0 → refusal R (advance (R .prices) c rest st) d s ≡ 5
   close-five c d s (inl k) e = rw (k .0, k .1) (empty-group s)

@@ -1,6 +1,6 @@
 -- Why ten repeats inside each other are enough: each level at least doubles the nodes of what it holds.
 use mathlib.Core.Path.{_≡_}
-use Prim.Native.Nat.{ℕ, suc, _*_, _^_, _≤_, _<_, max}
+use Prim.Native.Nat.{ℕ, suc, _*_, _^_, _≤_, max}
 use native.Mathlib.Nat.{mul-le-mul, mul-le-mul-left, pow-succ', pow-le-pow-right}
 use native.Mathlib.Decide.{decLe}
 use native.Mathlib.Omega.{arith}
@@ -39,11 +39,6 @@ depth-nodes A (repeat h w b f) z =
     pow-max (suc (repeat-depth b)) (repeat-depth f) _
     (omega (arith, doubled h (repeat-depth b) (nodes b) (z .0 .twice) i))
     (omega (arith, depth-nodes A f (z .2)))
-
-pub deep : (A : Allowed) (f : Forest) → Sound A f → 0 < repeat-depth f → 2 ^ repeat-depth f ≤ nodes f
-deep A f z some =
-    let two : 2 ^ 1 ≤ 2 ^ repeat-depth f = pow-le-pow-right (omega arith) some in
-    omega (arith, depth-nodes A f z)
 
 -- More repeats inside each other than the format allows never fit the nodes that it allows.
 pub depth-fits : (A : Allowed) (f : Forest) → Sound A f → nodes f ≤ limits .nodes → repeat-depth f ≤ limits .repeats

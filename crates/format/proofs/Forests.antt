@@ -148,16 +148,13 @@ sound-unroll A (group l b f) s = (rw (siblings-unroll b) (s .0), sound-unroll A 
 sound-unroll A (repeat h w b f) s =
     sound-join A (copies h (unroll b)) (unroll f) (sound-copies A h (unroll b) (sound-unroll A b (s .1))) (sound-unroll A f (s .2))
 
--- The parts of a sound fold are sound, and folds of one run have as many siblings.
+-- The parts of a sound fold are sound.
 pub sound-parts : (A : Allowed) (f g : Forest) → Sound A (join f g) → Sound A f × Sound A g
 unfolding join
 sound-parts A end g p = (tt, p)
 sound-parts A (step l f) g p = sound-parts A f g p
 sound-parts A (group l b f) g p = let k = sound-parts A f g (p .2) in ((p .0, p .1, k .0), k .1)
 sound-parts A (repeat h w b f) g p = let k = sound-parts A f g (p .2) in ((p .0, p .1, k .0), k .1)
-
-pub same-siblings : (f g : Forest) → unroll f ≡ unroll g → siblings f ≡ siblings g
-same-siblings f g e = cc (siblings-unroll f, siblings-unroll g)
 
 -- What the byte form can hold, and how deep groups and repeats go.
 pub coded-join : (f g : Forest) → Coded f → Coded g → Coded (join f g)

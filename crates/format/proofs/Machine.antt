@@ -84,10 +84,6 @@ module _ (R : Rules) (st : State) (rest : List ℕ) where
   unfolding refusal
   refusal-unknown c e = rw e
 
-  pub refusal-other : (c : ℕ) → c ≢ 0x10 → c ≢ 0x11 → c ≢ 0x12 → c ≢ 0x20 → c ≢ 0x21 → refusal R st c rest ≡ 1
-  refusal-other c p q r s t =
-      refusal-unknown c (rw (ne-eqb c 0x10 p, ne-eqb c 0x11 q, ne-eqb c 0x12 r, ne-eqb c 0x21 t, ne-eqb c 0x20 s))
-
   -- A passed command has its operands.
   pub operands-there : (c : ℕ) → refusal R st c rest ≡ 0 → operands c ≤ length rest
   unfolding refusal
@@ -165,25 +161,25 @@ module _ (R : Rules) (st : State) (rest : List ℕ) where
       refusal-repeat-end R st rest
       ∙ rw (h .folds, h .inner, zero-not _ (h .some), eq-eqb _ _ (h .true-width), le-ltb _ _ (h .total))
 
-  module _ (within : st .tally .nodes ≤ R .limits .nodes) where
-    pub group-end-passed : refusal R st 0x12 rest ≡ 0 → GroupEndPasses st
-    group-end-passed e =
-        let z = first-none (group-end-checks st) (omega arith) (sym (refusal-group-end R st rest within) ∙ e) in
-        record { inner = not-false _ (z .0); some = not-zero _ (z .1 .0) }
+  pub group-end-passed : refusal R st 0x12 rest ≡ 0 → GroupEndPasses st
+  group-end-passed e =
+      let z = first-none (group-end-checks st) (omega arith) (sym (refusal-group-end R st rest (total-within R st rest 0x12 e)) ∙ e) in
+      record { inner = not-false _ (z .0); some = not-zero _ (z .1 .0) }
 
+  pub repeat-passed : refusal R st 0x20 rest ≡ 0 → RepeatPasses R st rest
+  repeat-passed e =
+      let z = first-none (repeat-checks R st rest) (omega arith) (sym (refusal-repeat R st rest (total-within R st rest 0x20 e)) ∙ e) in
+      record {
+        folds = not-false _ (z .0);
+        operand = ltb-false _ _ (z .1 .0);
+        twice = ltb-false _ _ (z .1 .1 .0);
+        narrow = ltb-false _ _ (z .1 .1 .1 .0);
+        room = leb-false _ _ (z .1 .1 .1 .1 .0);
+      }
+
+  module _ (within : st .tally .nodes ≤ R .limits .nodes) where
     pub group-end-passes : GroupEndPasses st → refusal R st 0x12 rest ≡ 0
     group-end-passes h = refusal-group-end R st rest within ∙ rw (h .inner, zero-not _ (h .some))
-
-    pub repeat-passed : refusal R st 0x20 rest ≡ 0 → RepeatPasses R st rest
-    repeat-passed e =
-        let z = first-none (repeat-checks R st rest) (omega arith) (sym (refusal-repeat R st rest within) ∙ e) in
-        record {
-          folds = not-false _ (z .0);
-          operand = ltb-false _ _ (z .1 .0);
-          twice = ltb-false _ _ (z .1 .1 .0);
-          narrow = ltb-false _ _ (z .1 .1 .1 .0);
-          room = leb-false _ _ (z .1 .1 .1 .1 .0);
-        }
 
     pub repeat-passes : RepeatPasses R st rest → refusal R st 0x20 rest ≡ 0
     repeat-passes h =

@@ -117,7 +117,7 @@ module _ (p : ℕ) (st : State) (b : Bounded p st) where
   bounded-command step-byte rest e = let z = step-passed run-rules st rest e in omega arith
   bounded-command group-byte rest e = let z = group-passed run-rules st rest e in omega arith
   bounded-command group-end-byte rest e =
-      bounded-end (st .opens) refl (group-end-passed run-rules st rest (b .total) e .inner)
+      bounded-end (st .opens) refl (group-end-passed run-rules st rest e .inner)
   bounded-command repeat-byte rest e = absurd (omega arith)
   bounded-command repeat-end-byte rest e = absurd (omega arith)
   bounded-command (other-byte {c} f) rest e = absurd (omega (arith, refusal-unknown run-rules st rest c f))

@@ -1,17 +1,17 @@
 -- The cheapest fold is optimal; the optimal fold by its least pair, and the least cost.
 use mathlib.Core.Path.{_≡_, sym, ap, _∙_}
-use Prim.Native.Nat.{ℕ, zero, suc, _+_, _*_, _≤_, _<_}
+use Prim.Native.Nat.{ℕ, zero, suc, _+_, _≤_, _<_}
 use native.Mathlib.Omega.{arith}
 use Rattle.format.specs.Limits.{Prices}
 use Rattle.format.specs.Forest.{Forest, end, step, group, repeat, siblings, nodes, cost, Plain, Allowed, Sound}
 use Rattle.optimum.specs.Optimal.{FoldOf, Optimal}
-use Rattle.optimum.specs.Cheapest.{Run, front, back, node, Candidate, build, price, Bases, usual, own, Spans, Least}
+use Rattle.optimum.specs.Cheapest.{Run, front, back, node, build, price, Bases, usual, own, Spans, Least}
 use Rattle.optimum.specs.Cheapest.{choose, cheapest-by, cheapest, best-cost}
 use Rattle.optimum.proofs.Cut.{run-body}
 use Rattle.optimum.proofs.Powers.{spans-own, spans-usual}
 use Rattle.optimum.proofs.Pieces.{no-dearer, unique}
 use Rattle.optimum.proofs.Items.{count-of, width-of, count-build, width-build, run-of, itself}
-use Rattle.optimum.proofs.Least.{cost-build, least-bases, least-one, build-fold, least-optimal}
+use Rattle.optimum.proofs.Least.{cost-build, least-bases, least-one, least-optimal}
 use Rattle.optimum.proofs.Choose.{choose-least, choose-built}
 
 -- Fuel for one step more solves runs of one node more.
@@ -56,24 +56,6 @@ module _ (A : Allowed) (P : Prices) where
       let one = least-one A P usual (best-cost A P) end (omega arith) in
       least-builds usual end 0 0 (record { plain = tt; sound = tt }) (spans-usual A end (omega arith)) one
 
-  pub optimal-step : (B : Bases) (l : ℕ) (t f : Forest) → Spans A B (step l t) → Least A P B (best-cost A P) (step l t) 0 0
-      → Optimal A P t f → Optimal A P (step l t) (step l f)
-  unfolding build
-  optimal-step B l t f s le o =
-      let r = run-of (o .fold) in
-      rw (is-cheapest o) (least-builds B (step l t) 0 0 (record { plain = r .plain; sound = r .sound }) s le)
-
-  pub optimal-group : (B : Bases) (l : ℕ) (u t b f : Forest) → Run A (group l u t) → Spans A B (group l u t)
-      → Least A P B (best-cost A P) (group l u t) 0 0 → Optimal A P u b → Optimal A P t f → Optimal A P (group l u t) (group l b f)
-  unfolding build
-  optimal-group B l u t b f r s le o o′ = rw (is-cheapest o, is-cheapest o′) (least-builds B (group l u t) 0 0 r s le)
-
-  pub optimal-repeat : (B : Bases) (t b f : Forest) (h w : ℕ) → Run A t → Spans A B t → 2 ≤ h → Least A P B (best-cost A P) t h w
-      → Optimal A P (front w t) b → Optimal A P (back (h * w) t) f → Optimal A P t (repeat h w b f)
-  unfolding build
-  optimal-repeat B t b f zero w r s i le o o′ = absurd (omega arith)
-  optimal-repeat B t b f (suc h) w r s i le o o′ = rw (is-cheapest o, is-cheapest o′) (least-builds B t (suc h) w r s le)
-
   -- And back: an optimal fold begins with the pair of least rank.
   pub least-of-optimal : (B : Bases) (t f : Forest) → Spans A B t → Optimal A P t f
       → Least A P B (best-cost A P) t (count-of f) (width-of f)
@@ -87,7 +69,7 @@ module _ (A : Allowed) (P : Prices) where
       unique A P t f (build (cheapest A P) t h w) o (least-builds B t h w (run-of (o .fold)) s l) in
       rw (e, count-build, width-build (cheapest A P) t h w (l .candidate)) l
 
-  -- The least cost is that of the least pair, and no more than that of any pair, any fold, and the run itself.
+  -- The least cost is that of the least pair, and no more than that of any fold and of the run itself.
   pub best-cost-least : (B : Bases) (t : Forest) (h w : ℕ) → Run A t → Spans A B t → Least A P B (best-cost A P) t h w
       → best-cost A P t ≡ price P (best-cost A P) t h w
   unfolding best-cost
@@ -99,12 +81,6 @@ module _ (A : Allowed) (P : Prices) where
 
   pub best-cost-run : (t : Forest) → Run A t → best-cost A P t ≤ cost P t
   best-cost-run t r = best-cost-fold (itself r)
-
-  pub best-cost-candidate : (t : Forest) (h w : ℕ) → Run A t → Candidate A t h w → best-cost A P t ≤ price P (best-cost A P) t h w
-  unfolding best-cost
-  best-cost-candidate t h w r d =
-      let q = build-fold A P (cheapest A P) (suc (nodes t)) (λ x i k. solves x i) t h w r (omega arith) d in
-      rw (cost-build P (cheapest A P) t h w) at (best-cost-fold q)
 
   -- Of a run of at most one sibling.
   best-cost-one : (t : Forest) → Run A t → siblings t ≤ 1 → best-cost A P t ≡ price P (best-cost A P) t 0 0

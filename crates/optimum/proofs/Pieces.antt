@@ -1,15 +1,15 @@
--- What an optimal fold is made of, by exchange: it is unique, its pieces are optimal for what they unroll to, a better piece
--- makes a better whole, and no fold costs less than the cheapest fold of any one of its nodes.
+-- What an optimal fold is made of, by exchange: it is unique, its pieces are optimal for what they unroll to, and a better
+-- piece makes a better whole.
 use mathlib.Core.Path.{_≡_, refl, sym, ap, _∙_}
-use mathlib.Core.Logic.{_⊎_, inl, inr, ⊎-elim, ⊎-map}
+use mathlib.Core.Logic.{inl, inr}
 use mathlib.Core.List.{List, [], _∷_, _++_, append-nil}
-use Prim.Native.Nat.{ℕ, zero, suc, _+_, _≤_, _<_}
+use Prim.Native.Nat.{ℕ, _+_, _≤_, _<_}
 use native.Mathlib.Decide.{decLt}
 use native.Mathlib.Omega.{arith}
 use Rattle.format.specs.Limits.{Prices, of-repeat}
-use Rattle.format.specs.Forest.{Forest, end, step, group, repeat, join, copies, unroll, siblings, cost, bytes, two-bytes, Plain, Allowed, Sound}
+use Rattle.format.specs.Forest.{Forest, end, step, group, repeat, join, unroll, cost, bytes, two-bytes, Allowed, Sound}
 use Rattle.format.specs.Order.{Before}
-use Rattle.format.proofs.Forests.{join-end, bytes-join, cost-join, unroll-join, sound-join, sound-parts, same-siblings}
+use Rattle.format.proofs.Forests.{bytes-join, cost-join, unroll-join, sound-join, sound-parts}
 use Rattle.format.proofs.Order.{irreflexive, asymmetric, transitive, under, ignores, Ordered, compare}
 use Rattle.optimum.specs.Optimal.{FoldOf, NoWorse, cheaper, same, earlier, Optimal}
 
@@ -41,23 +41,9 @@ later-cheaper (cheaper h) k = h
 later-cheaper {g} (same e) k = absurd (irreflexive (bytes g) (rw e at k))
 later-cheaper (earlier e h) k = absurd (asymmetric h k)
 
--- The optimal fold is one, and costs the least.
+-- The optimal fold is one.
 pub unique : (A : Allowed) (P : Prices) (t f g : Forest) → Optimal A P t f → Optimal A P t g → f ≡ g
 unique A P t f g o q = antisymmetric (o .best g (q .fold)) (q .best f (o .fold))
-
-pub least : (A : Allowed) (P : Prices) (t f g : Forest) → Optimal A P t f → FoldOf A t g → cost P f ≤ cost P g
-least A P t f g o q = no-dearer (o .best g q)
-
--- Of two folds of one run one is no worse.
-pub total : (A : Allowed) (P : Prices) (f g : Forest) → Sound A f → Sound A g → unroll f ≡ unroll g → NoWorse P f g ⊎ NoWorse P g f
-total A P f g p q e = go (decLt (cost P f) (cost P g)) (decLt (cost P g) (cost P f)) (compare A f g p q e)
-  where
-    go : Dec (cost P f < cost P g) → Dec (cost P g < cost P f) → Ordered f g → NoWorse P f g ⊎ NoWorse P g f
-    go (yes h) d o = inl (cheaper h)
-    go (no h) (yes k) o = inr (cheaper k)
-    go (no h) (no k) (inl s) = inl (same s)
-    go (no h) (no k) (inr (inl b)) = inl (earlier (omega arith) b)
-    go (no h) (no k) (inr (inr b)) = inr (earlier (omega arith) b)
 
 -- A place in a fold: what stands around it is spelt and paid apart from what stands in it.
 record Place (P : Prices) (around : Forest → Forest) : Type 0 where
@@ -144,37 +130,6 @@ pieces A P t x y o =
           (λ z p. record { sound = sound-join A x z (s .0) (p .sound); unrolls = unroll-join x z ∙ rw (p .unrolls) t-is }) o,
     )
 
-pub step-part : (A : Allowed) (P : Prices) (t f : Forest) (l : ℕ) → Optimal A P t (step l f) → Optimal A P (unroll f) f
-unfolding join
-step-part A P t f l o = pieces A P t (step l end) f o .1
-
-pub group-parts : (A : Allowed) (P : Prices) (t b f : Forest) (l : ℕ) → Optimal A P t (group l b f)
-    → Optimal A P (unroll b) b × Optimal A P (unroll f) f
-unfolding join unroll
-group-parts A P t b f l o =
-    let s = o .fold .sound in (
-      exchange P (λ c. group l c f) (body-of-group P l f) A t b (s .1)
-          (λ c p. record { sound = (rw (same-siblings c b (p .unrolls)) (s .0), p .sound, s .2); unrolls = rw (p .unrolls) (o .fold .unrolls) }) o,
-      pieces A P t (group l b end) f o .1,
-    )
-
-pub repeat-parts : (A : Allowed) (P : Prices) (t b f : Forest) (h w : ℕ) → Optimal A P t (repeat h w b f)
-    → Optimal A P (unroll b) b × Optimal A P (unroll f) f × Optimal A P (copies h (unroll b)) (repeat h w b end)
-unfolding join unroll
-repeat-parts A P t b f h w o =
-    let s = o .fold .sound in
-    let r = s .0 in
-    let k = pieces A P t (repeat h w b end) f o in (
-      exchange P (λ c. repeat h w c f) (body-of-repeat P h w f) A t b (s .1)
-          (λ c p. let e = same-siblings c b (p .unrolls) in
-          record {
-            sound = (record { twice = r .twice; true-width = e ∙ r .true-width; within = r .within; some = rw e (r .some) }, p .sound, s .2);
-            unrolls = rw (p .unrolls) (o .fold .unrolls);
-          }) o,
-      k .1,
-      rw join-end at (k .0),
-    )
-
 -- No worse parts make a no worse whole. So, by `best` of optimal parts, no fold with the same first item is better than theirs.
 pub join-no-worse : (P : Prices) (x x' y y' : Forest) → NoWorse P x x' → NoWorse P y y' → NoWorse P (join x y) (join x' y')
 join-no-worse P x x' y y' m n =
@@ -194,65 +149,3 @@ pub repeat-no-worse : (P : Prices) (h w : ℕ) (b b' f f' : Forest) → NoWorse 
 unfolding join
 repeat-no-worse P h w b b' f f' m n =
     join-no-worse P (repeat h w b end) (repeat h w b' end) f f' (in-place P (λ c. repeat h w c end) (body-of-repeat P h w end) b b' m) n
-
--- The nodes of a sequence's own level, each as a sequence of its own.
-abbrev pub Among : Forest → Forest → Type 0
-Among n end = ⊥
-Among n (step l f) = (n ≡ step l end) ⊎ Among n f
-Among n (group l b f) = (n ≡ group l b end) ⊎ Among n f
-Among n (repeat h w b f) = Among n f
-
-among-join : (n x y : Forest) → Among n (join x y) → Among n x ⊎ Among n y
-unfolding join
-among-join n end y m = inr m
-among-join n (step l x) y (inl e) = inl (inl e)
-among-join n (step l x) y (inr m) = ⊎-map inr (λ k. k) (among-join n x y m)
-among-join n (group l b x) y (inl e) = inl (inl e)
-among-join n (group l b x) y (inr m) = ⊎-map inr (λ k. k) (among-join n x y m)
-among-join n (repeat h w b x) y m = among-join n x y m
-
-among-copies : (n : Forest) (h : ℕ) (f : Forest) → Among n (copies h f) → Among n f
-unfolding copies
-among-copies n zero f m = absurd m
-among-copies n (suc h) f m = ⊎-elim (λ k. k) (λ k. among-copies n h f k) (among-join n f (copies h f) m)
-
-among-last : (n x y : Forest) → Among n y → Among n (join x y)
-unfolding join
-among-last n end y m = m
-among-last n (step l x) y m = inr (among-last n x y m)
-among-last n (group l b x) y m = inr (among-last n x y m)
-among-last n (repeat h w b x) y m = among-last n x y m
-
--- A run of no sibling is empty; a run of one is among itself, whatever follows.
-empty : (f : Forest) → Plain f → siblings f ≡ 0 → f ≡ end
-unfolding siblings
-empty end p e = refl
-empty (step l f) p e = absurd (omega arith)
-empty (group l b f) p e = absurd (omega arith)
-empty (repeat h w b f) p e = absurd p
-
-among-single : (n y : Forest) → Plain n → siblings n ≡ 1 → Among n (join n y)
-unfolding join siblings
-among-single end y p e = absurd (omega arith)
-among-single (step l f) y p e = inl (ap (step l) (empty f p (omega arith)))
-among-single (group l b f) y p e = inl (ap (group l b) (empty f (p .1) (omega arith)))
-among-single (repeat h w b f) y p e = absurd p
-
--- Every fold costs at least the cheapest fold of any one node of what it unrolls to.
-pub one-among : (A : Allowed) (P : Prices) (n m g : Forest) → Optimal A P n m → Sound A g → Among n (unroll g) → cost P m ≤ cost P g
-unfolding unroll cost
-one-among A P n m end o s k = absurd k
-one-among A P n m (step l g) o s (inl e) =
-    let c = least A P n m (step l end) o (record { sound = tt; unrolls = sym e }) in omega arith
-one-among A P n m (step l g) o s (inr k) = omega (arith, one-among A P n m g o s k)
-one-among A P n m (group l b g) o s (inl e) =
-    let c = least A P n m (group l b end) o (record { sound = (s .0, s .1, tt); unrolls = sym e }) in omega arith
-one-among A P n m (group l b g) o s (inr k) = omega (arith, one-among A P n m g o (s .2) k)
-one-among A P n m (repeat h w b g) o s k =
-    ⊎-elim (λ i. omega (arith, one-among A P n m b o (s .1) (among-copies n h (unroll b) i))) (λ i. omega (arith, one-among A P n m g o (s .2) i))
-    (among-join n (copies h (unroll b)) (unroll g) k)
-
--- The same for a node n of a stretch, x before it and y after it.
-pub one-of : (A : Allowed) (P : Prices) (x n y m g : Forest) → Plain n → siblings n ≡ 1 → Optimal A P n m → FoldOf A (join x (join n y)) g
-    → cost P m ≤ cost P g
-one-of A P x n y m g p e o q = one-among A P n m g o (q .sound) (rw (q .unrolls) (among-last n x (join n y) (among-single n y p e)))

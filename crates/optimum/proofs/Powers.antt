@@ -1,5 +1,5 @@
 -- Copies at the beginning of a run: one equation for them, how they are found sibling by sibling, how far they reach.
-use mathlib.Core.Path.{_≡_, refl, sym, ap, _∙_}
+use mathlib.Core.Path.{_≡_, sym, ap, _∙_}
 use Prim.Native.Nat.{ℕ, zero, suc, _+_, _-_, _*_, _≤_, _<_, min}
 use native.Mathlib.Nat.{suc-mul, le-mul-of-pos-right, mul-le-mul-right}
 use native.Mathlib.Numerals.{add-one}
@@ -18,19 +18,9 @@ node-front j n t h =
 pub node-back : (i j n : ℕ) (t : Forest) → i + j ≡ n → node j (back i t) ≡ node n t
 node-back i j n t e = rw (back-back i j n t e)
 
--- Two beginnings that are equal have equal shorter ones, and are equal by their siblings.
+-- Two beginnings that are equal have equal shorter ones.
 pub front-less : (m k n : ℕ) (s t : Forest) → m + k ≡ n → front n s ≡ front n t → front m s ≡ front m t
 front-less m k n s t e h = sym (front-front m k n s e) ∙ ap (front m) h ∙ front-front m k n t e
-
-pub front-ext : (n : ℕ) (s t : Forest) → ((j : ℕ) → j < n → node j s ≡ node j t) → front n s ≡ front n t
-unfolding front back
-front-ext zero s t h = refl
-front-ext (suc n) s t h =
-    let first : front 1 s ≡ front 1 t = h 0 (omega arith) in
-    let next : (j : ℕ) → j < n → node j (back 1 s) ≡ node j (back 1 t) =
-    λ j i. node-back 1 j (suc j) s (omega arith) ∙ h (suc j) (omega arith) ∙ sym (node-back 1 j (suc j) t (omega arith)) in
-    let rest = front-ext n (back 1 s) (back 1 t) next in
-    cc (front-add 1 n (suc n) s (omega arith), front-add 1 n (suc n) t (omega arith))
 
 -- Where the siblings equal those w further on, as far as g copies reach, stands one copy more; and back.
 pub copied-from-shift : (g w : ℕ) (t : Forest) → front (g * w) t ≡ front (g * w) (back w t)
@@ -56,43 +46,13 @@ shift-from-copied g w t p s e =
     ∙ ap (back w) (sym e)
     ∙ back-front w (g * w) (suc g * w) t (omega (arith, suc-mul g w))
 
--- The same sibling by sibling, from sibling i on.
-pub copied-from-nodes : (i g w : ℕ) (t : Forest) → ((j : ℕ) → j < g * w → node (i + j) t ≡ node (i + j + w) t)
-    → front (suc g * w) (back i t) ≡ copies (suc g) (front w (back i t))
-copied-from-nodes i g w t h =
-    copied-from-shift g w (back i t) (front-ext (g * w) (back i t) (back w (back i t)) (λ j l.
-    node-back i j (i + j) t refl
-    ∙ h j l
-    ∙ rw (back-back i w (i + w) t refl) (sym (node-back (i + w) j (i + j + w) t (omega arith)))))
-
-pub nodes-from-copied : (i g w j : ℕ) (t : Forest) → Plain (front w (back i t)) → siblings (front w (back i t)) ≡ w
-    → front (suc g * w) (back i t) ≡ copies (suc g) (front w (back i t)) → j < g * w → node (i + j) t ≡ node (i + j + w) t
-nodes-from-copied i g w j t p s e l =
-    sym (node-back i j (i + j) t refl)
-    ∙ sym (node-front j (g * w) (back i t) l)
-    ∙ ap (node j) (shift-from-copied g w (back i t) p s e)
-    ∙ node-front j (g * w) (back w (back i t)) l
-    ∙ rw (back-back i w (i + w) t refl) (node-back (i + w) j (i + j + w) t (omega arith))
-
--- One sibling more that equals the one w further on; and one less.
+-- One sibling more that equals the one w further on.
 pub shift-grow : (k w : ℕ) (t : Forest) → node 0 t ≡ node w t → front k (back 1 t) ≡ front k (back w (back 1 t))
     → front (suc k) t ≡ front (suc k) (back w t)
 unfolding back
 shift-grow k w t a b =
     let first : front 1 t ≡ front 1 (back w t) = a in
     cc (front-add 1 k (suc k) t (omega arith), front-add 1 k (suc k) (back w t) (omega arith), back-swap w 1 t)
-
-pub shift-first : (k w : ℕ) (t : Forest) → front (suc k) t ≡ front (suc k) (back w t) → node 0 t ≡ node w t
-unfolding back
-shift-first k w t e = front-less 1 k (suc k) t (back w t) (omega arith) e
-
-pub shift-rest : (k w : ℕ) (t : Forest) → front (suc k) t ≡ front (suc k) (back w t)
-    → front k (back 1 t) ≡ front k (back w (back 1 t))
-shift-rest k w t e =
-    sym (back-front 1 k (suc k) t (omega arith))
-    ∙ ap (back 1) e
-    ∙ back-front 1 k (suc k) (back w t) (omega arith)
-    ∙ ap (front k) (back-swap 1 w t)
 
 -- A repeat of count h = g + 1 may stand first exactly where the siblings equal those w further on for at least g × w.
 pub power-from-shift : {A : Allowed} {t : Forest} (g h w k : ℕ) → Run A t → suc g ≡ h → 0 < g → 0 < w → w ≤ A .widest

@@ -1,6 +1,6 @@
 -- Laws of where a node starts and where it ends, as loops over offsets read them.
 use mathlib.Core.Path.{_≡_, refl, sym, _∙_}
-use mathlib.Core.Bool.{Bool, true, false, cond, false≢true}
+use mathlib.Core.Bool.{Bool, true, false, cond}
 use mathlib.Core.List.{List, [], _∷_}
 use mathlib.Core.Logic.{_≢_}
 use Prim.Native.Nat.{ℕ, zero, suc, _+_, _-_, _<_, _≤_}
@@ -155,14 +155,6 @@ module _ (s : List ℕ) (at q d k : ℕ) (so-far : Ending s at q d k) where
             few = omega (arith, so-far .few);
             same = omega (arith, so-far .same);
           }
-
--- A node starts only where there is a byte.
-pub starts-within : (p k : ℕ) (s : List ℕ) → starts p k s ≡ true → p < length s
-unfolding starts
-starts-within p k [] h = absurd (false≢true h)
-starts-within zero k (c ∷ s) h = omega arith
-starts-within (suc p) zero (c ∷ s) h = omega (arith, starts-within p (operands c) s h)
-starts-within (suc p) (suc k) (c ∷ s) h = omega (arith, starts-within p k s h)
 
 all-taken : (s : List ℕ) (p n : ℕ) → length s - p ≤ n → take n (drop p s) ≡ drop p s
 all-taken s p n h = take-all n (drop p s) (rw length-drop h)
