@@ -1,6 +1,6 @@
 -- Why ten repeats inside each other are enough: each level at least doubles the nodes of what it holds.
 use mathlib.Core.Path.{_≡_}
-use Prim.Native.Nat.{ℕ, suc, _*_, _^_, _≤_, max}
+use Prim.Native.Nat.{ℕ, suc, _*_, _^_, _≤_, _<_, max}
 use native.Mathlib.Nat.{mul-le-mul, mul-le-mul-left, pow-succ', pow-le-pow-right}
 use native.Mathlib.Decide.{decLe}
 use native.Mathlib.Omega.{arith}
@@ -42,10 +42,10 @@ depth-nodes A (repeat h w b f) z =
 
 -- More repeats inside each other than the format allows never fit the nodes that it allows.
 pub depth-fits : (A : Allowed) (f : Forest) → Sound A f → nodes f ≤ limits .nodes → repeat-depth f ≤ limits .repeats
-depth-fits A f z few = go (decLe 11 (repeat-depth f))
+depth-fits A f z few = go (decLe (suc (limits .repeats)) (repeat-depth f))
   where
-    go : Dec (11 ≤ repeat-depth f) → repeat-depth f ≤ 10
+    go : Dec (limits .repeats < repeat-depth f) → repeat-depth f ≤ limits .repeats
     go (yes h) =
-        let many : 2 ^ 11 ≤ 2 ^ repeat-depth f = pow-le-pow-right (omega arith) h in
+        let many : 2 ^ suc (limits .repeats) ≤ 2 ^ repeat-depth f = pow-le-pow-right (omega arith) h in
         absurd (omega (arith, depth-nodes A f z))
     go (no h) = omega arith

@@ -126,12 +126,12 @@ bounded : {s : List ℕ} {p : ℕ} {st : State} → Reached run-rules s p st →
 bounded at-start = omega arith
 bounded {s} (passed {p} {st} r lt e) = bounded-command p st (bounded r) (command (getD s p 0)) (drop (suc p) s) e
 
--- No offset of a run beyond 3 × 1,024 is reached.
-pub reached-below : {s : List ℕ} {p : ℕ} {st : State} → Reached run-rules s p st → p ≤ 3072
+-- No offset of a run beyond three bytes a node is reached.
+pub reached-below : {s : List ℕ} {p : ℕ} {st : State} → Reached run-rules s p st → p ≤ 3 * limits .nodes
 reached-below r = let b = bounded r in omega arith
 
 -- A run that is accepted has at most that many bytes.
-pub accepted-short : (s : List ℕ) (t : Tally) (x : List ℕ) → read run-rules s ≡ accepted t x → length s ≤ 3072
+pub accepted-short : (s : List ℕ) (t : Tally) (x : List ℕ) → read run-rules s ≡ accepted t x → length s ≤ 3 * limits .nodes
 accepted-short s t x out = reached-below (accepted-exactly run-rules s t x .0 out .reached)
 
 -- A command whose operands are there is not refused with 3, and no command has more than four.

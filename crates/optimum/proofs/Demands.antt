@@ -60,7 +60,7 @@ depth-fold A (repeat (suc h) w b f) s =
 pub fold-shaped : (k : ℕ) (P : Prices) (u f : Forest) → Shaped run-rules u → FoldOf (at-most k) u f → Shaped (fold-rules k P) f
 fold-shaped k P u f s o =
     let e = o .unrolls in
-    let n : nodes f ≤ 1024 = omega (arith, nodes-unroll f, ap nodes e, s .total) in
+    let n : nodes f ≤ limits .nodes = omega (arith, nodes-unroll f, ap nodes e, s .total) in
     let c : Coded (unroll f) = rw e (s .coded) in
     record {
       coded = coded-fold (at-most k) f (o .sound) (omega arith) c;
