@@ -4,12 +4,12 @@ use crate::print::number;
 use crate::print::word;
 use format::Folded;
 use format::Format;
+use harness::begins;
+use harness::fold_checked;
+use harness::put_byte;
+use harness::unrolls;
 use reader::read_fold;
 use reader::read_run;
-use trying::begins;
-use trying::fold_checked;
-use trying::put_byte;
-use trying::unrolls;
 
 // Whether a fold has these values by the fold reader.
 fn reads(

@@ -2,10 +2,10 @@
 use crate::print::difference;
 use crate::print::number;
 use crate::print::word;
+use harness::above;
 use reader::part;
 use reader::same_node;
 use reader::wide;
-use trying::above;
 
 // Whether the part at an offset is that many bytes of the run.
 fn part_is(run: &[u8], at: usize, n: usize) -> bool {

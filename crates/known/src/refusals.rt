@@ -3,11 +3,11 @@ use crate::cases::steps;
 use crate::print::difference;
 use crate::print::number;
 use crate::print::word;
+use harness::fill_bytes;
+use harness::fold_checked;
+use harness::untouched;
 use reader::read_fold;
 use reader::read_run;
-use trying::fill_bytes;
-use trying::fold_checked;
-use trying::untouched;
 use unroller::unroll;
 
 // What is expected: the number and the place.

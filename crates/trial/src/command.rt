@@ -1,6 +1,6 @@
 // Command strings, for the search over all of them: the commands in byte order, with labels 1 and 2.
 use format::Format;
-use trying::put_byte;
+use harness::put_byte;
 ghost use Prim.Native.Nat.{_<_};
 
 // A command: its byte and its operands, a label or a count and a width.

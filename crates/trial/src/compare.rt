@@ -2,13 +2,13 @@
 // prices and limits.
 use crate::folds::fold_at;
 use crate::folds::gather;
+use harness::begins;
+use harness::fold_checked;
 use libc::STDOUT_FILENO;
 use reader::read_fold;
 use reader::read_run;
 use reader::wide;
 use std::num::wrapping_add_u64;
-use trying::begins;
-use trying::fold_checked;
 
 // Prices: of the labels 1 and 2, and of a repeat.
 struct Setting {

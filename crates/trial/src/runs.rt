@@ -13,8 +13,8 @@ use crate::compare::Sums;
 use crate::compare::nothing;
 use crate::compare::try_run;
 use format::Format;
+use harness::above;
 use reader::read_run;
-use trying::above;
 
 // The nodes of a string of `depth` commands: counts[k] are those of its first k commands. More than `most` where the last one
 // is not wanted.

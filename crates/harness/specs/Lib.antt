@@ -1,0 +1,2 @@
+-- What the contracts of `harness` cite.
+pub mod Lent

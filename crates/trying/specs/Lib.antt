@@ -1,2 +1,0 @@
--- What the contracts of `trying` cite.
-pub mod Lent
