@@ -1,7 +1,6 @@
 // The folder against the trial of every fold: the best of all folds of a run, by cost and then by byte order, at several
 // prices and limits.
-use crate::folds::fold_at;
-use crate::folds::gather;
+use harness::Checked;
 use harness::begins;
 use harness::fold_checked;
 use libc::STDOUT_FILENO;
@@ -9,17 +8,19 @@ use reader::read_fold;
 use reader::read_run;
 use reader::wide;
 use std::num::wrapping_add_u64;
+use strings::fold_at;
+use strings::gather;
 
 // Prices: of the labels 1 and 2, and of a repeat.
-struct Setting {
+struct Prices {
     one: u16,
     two: u16,
     first: u16,
     each: u16,
 }
 
-fn prices(one: u16, two: u16, first: u16, each: u16) -> Setting {
-    Setting {
+fn priced(one: u16, two: u16, first: u16, each: u16) -> Prices {
+    Prices {
         one,
         two,
         first,
@@ -28,20 +29,20 @@ fn prices(one: u16, two: u16, first: u16, each: u16) -> Setting {
 }
 
 // The prices that are tried: unit costs, first 0, each 5, labels that cost nothing, and labels that cost unlike.
-fn prices_of(k: usize) -> Setting {
+fn prices_of(k: usize) -> Prices {
     if k == 0 {
-        return prices(1, 1, 1, 0);
+        return priced(1, 1, 1, 0);
     }
     if k == 1 {
-        return prices(1, 1, 0, 0);
+        return priced(1, 1, 0, 0);
     }
     if k == 2 {
-        return prices(1, 1, 1, 5);
+        return priced(1, 1, 1, 5);
     }
     if k == 3 {
-        return prices(0, 0, 1, 0);
+        return priced(0, 0, 1, 0);
     }
-    prices(3, 1, 2, 1)
+    priced(3, 1, 2, 1)
 }
 
 // The limits that are tried: 0 to 3, and the largest.
@@ -69,10 +70,10 @@ fn before(a: &[u8], b: &[u8]) -> bool {
     false
 }
 
-// The best fold so far: whether there is one, its number in the pool, and its cost.
+// The best fold so far: whether there is one, which of the pool, and its cost.
 struct Best {
     some: bool,
-    number: usize,
+    k: usize,
     cost: u64,
 }
 
@@ -81,17 +82,16 @@ fn better(
     best: Best,
     k: usize,
     pool: &[u8],
-    lengths: &[usize],
     limit: usize,
     table: &[u16],
     first: u16,
     each: u16,
 ) -> Best {
-    let fold = fold_at(pool, lengths, k);
+    let fold = fold_at(pool, k);
     let r = read_fold(fold, limit, table, first, each);
     let this = Best {
         some: true,
-        number: k,
+        k,
         cost: r.cost,
     };
     if r.refusal != 0 {
@@ -106,30 +106,22 @@ fn better(
     if best.cost < r.cost {
         return best;
     }
-    if before(fold, fold_at(pool, lengths, best.number)) {
+    if before(fold, fold_at(pool, best.k)) {
         return this;
     }
     best
 }
 
 // The best fold of the pool.
-fn best_of(
-    found: usize,
-    pool: &[u8],
-    lengths: &[usize],
-    limit: usize,
-    table: &[u16],
-    first: u16,
-    each: u16,
-) -> Best {
+fn best_of(found: usize, pool: &[u8], limit: usize, table: &[u16], first: u16, each: u16) -> Best {
     let mut best = Best {
         some: false,
-        number: 0,
+        k: 0,
         cost: 0,
     };
     let mut k = 0;
     while k < found {
-        best = better(best, k, pool, lengths, limit, table, first, each);
+        best = better(best, k, pool, limit, table, first, each);
         k += 1;
     }
     best
@@ -168,54 +160,69 @@ fn compared(mut sums: Sums, right: bool, cost: u64, length: usize) -> Sums {
 }
 
 // The folder's fold at one setting of prices and limit, against the best of the pool.
-fn compare(
-    sums: Sums,
-    setting: usize,
-    run: &[u8],
-    found: usize,
-    pool: &[u8],
-    lengths: &[usize],
-) -> Sums {
+fn compare(sums: Sums, setting: usize, run: &[u8], found: usize, pool: &[u8]) -> Sums {
     let p = prices_of(setting / 5);
     let limit = limit_of(setting % 5);
     let mut table = [7u16; 256];
     table[1] = p.one;
     table[2] = p.two;
+    let best = best_of(found, pool, limit, &table, p.first, p.each);
+    compare_best(
+        sums,
+        run,
+        limit,
+        &table,
+        p.first,
+        p.each,
+        best,
+        fold_at(pool, best.k),
+    )
+}
+
+// The folder's fold against the best one.
+fn compare_best(
+    sums: Sums,
+    run: &[u8],
+    limit: usize,
+    table: &[u16],
+    first: u16,
+    each: u16,
+    best: Best,
+    fold: &[u8],
+) -> Sums {
     let mut costs = [0u32; 60];
     let mut choices = [0u32; 60];
     let mut out = [0u8; 64];
     let c = fold_checked(
         run,
         limit,
-        &table,
-        p.first,
-        p.each,
+        table,
+        first,
+        each,
         &mut costs,
         &mut choices,
         &mut out,
     );
-    let r = c.answer;
-    let n = r.length;
-    let best = best_of(found, pool, lengths, limit, &table, p.first, p.each);
-    let mut right = agree(c.right, r.refusal, r.cost, best);
-    if !begins(&out, n, fold_at(pool, lengths, best.number)) {
+    let n = c.answer.length;
+    let mut right = agree(c, best);
+    if !begins(&out, n, fold) {
         right = false;
     }
-    compared(sums, right, r.cost, n)
+    compared(sums, right, c.answer.cost, n)
 }
 
 // Whether the folder's answer is that of the best fold.
-fn agree(right: bool, refusal: u8, cost: u64, best: Best) -> bool {
-    if refusal != 0 {
+fn agree(c: Checked, best: Best) -> bool {
+    if c.answer.refusal != 0 {
         return false;
     }
     if !best.some {
         return false;
     }
-    if cost != best.cost {
+    if c.answer.cost != best.cost {
         return false;
     }
-    right
+    c.right
 }
 
 // The settings of prices and limits from one up to another; there are 25.
@@ -224,18 +231,11 @@ pub struct Settings {
     pub to: usize,
 }
 
-fn compare_all(
-    before: Sums,
-    at: Settings,
-    run: &[u8],
-    found: usize,
-    pool: &[u8],
-    lengths: &[usize],
-) -> Sums {
-    let mut sums = before;
-    let mut setting = at.from;
-    while setting < at.to {
-        sums = compare(sums, setting, run, found, pool, lengths);
+fn compare_all(tried: Sums, settings: Settings, run: &[u8], found: usize, pool: &[u8]) -> Sums {
+    let mut sums = tried;
+    let mut setting = settings.from;
+    while setting < settings.to {
+        sums = compare(sums, setting, run, found, pool);
         setting += 1;
     }
     sums
@@ -255,38 +255,30 @@ fn differ(run: &[u8]) {
     io::write_all(STDOUT_FILENO, b"\n");
 }
 
-// One run, at some settings, against all its folds.
-pub fn try_run(mut sums: Sums, at: Settings, run: &[u8]) -> Sums {
-    let mut text = [0u8; 128];
+// All folds of a run against the folder's, at some settings.
+fn try_folds(mut sums: Sums, settings: Settings, run: &[u8], most: u8) -> Sums {
+    let mut string = [0u8; 128];
     let mut starts = [0usize; 64];
-    let mut places = [0usize; 64];
-    let mut bounds = [0usize; 64];
-    let mut tops = [0usize; 64];
+    let mut trail = [0usize; 192];
     let mut pool = [0u8; 76800];
-    let mut lengths = [0usize; 1200];
-    let nodes = read_run(run).nodes;
-    if 255 < nodes {
-        sums.right = false;
-        return sums;
-    }
-    let s = gather(
-        run,
-        nodes as u8,
-        &mut text,
-        &mut starts,
-        &mut places,
-        &mut bounds,
-        &mut tops,
-        &mut pool,
-        &mut lengths,
-    );
-    sums.runs = wrapping_add_u64(sums.runs, 1);
-    sums.folds = wrapping_add_u64(sums.folds, s.found as u64);
-    sums = compare_all(sums, at, run, s.found, &pool, &lengths);
+    let s = gather(run, most, &mut string, &mut starts, &mut trail, &mut pool);
     if s.short {
         sums.right = false;
     }
     if !s.done {
+        sums.right = false;
+    }
+    sums.folds = wrapping_add_u64(sums.folds, s.found as u64);
+    compare_all(sums, settings, run, s.found, &pool)
+}
+
+// One run, at some settings, against all its folds.
+pub fn try_run(mut sums: Sums, settings: Settings, run: &[u8]) -> Sums {
+    let nodes = read_run(run).nodes;
+    sums.runs = wrapping_add_u64(sums.runs, 1);
+    if nodes < 256 {
+        sums = try_folds(sums, settings, run, nodes as u8);
+    } else {
         sums.right = false;
     }
     if !sums.right {

@@ -1,8 +1,6 @@
 // The trial of short runs: the folder on all of them, against every fold that each has. It prints what was tried, and a line
 // that begins with `difference` where the two do not agree.
-mod command;
 mod compare;
-mod folds;
 mod runs;
 
 use compare::Settings;

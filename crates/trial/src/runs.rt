@@ -1,13 +1,4 @@
 // All short runs over two labels, by the same search over command strings as their folds.
-use crate::command::Search;
-use crate::command::command_at;
-use crate::command::deeper;
-use crate::command::left;
-use crate::command::number_at;
-use crate::command::put_number;
-use crate::command::retry;
-use crate::command::spent;
-use crate::command::start;
 use crate::compare::Settings;
 use crate::compare::Sums;
 use crate::compare::nothing;
@@ -15,22 +6,32 @@ use crate::compare::try_run;
 use format::Format;
 use harness::above;
 use reader::read_run;
+use strings::Search;
+use strings::command_at;
+use strings::deeper;
+use strings::front;
+use strings::left;
+use strings::number_at;
+use strings::put_number;
+use strings::retry;
+use strings::spent;
+use strings::start;
 
-// The nodes of a string of `depth` commands: counts[k] are those of its first k commands. More than `most` where the last one
-// is not wanted.
-fn count(
-    text: &[u8],
+// The nodes of a string of `depth` commands, where nodes[k] are those of its first k commands. More than `most` where the last
+// one is not wanted.
+fn nodes_of(
+    string: &[u8],
     depth: usize,
     groups: bool,
     most: usize,
     starts: &[usize],
-    counts: &[usize],
+    nodes: &[usize],
 ) -> usize {
     if depth == 0 {
         return 0;
     }
-    let kind = command_at(text, number_at(starts, depth - 1)).kind;
-    let n = number_at(counts, depth - 1);
+    let kind = command_at(string, number_at(starts, depth - 1)).kind;
+    let n = number_at(nodes, depth - 1);
     if kind == Format::STEP {
         return above(n);
     }
@@ -43,69 +44,60 @@ fn count(
     n
 }
 
-// The search and what was tried.
-struct Progress {
-    search: Search,
-    sums: Sums,
-}
-
-// A string that the run reader accepts is tried, and is gone on from as is one with something open.
-fn attempt(p: Progress, at: Settings, text: &mut [u8], starts: &mut [usize]) -> Progress {
-    let s = p.search;
-    let sums = p.sums;
-    let n = number_at(starts, s.depth);
-    if text.len() < n {
-        let search = spent(s);
-        return Progress { search, sums };
-    }
-    let refusal = read_run(&text[0..n]).refusal;
+// Whether a string is a run (2) or may be the beginning of one (1), or neither.
+fn judge(string: &[u8]) -> u8 {
+    let refusal = read_run(string).refusal;
     if refusal == 0 {
-        let tried = try_run(sums, at, &text[0..n]);
-        let search = deeper(s, text, starts);
-        return Progress {
-            search,
-            sums: tried,
-        };
+        return 2;
     }
     if refusal == 3 {
-        let search = deeper(s, text, starts);
-        return Progress { search, sums };
+        return 1;
     }
-    let search = spent(s);
-    Progress { search, sums }
+    0
 }
 
-// One turn: another string where the search goes back, or else an attempt at this one, unless it has too many nodes.
-fn turn(
-    p: Progress,
-    at: Settings,
+// The same of the string that a search has come to, unless it goes back or the string has too many nodes.
+fn look(
+    s: Search,
     groups: bool,
     most: usize,
-    text: &mut [u8],
-    starts: &mut [usize],
-    counts: &mut [usize],
-) -> Progress {
-    let s = p.search;
-    let sums = p.sums;
+    string: &[u8],
+    starts: &[usize],
+    nodes: &mut [usize],
+) -> u8 {
     if s.back {
-        let search = retry(s, 0, text, starts);
-        return Progress { search, sums };
+        return 0;
     }
-    let depth = s.depth;
-    let nodes = count(text, depth, groups, most, starts, counts);
-    put_number(counts, depth, nodes);
-    if most < nodes {
-        let search = spent(s);
-        return Progress { search, sums };
+    let n = nodes_of(string, s.depth, groups, most, starts, nodes);
+    put_number(nodes, s.depth, n);
+    if most < n {
+        return 0;
     }
-    attempt(p, at, text, starts)
+    judge(front(string, starts, s.depth))
+}
+
+// A run is tried.
+fn tried(sums: Sums, settings: Settings, seen: u8, run: &[u8]) -> Sums {
+    if seen == 2 {
+        return try_run(sums, settings, run);
+    }
+    sums
+}
+
+// One turn of the search, by what was seen of its string.
+fn turn(s: Search, seen: u8, string: &mut [u8], starts: &mut [usize]) -> Search {
+    if s.back {
+        return retry(s, 0, string, starts);
+    }
+    if seen == 0 {
+        return spent(s);
+    }
+    deeper(s, string, starts)
 }
 
 // Whether all runs were tried, or one showed a difference.
-fn over(p: Progress) -> bool {
-    let search = p.search;
-    let sums = p.sums;
-    if search.done {
+fn over(s: Search, sums: Sums) -> bool {
+    if s.done {
         return true;
     }
     !sums.right
@@ -113,27 +105,28 @@ fn over(p: Progress) -> bool {
 
 // Tries all runs of up to `most` nodes, with groups or without, up to the first difference.
 fn try_all(
-    at: Settings,
+    settings: Settings,
     groups: bool,
     most: usize,
-    text: &mut [u8],
+    string: &mut [u8],
     starts: &mut [usize],
-    counts: &mut [usize],
+    nodes: &mut [usize],
 ) -> Sums {
-    let search = start();
-    let sums = nothing();
-    let mut p = Progress { search, sums };
+    let mut s = start();
+    let mut sums = nothing();
     let mut turns: usize = 100000000;
     while 0 < turns {
-        p = turn(p, at, groups, most, text, starts, counts);
-        turns = left(turns, over(p));
+        let seen = look(s, groups, most, string, starts, nodes);
+        sums = tried(sums, settings, seen, front(string, starts, s.depth));
+        s = turn(s, seen, string, starts);
+        turns = left(turns, over(s, sums));
     }
-    p.sums
+    sums
 }
 
-pub fn try_runs(at: Settings, groups: bool, most: usize) -> Sums {
-    let mut text = [0u8; 128];
+pub fn try_runs(settings: Settings, groups: bool, most: usize) -> Sums {
+    let mut string = [0u8; 128];
     let mut starts = [0usize; 64];
-    let mut counts = [0usize; 64];
-    try_all(at, groups, most, &mut text, &mut starts, &mut counts)
+    let mut nodes = [0usize; 64];
+    try_all(settings, groups, most, &mut string, &mut starts, &mut nodes)
 }

@@ -6,10 +6,10 @@ use Rattle.trial.proofs.compare.compare_all.Statement.{statement}
 use Rattle.trial.proofs.compare.compare_all.Tie as tie
 
 abbrev Inv-loop : tie.InvT-loop
-Inv-loop at run found pool lengths sums₀ setting₀ sums setting = Unit
+Inv-loop settings run found pool sums₀ setting₀ sums setting = Unit
 
 abbrev μ-loop : tie.MeasureT-loop
-μ-loop at run found pool lengths sums₀ setting₀ sums setting = at .to - setting
+μ-loop settings run found pool sums₀ setting₀ sums setting = settings .to - setting
 
 loop-holds : tie.Need-loop-holds Inv-loop μ-loop
 loop-holds c = search needs

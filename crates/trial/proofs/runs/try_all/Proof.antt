@@ -1,15 +1,15 @@
 -- `trial::runs::try_all` is safe and ends: the turns that are left fall.
-use mathlib.Core.Path.{_≡_}
+use mathlib.Core.Path.{_≡_, _∙_}
 use borrow.Author.Needs.{needs}
 use lib.ListN.{length}
 use Rattle.trial.proofs.runs.try_all.Statement.{statement}
 use Rattle.trial.proofs.runs.try_all.Tie as tie
 
 abbrev Inv-loop : tie.InvT-loop
-Inv-loop at groups most text₀ starts₀ counts₀ p₀ turns₀ text starts counts p turns = (length text ≡ length text₀) × (length starts ≡ length starts₀) × (length counts ≡ length counts₀)
+Inv-loop settings groups most string₀ starts₀ nodes₀ s₀ sums₀ turns₀ string starts nodes s sums turns = (length string ≡ length string₀) × (length starts ≡ length starts₀) × (length nodes ≡ length nodes₀)
 
 abbrev μ-loop : tie.MeasureT-loop
-μ-loop at groups most text₀ starts₀ counts₀ p₀ turns₀ text starts counts p turns = turns
+μ-loop settings groups most string₀ starts₀ nodes₀ s₀ sums₀ turns₀ string starts nodes s sums turns = turns
 
 start-requires : tie.Need-start-requires Inv-loop μ-loop
 start-requires c κs = search needs
@@ -19,6 +19,15 @@ nothing-requires c κs = search needs
 
 loop-holds : tie.Need-loop-holds Inv-loop μ-loop
 loop-holds c = search needs
+
+look-requires : tie.Need-look-requires Inv-loop μ-loop
+look-requires c κs = search needs
+
+front-requires : tie.Need-front-requires Inv-loop μ-loop
+front-requires c κs = search needs
+
+tried-requires : tie.Need-tried-requires Inv-loop μ-loop
+tried-requires c κs = search needs
 
 turn-requires : tie.Need-turn-requires Inv-loop μ-loop
 turn-requires c κs = search needs
@@ -33,7 +42,12 @@ loop-less : tie.Need-loop-less Inv-loop μ-loop
 loop-less c = search needs
 
 loop-again : tie.Need-loop-again Inv-loop μ-loop
-loop-again c = search needs
+loop-again c =
+    let known = c .before .before .before in
+    let moved = known .before .before in
+    let looked = moved .before .before .before .before .before .before .before .before .before in
+    let inv = looked .before .before .before .before .before .before .loop .inv in
+    (moved .string .given ∙ inv .0, known .starts .given ∙ inv .1, looked .nodes .given ∙ inv .2)
 
 same-length : tie.Need-same-length Inv-loop μ-loop
 same-length c = search needs
@@ -56,6 +70,9 @@ try-all-spec =
     start-requires
     nothing-requires
     loop-holds
+    look-requires
+    front-requires
+    tried-requires
     turn-requires
     over-requires
     left-requires

@@ -1,17 +1,16 @@
--- `trial::folds::gather` is safe and ends: the turns that are left fall.
+-- `strings::folds::gather` is safe and ends: the turns that are left fall.
 use mathlib.Core.Path.{_≡_}
 use borrow.Author.Needs.{needs}
 use lib.ListN.{length}
-use Rattle.trial.proofs.folds.gather.Statement.{statement}
-use Rattle.trial.proofs.folds.gather.Tie as tie
+use Rattle.strings.proofs.folds.gather.Statement.{statement}
+use Rattle.strings.proofs.folds.gather.Tie as tie
 
 abbrev Inv-loop : tie.InvT-loop
-Inv-loop run most text₀ starts₀ places₀ bounds₀ tops₀ pool₀ lengths₀ s₀ turns₀ text starts places bounds tops pool lengths s turns =
-    (length text ≡ length text₀) × (length starts ≡ length starts₀) × (length places ≡ length places₀) × (length bounds ≡ length bounds₀) × (length tops ≡ length tops₀) × (length pool ≡ length pool₀) × (length lengths ≡ length lengths₀)
+Inv-loop run most string₀ starts₀ trail₀ pool₀ s₀ turns₀ string starts trail pool s turns =
+    (length string ≡ length string₀) × (length starts ≡ length starts₀) × (length trail ≡ length trail₀) × (length pool ≡ length pool₀)
 
 abbrev μ-loop : tie.MeasureT-loop
-μ-loop run most text₀ starts₀ places₀ bounds₀ tops₀ pool₀ lengths₀ s₀ turns₀ text starts places bounds tops pool lengths s turns =
-    turns
+μ-loop run most string₀ starts₀ trail₀ pool₀ s₀ turns₀ string starts trail pool s turns = turns
 
 start-requires : tie.Need-start-requires Inv-loop μ-loop
 start-requires c κs = search needs
@@ -43,15 +42,6 @@ same-length-3 c = search needs
 same-length-4 : tie.Need-same-length-4 Inv-loop μ-loop
 same-length-4 c = search needs
 
-same-length-5 : tie.Need-same-length-5 Inv-loop μ-loop
-same-length-5 c = search needs
-
-same-length-6 : tie.Need-same-length-6 Inv-loop μ-loop
-same-length-6 c = search needs
-
-same-length-7 : tie.Need-same-length-7 Inv-loop μ-loop
-same-length-7 c = search needs
-
 returns : tie.Need-returns Inv-loop μ-loop
 returns c = search needs
 
@@ -71,7 +61,4 @@ gather-spec =
     same-length-2
     same-length-3
     same-length-4
-    same-length-5
-    same-length-6
-    same-length-7
     returns)

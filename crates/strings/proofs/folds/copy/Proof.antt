@@ -1,10 +1,10 @@
--- `trial::folds::copy` is safe and ends: a byte less is left with each turn.
+-- `strings::folds::copy` is safe and ends: a byte less is left with each turn.
 use mathlib.Core.Path.{_≡_}
 use Prim.Native.Nat.{_-_}
 use borrow.Author.Needs.{needs}
 use lib.ListN.{length}
-use Rattle.trial.proofs.folds.copy.Statement.{statement}
-use Rattle.trial.proofs.folds.copy.Tie as tie
+use Rattle.strings.proofs.folds.copy.Statement.{statement}
+use Rattle.strings.proofs.folds.copy.Tie as tie
 
 abbrev Inv-loop : tie.InvT-loop
 Inv-loop from to₀ i₀ to i = length to ≡ length to₀

@@ -1,7 +1,6 @@
-// Command strings, for the search over all of them: the commands in byte order, with labels 1 and 2.
+// Commands in byte order, with labels 1 and 2, and strings of them.
 use format::Format;
 use harness::put_byte;
-ghost use Prim.Native.Nat.{_<_};
 
 // A command: its byte and its operands, a label or a count and a width.
 pub struct Command {
@@ -101,117 +100,57 @@ pub fn put_number(s: &mut [usize], i: usize, x: usize) {
     }
 }
 
+// The first commands of a string, where command k starts at starts[k].
+pub fn front<'a>(string: &'a [u8], starts: &[usize], depth: usize) -> &'a [u8] {
+    let end = number_at(starts, depth);
+    if end <= string.len() {
+        return &string[0..end];
+    }
+    &string[0..0]
+}
+
 // The command that stands at a place. Counts and widths are below 256 here.
-pub fn command_at(s: &[u8], at: usize) -> Command {
-    if s.len() <= at {
+pub fn command_at(string: &[u8], at: usize) -> Command {
+    if string.len() <= at {
         return none();
     }
-    let kind = s[at];
+    let kind = string[at];
     if kind == Format::REPEAT {
-        if 4 < s.len() - at {
+        if 4 < string.len() - at {
             return Command {
                 kind,
-                a: s[at + 2],
-                b: s[at + 4],
+                a: string[at + 2],
+                b: string[at + 4],
             };
         }
     }
     Command {
         kind,
-        a: byte_at(s, at + 1),
+        a: byte_at(string, at + 1),
         b: 0,
     }
 }
 
 // Writes a command, and gives the place behind it.
-pub fn put_command(c: Command, out: &mut [u8], at: usize) -> usize {
-    if out.len() <= at {
+pub fn put_command(c: Command, string: &mut [u8], at: usize) -> usize {
+    if string.len() <= at {
         return at;
     }
-    if out.len() - at < 5 {
+    if string.len() - at < 5 {
         return at;
     }
     let kind = c.kind;
-    put_byte(out, at, kind);
+    put_byte(string, at, kind);
     if kind == Format::REPEAT {
-        put_byte(out, at + 1, 0);
-        put_byte(out, at + 2, c.a);
-        put_byte(out, at + 3, 0);
-        put_byte(out, at + 4, c.b);
+        put_byte(string, at + 1, 0);
+        put_byte(string, at + 2, c.a);
+        put_byte(string, at + 3, 0);
+        put_byte(string, at + 4, c.b);
         return at + 5;
     }
     if kind < Format::GROUP_END {
-        put_byte(out, at + 1, c.a);
+        put_byte(string, at + 1, c.a);
         return at + 2;
     }
     at + 1
-}
-
-// How far a search over command strings is: the commands written, whether the last one is spent, whether all were tried,
-// whether room was short, and how many strings were found.
-pub struct Search {
-    pub depth: usize,
-    pub back: bool,
-    pub done: bool,
-    pub short: bool,
-    pub found: usize,
-}
-
-pub fn start() -> Search {
-    Search {
-        depth: 0,
-        back: false,
-        done: false,
-        short: false,
-        found: 0,
-    }
-}
-
-// The turns that a search may still take: none where it is over.
-pub fn left(turns: usize, over: bool) -> usize
-    requires { ⌜ 0 < turns ⌝ }
-    ensures { λ r. ⌜ r < turns ⌝ }
-{
-    if over {
-        return 0;
-    }
-    turns - 1
-}
-
-// The string is spent: go back to its last command.
-pub fn spent(mut s: Search) -> Search {
-    s.back = true;
-    s
-}
-
-// One command more, the first of all. Command k starts at starts[k], and the string ends at starts[depth].
-pub fn deeper(mut s: Search, text: &mut [u8], starts: &mut [usize]) -> Search {
-    let depth = s.depth;
-    if depth < 60 {
-        let end = put_command(first_command(), text, number_at(starts, depth));
-        put_number(starts, depth + 1, end);
-        s.depth = depth + 1;
-        return s;
-    }
-    s.short = true;
-    s.done = true;
-    s
-}
-
-// The next command in place of the last, or where there is none the one before is spent.
-pub fn retry(mut s: Search, most: u8, text: &mut [u8], starts: &mut [usize]) -> Search {
-    let depth = s.depth;
-    if depth == 0 {
-        s.done = true;
-        return s;
-    }
-    let at = number_at(starts, depth - 1);
-    let c = next_command(command_at(text, at), most);
-    if c.kind == 0 {
-        s.depth = depth - 1;
-        return s;
-    }
-    put_number(starts, depth, put_command(c, text, at));
-    s.back = false;
-    s
 }
