@@ -2,11 +2,12 @@
 use crate::print::difference;
 use crate::print::number;
 use crate::print::word;
+use crate::runs::front;
+use crate::runs::spell;
 use format::Folded;
-use format::Format;
+use harness::Checked;
 use harness::begins;
 use harness::fold_checked;
-use harness::put_byte;
 use harness::unrolls;
 use reader::read_fold;
 use reader::read_run;
@@ -45,40 +46,42 @@ fn show(name: &[u8], r: Folded) {
     word(b"\n");
 }
 
-// A run that folds to these bytes at this cost, with room for 22 nodes.
-fn known(name: &[u8], run: &[u8], limit: usize, first: u16, each: u16, fold: &[u8], cost: u64) {
+// Whether the folder's answer is these bytes at this cost.
+fn wrote(c: Checked, out: &[u8], fold: &[u8], cost: u64) -> bool {
+    if c.answer.refusal != 0 {
+        return false;
+    }
+    if c.answer.cost != cost {
+        return false;
+    }
+    if !begins(out, c.answer.length, fold) {
+        return false;
+    }
+    c.right
+}
+
+// A run that folds to these bytes at this cost, with what is lent.
+fn known_in(
+    name: &[u8],
+    run: &[u8],
+    limit: usize,
+    first: u16,
+    each: u16,
+    fold: &[u8],
+    cost: u64,
+    costs: &mut [u32],
+    choices: &mut [u32],
+    out: &mut [u8],
+    text: &mut [u8],
+) {
     let table = [1u16; 256];
-    let mut costs = [0u32; 260];
-    let mut choices = [0u32; 260];
-    let mut out = [0u8; 80];
-    let mut text = [0u8; 80];
-    let c = fold_checked(
-        run,
-        limit,
-        &table,
-        first,
-        each,
-        &mut costs,
-        &mut choices,
-        &mut out,
-    );
-    let r = c.answer;
-    let n = r.length;
-    show(name, r);
-    let mut right = c.right;
-    if r.refusal != 0 {
-        right = false;
-    }
-    if r.cost != cost {
-        right = false;
-    }
-    if !begins(&out, n, fold) {
-        right = false;
-    }
+    let c = fold_checked(run, limit, &table, first, each, costs, choices, out);
+    show(name, c.answer);
+    let mut right = wrote(c, out, fold, cost);
     if !reads(fold, limit, &table, first, each, run, cost) {
         right = false;
     }
-    if !unrolls(fold, limit, run, &mut text) {
+    if !unrolls(fold, limit, run, text) {
         right = false;
     }
     if !right {
@@ -86,31 +89,25 @@ fn known(name: &[u8], run: &[u8], limit: usize, first: u16, each: u16, fold: &[u
     }
 }
 
-// The run of a word of letters: a is the step 01.
-fn spell(letters: &[u8], run: &mut [u8]) {
-    let mut i = 0;
-    while i < letters.len() {
-        put_step(run, i, letters[i]);
-        i += 1;
-    }
-}
-
-// Step i of a run, by its letter.
-fn put_step(run: &mut [u8], i: usize, letter: u8) {
-    if i < run.len() {
-        put_byte(run, 2 * i, Format::STEP);
-        if 96 < letter {
-            put_byte(run, 2 * i + 1, letter - 96);
-        }
-    }
-}
-
-// The first steps of a run.
-fn front(run: &[u8], steps: usize) -> &[u8] {
-    if steps <= run.len() / 2 {
-        return &run[0..2 * steps];
-    }
-    &run[0..0]
+// The same with room for 22 nodes.
+fn known(name: &[u8], run: &[u8], limit: usize, first: u16, each: u16, fold: &[u8], cost: u64) {
+    let mut costs = [0u32; 260];
+    let mut choices = [0u32; 260];
+    let mut out = [0u8; 80];
+    let mut text = [0u8; 80];
+    known_in(
+        name,
+        run,
+        limit,
+        first,
+        each,
+        fold,
+        cost,
+        &mut costs,
+        &mut choices,
+        &mut out,
+        &mut text,
+    );
 }
 
 // A word of letters that folds to these bytes at this cost.
@@ -138,10 +135,19 @@ fn plain(name: &[u8], limit: usize, cost: u64) {
 
 // The marked folds.
 pub fn marked() {
+    few_steps();
+    more_steps();
+    groups();
+}
+
+fn few_steps() {
     known(b"the empty run", b"", 1024, 1, 0, b"", 0);
     plain(b"a", 1024, 1);
     plain(b"a", 0, 1);
     plain(b"aa", 1024, 2);
+}
+
+fn more_steps() {
     letters(b"aaa", 1024, 1, 0, b"\x20\x00\x03\x00\x01\x10\x01\x21", 2);
     plain(b"aaa", 0, 3);
     letters(
@@ -160,6 +166,9 @@ pub fn marked() {
         b"\x20\x00\x02\x00\x02\x10\x01\x10\x01\x21",
         3,
     );
+}
+
+fn groups() {
     let group = b"\x11\x05\x10\x01\x10\x01\x10\x01\x12\x11\x05\x10\x01\x10\x01\x10\x01\x12";
     let fold = b"\x20\x00\x02\x00\x01\x11\x05\x20\x00\x03\x00\x01\x10\x01\x21\x12\x21";
     known(b"group 05 holding aaa, twice", group, 1024, 1, 0, fold, 4);
@@ -193,51 +202,30 @@ pub fn deep() {
     known(b"eight groups deep, twice", run, 1024, 1, 0, fold, 11);
 }
 
-// n steps 01.
-pub fn steps(n: usize, run: &mut [u8]) {
-    let mut i: usize = 0;
-    while i < n {
-        put_step(run, i, b'a');
-        i += 1;
-    }
-}
-
-// Whether the folder's answer for 1,024 a's is the known one.
-fn thousand_right(r: Folded, run: &[u8], out: &[u8]) -> bool {
-    let table = [1u16; 256];
-    let mut text = [0u8; 2060];
-    let fold = b"\x20\x04\x00\x00\x01\x10\x01\x21";
-    if r.refusal != 0 {
-        return false;
-    }
-    if !begins(out, r.length, fold) {
-        return false;
-    }
-    if !reads(fold, 1024, &table, 1, 0, run, 2) {
-        return false;
-    }
-    unrolls(fold, 1024, run, &mut text)
-}
-
 // 1,024 a's, the most nodes that there may be.
 pub fn thousand() {
-    let table = [1u16; 256];
-    let mut run = [0u8; 2048];
     let mut costs = [0u32; 524810];
     let mut choices = [0u32; 524810];
+    thousand_in(&mut costs, &mut choices);
+}
+
+fn thousand_in(costs: &mut [u32], choices: &mut [u32]) {
+    let letters = [b'a'; 1024];
+    let mut run = [0u8; 2048];
     let mut out = [0u8; 16];
-    steps(1024, &mut run);
-    let c = fold_checked(&run, 1024, &table, 1, 0, &mut costs, &mut choices, &mut out);
-    let r = c.answer;
-    show(b"1024 a's", r);
-    let mut right = thousand_right(r, &run, &out);
-    if r.cost != 2 {
-        right = false;
-    }
-    if !c.right {
-        right = false;
-    }
-    if !right {
-        difference(b"1024 a's");
-    }
+    let mut text = [0u8; 2060];
+    spell(&letters, &mut run);
+    known_in(
+        b"1024 a's",
+        &run,
+        1024,
+        1,
+        0,
+        b"\x20\x04\x00\x00\x01\x10\x01\x21",
+        2,
+        costs,
+        choices,
+        &mut out,
+        &mut text,
+    );
 }

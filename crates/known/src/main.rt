@@ -4,6 +4,7 @@ mod cases;
 mod parts;
 mod print;
 mod refusals;
+mod runs;
 
 fn main() {
     cases::marked();

@@ -1,8 +1,8 @@
 // The refusals: the example of every row of document 01, by every entry point that the row concerns.
-use crate::cases::steps;
 use crate::print::difference;
 use crate::print::number;
 use crate::print::word;
+use crate::runs::spell;
 use harness::fill_bytes;
 use harness::fold_checked;
 use harness::untouched;
@@ -10,10 +10,18 @@ use reader::read_fold;
 use reader::read_run;
 use unroller::unroll;
 
-// What is expected: the number and the place.
+// What is expected: the refusal and its place.
 struct Expected {
-    number: u8,
+    refusal: u8,
     place: usize,
+}
+
+// Whether a refusal is as expected.
+fn met(refusal: u8, place: usize, e: Expected) -> bool {
+    if refusal != e.refusal {
+        return false;
+    }
+    place == e.place
 }
 
 // Prints an entry point's refusal, and says where it is another than expected.
@@ -22,10 +30,7 @@ fn told(who: &[u8], refusal: u8, place: usize, e: Expected, right: bool) {
     number(b" ", refusal as u64);
     number(b" at ", place as u64);
     let mut same = right;
-    if refusal != e.number {
-        same = false;
-    }
-    if place != e.place {
+    if !met(refusal, place, e) {
         same = false;
     }
     if !same {
@@ -91,21 +96,21 @@ fn by_cramped_folder(run: &[u8], costs: &mut [u32], choices: &mut [u32], e: Expe
     by_folder(run, 1024, &table, costs, choices, &mut out, e);
 }
 
-// A row's example among runs, and among folds at a limit.
-fn run_row(row: u8, run: &[u8], place: usize) {
+// The example of a refusal among runs, and among folds at a limit.
+fn refused_run(refusal: u8, run: &[u8], place: usize) {
     let table = [1u16; 256];
-    let e = Expected { number: row, place };
-    number(b"row ", row as u64);
+    let e = Expected { refusal, place };
+    number(b"row ", refusal as u64);
     by_run_reader(run, e);
     by_roomy_folder(run, 1024, &table, e);
     word(b"\n");
 }
 
-fn fold_row(row: u8, fold: &[u8], limit: usize, place: usize) {
+fn refused_fold(refusal: u8, fold: &[u8], limit: usize, place: usize) {
     let table = [1u16; 256];
     let mut out = [0u8; 40];
-    let e = Expected { number: row, place };
-    number(b"row ", row as u64);
+    let e = Expected { refusal, place };
+    number(b"row ", refusal as u64);
     by_fold_reader(fold, limit, &table, e);
     by_unroller(fold, limit, &mut out, e);
     word(b"\n");
@@ -113,35 +118,46 @@ fn fold_row(row: u8, fold: &[u8], limit: usize, place: usize) {
 
 // Rows 1 to 10, as document 01 has them, and a few neighbours: an operand missing, the 11th open repeat.
 pub fn commands() {
-    run_row(1, b"\x13", 0);
-    fold_row(1, b"\x13", 1024, 0);
-    run_row(2, b"\x10\x07\x21", 2);
-    run_row(2, b"\x10\x07\x20", 2);
-    run_row(3, b"\x11\x05", 2);
-    fold_row(3, b"\x11\x05", 1024, 2);
-    run_row(3, b"\x10\x07\x10", 3);
-    fold_row(3, b"\x20\x00\x01", 1024, 3);
-    run_row(4, b"\x12", 0);
-    fold_row(4, b"\x12", 1024, 0);
-    fold_row(4, b"\x11\x05\x21", 1024, 2);
-    run_row(5, b"\x11\x05\x12", 2);
-    fold_row(5, b"\x11\x05\x12", 1024, 2);
-    fold_row(6, b"\x20\x00\x01\x00\x01\x10\x07\x21", 1024, 0);
-    fold_row(7, b"\x20\x00\x02\x00\x02\x10\x07\x10\x07\x21", 1, 0);
-    let nine = b"\x11\x01\x11\x01\x11\x01\x11\x01\x11\x01\x11\x01\x11\x01\x11\x01\x11\x01";
-    run_row(8, nine, 16);
-    fold_row(8, nine, 1024, 16);
-    eleven();
-    fold_row(9, b"\x20\x00\x02\x00\x02\x10\x07\x21", 1024, 7);
-    fold_row(10, b"\x20\x04\x01\x00\x01\x10\x07\x21", 1024, 7);
-    let mut run = [0u8; 2050];
-    steps(1025, &mut run);
-    run_row(10, &run, 2048);
+    bytes();
+    closes();
+    repeats();
+    open();
+    nodes();
 }
 
-// Eleven open repeats.
-fn eleven() {
-    fold_row(
+// Rows 1 to 3: a byte that is no command, one that is none of a run, and bytes that end too early.
+fn bytes() {
+    refused_run(1, b"\x13", 0);
+    refused_fold(1, b"\x13", 1024, 0);
+    refused_run(2, b"\x10\x07\x21", 2);
+    refused_run(2, b"\x10\x07\x20", 2);
+    refused_run(3, b"\x11\x05", 2);
+    refused_fold(3, b"\x11\x05", 1024, 2);
+    refused_run(3, b"\x10\x07\x10", 3);
+    refused_fold(3, b"\x20\x00\x01", 1024, 3);
+}
+
+// Rows 4 and 5: a close of nothing or of something else, and of an empty body.
+fn closes() {
+    refused_run(4, b"\x12", 0);
+    refused_fold(4, b"\x12", 1024, 0);
+    refused_fold(4, b"\x11\x05\x21", 1024, 2);
+    refused_run(5, b"\x11\x05\x12", 2);
+    refused_fold(5, b"\x11\x05\x12", 1024, 2);
+}
+
+// Rows 6 and 7: a repeat's count and its width.
+fn repeats() {
+    refused_fold(6, b"\x20\x00\x01\x00\x01\x10\x07\x21", 1024, 0);
+    refused_fold(7, b"\x20\x00\x02\x00\x02\x10\x07\x10\x07\x21", 1, 0);
+}
+
+// Row 8: nine open groups, and eleven open repeats.
+fn open() {
+    let nine = b"\x11\x01\x11\x01\x11\x01\x11\x01\x11\x01\x11\x01\x11\x01\x11\x01\x11\x01";
+    refused_run(8, nine, 16);
+    refused_fold(8, nine, 1024, 16);
+    refused_fold(
         8,
         b"\x20\x00\x02\x00\x01\x20\x00\x02\x00\x01\x20\x00\x02\x00\x01\x20\x00\x02\x00\x01\x20\x00\x02\x00\x01\x20\x00\x02\x00\x01\x20\x00\x02\x00\x01\x20\x00\x02\x00\x01\x20\x00\x02\x00\x01\x20\x00\x02\x00\x01\x20\x00\x02\x00\x01",
         1024,
@@ -149,22 +165,43 @@ fn eleven() {
     );
 }
 
-// The refusals of rows 11 to 14 have place 0.
-fn row(number: u8) -> Expected {
-    Expected { number, place: 0 }
+// Rows 9 and 10: a body of another width, and too many nodes.
+fn nodes() {
+    refused_fold(9, b"\x20\x00\x02\x00\x02\x10\x07\x21", 1024, 7);
+    refused_fold(10, b"\x20\x04\x01\x00\x01\x10\x07\x21", 1024, 7);
+    let letters = [b'a'; 1025];
+    let mut run = [0u8; 2050];
+    spell(&letters, &mut run);
+    refused_run(10, &run, 2048);
+}
+
+// An expected refusal at place 0, where rows 11 to 14 have theirs.
+fn placeless(refusal: u8) -> Expected {
+    Expected { refusal, place: 0 }
 }
 
 // Rows 11 and 12. Each example would be refused by a later row too.
 pub fn settings() {
     let table = [1u16; 256];
-    let mut out = [0u8; 8];
+    short_table(&table[0..255]);
+    high_limit(&table);
+}
+
+fn short_table(table: &[u16]) {
+    let e = placeless(11);
     word(b"row 11");
-    by_fold_reader(b"\x13", 1025, &table[0..255], row(11));
-    by_roomy_folder(b"\x13", 1025, &table[0..255], row(11));
-    word(b"\nrow 12");
-    by_fold_reader(b"\x13", 1025, &table, row(12));
-    by_unroller(b"\x13", 1025, &mut out, row(12));
-    by_roomy_folder(b"\x13", 1025, &table, row(12));
+    by_fold_reader(b"\x13", 1025, table, e);
+    by_roomy_folder(b"\x13", 1025, table, e);
+    word(b"\n");
+}
+
+fn high_limit(table: &[u16]) {
+    let e = placeless(12);
+    let mut out = [0u8; 8];
+    word(b"row 12");
+    by_fold_reader(b"\x13", 1025, table, e);
+    by_unroller(b"\x13", 1025, &mut out, e);
+    by_roomy_folder(b"\x13", 1025, table, e);
     word(b"\n");
 }
 
@@ -173,15 +210,26 @@ pub fn room() {
     let mut two = [0u32; 2];
     let mut three = [0u32; 3];
     let mut other = [0u32; 3];
-    let mut one = [0u8; 1];
     word(b"row 1");
-    by_cramped_folder(b"\x13", &mut two, &mut three, row(1));
+    by_cramped_folder(b"\x13", &mut two, &mut three, placeless(1));
+    little_work(&mut two, &mut three);
+    little_output(&mut two, &mut three, &mut other);
+}
+
+fn little_work(two: &mut [u32], three: &mut [u32]) {
+    let run = b"\x10\x01\x10\x01";
+    let e = placeless(13);
     word(b"\nrow 13");
-    by_cramped_folder(b"\x10\x01\x10\x01", &mut two, &mut three, row(13));
-    by_cramped_folder(b"\x10\x01\x10\x01", &mut three, &mut two, row(13));
+    by_cramped_folder(run, two, three, e);
+    by_cramped_folder(run, three, two, e);
+}
+
+fn little_output(two: &mut [u32], three: &mut [u32], other: &mut [u32]) {
+    let mut one = [0u8; 1];
+    let e = placeless(14);
     word(b"\nrow 14");
-    by_cramped_folder(b"\x10\x01\x10\x01", &mut three, &mut other, row(14));
-    by_cramped_folder(b"\x10\x01", &mut three, &mut two, row(14));
-    by_unroller(b"\x10\x01", 1024, &mut one, row(14));
+    by_cramped_folder(b"\x10\x01\x10\x01", three, other, e);
+    by_cramped_folder(b"\x10\x01", three, two, e);
+    by_unroller(b"\x10\x01", 1024, &mut one, e);
     word(b"\n");
 }
