@@ -12,7 +12,7 @@ ghost use mathlib.Core.List.{_∷_};
 ghost use Prim.Native.Nat.{_≤_};
 ghost use lib.ListN.{length, getD, take, drop};
 ghost use Rattle.format.specs.Limits.{priced};
-ghost use Rattle.format.specs.Readings.{run-reading, measured, fold-reading};
+ghost use Rattle.format.specs.Readings.{format-rules, run-reading, measured, fold-reading};
 ghost use Rattle.format.specs.Meaning.{Means, MeansAtCost};
 ghost use Rattle.format.specs.Parts.{part-of};
 ghost use Rattle.optimum.specs.Demands.{CheapestWithin, CheapestOver, MinimumTree};
@@ -140,9 +140,9 @@ pub extern "C" fn runfold_fold(
     ensures written { λ _. ⌜ now (out .exit) ≡ kept (now (answer .entry)) (now (out .entry)) (fold-output (folding (now (run .entry)) limit (now (table .entry)) first each) (length (now (costs .entry))) (length (now (choices .entry))) (now (out .entry))) ⌝ }
     ensures costs_cleared { λ _. ⌜ now (costs .exit) ≡ kept (now (answer .entry)) (now (costs .entry)) (fold-work (folding (now (run .entry)) limit (now (table .entry)) first each) (length (now (costs .entry))) (length (now (choices .entry))) (now (costs .entry))) ⌝ }
     ensures choices_cleared { λ _. ⌜ now (choices .exit) ≡ kept (now (answer .entry)) (now (choices .entry)) (fold-work (folding (now (run .entry)) limit (now (table .entry)) first each) (length (now (costs .entry))) (length (now (choices .entry))) (now (choices .entry))) ⌝ }
-    ensures cheapest { λ r. ⌜ (r ≡ 0 → CheapestWithin (now (run .entry)) limit (priced (now (table .entry)) first each) (take (getD (now (answer .exit)) 3 0) (now (out .exit))) (getD (now (answer .exit)) 4 0)) ⌝ }
+    ensures cheapest { λ r. ⌜ (r ≡ 0 → CheapestWithin (now (run .entry)) limit (format-rules (priced (now (table .entry)) first each)) (take (getD (now (answer .exit)) 3 0) (now (out .exit))) (getD (now (answer .exit)) 4 0)) ⌝ }
     ensures minimum { λ r. ⌜ (r ≡ 0 → MinimumTree (now (run .entry)) limit (now (table .entry)) first each (take (getD (now (answer .exit)) 3 0) (now (out .exit)))) ⌝ }
-    ensures too_long { λ r. ⌜ (r ≡ 14 → CheapestOver (length (now (out .entry))) (now (run .entry)) limit (priced (now (table .entry)) first each)) ⌝ }
+    ensures too_long { λ r. ⌜ (r ≡ 14 → CheapestOver (length (now (out .entry))) (now (run .entry)) limit (format-rules (priced (now (table .entry)) first each))) ⌝ }
 {
     if answer.len() < ENTRIES {
         return SHORT;

@@ -21,7 +21,8 @@ use Rattle.format.proofs.Bridge.{sound-widest, sound-within}
 use Rattle.optimum.specs.Cheapest.{cheapest}
 use Rattle.optimum.proofs.Cheapest.{cheapest-optimal}
 use Rattle.optimum.proofs.Demands.{run-shape, run-nodes}
-use Rattle.folder.specs.Folding.{Verdict, refuses, folds, verdict, folding, fold-answer, fold-output}
+use Rattle.optimum.specs.Verdict.{Verdict, refuses, folds, verdict}
+use Rattle.folder.specs.Folding.{folding, fold-answer, fold-output}
 use Rattle.fold.specs.Text.{three-lines, refusal-line}
 use Rattle.fold.specs.Printed.{lines-of, printed}
 use Rattle.fold.proofs.Room.{fold-short, enough-work, too-little-work}
@@ -77,10 +78,10 @@ refusal-text {nodes} v (folded f c short) e =
     ]
 
 -- The lines of a fold, and its length.
-fold-text : {nodes : ℕ} (v : Verdict) → Decided nodes v → answered v .refusal ≡ 0
+fold-lines : {nodes : ℕ} (v : Verdict) → Decided nodes v → answered v .refusal ≡ 0
     → three-lines nodes (answered v .cost) (take (answered v .length) (output v)) ≡ lines-of v
-fold-text v (refusing n p z) e = absurd (z e)
-fold-text {nodes} v (folded f c short) e =
+fold-lines v (refusing n p z) e = absurd (z e)
+fold-lines {nodes} v (folded f c short) e =
     elim (decLe nodes 100) [
       | yes h ↦ rw (few nodes f c short h, few-output nodes f c short h, le-ltb 100 nodes h) (ap (three-lines nodes c) (take-append-seam f _))
       | no h ↦ absurd (omega (arith, ap (λ (r : Folded). r .refusal) (many nodes f c short (omega arith))))
@@ -103,7 +104,7 @@ module _ (s : List ℕ) (small : Bytes s) (r : Folded) (answer : r ≡ answered 
   pub prints-fold : (out : List ℕ) (n : RunReading) → out ≡ output (folding s (limits .width) (replicate 256 1) 1 0) → n ≡ run-reading s
       → r .refusal ≡ 0 → three-lines (n .nodes) (r .cost) (take (r .length) out) ≡ printed s
   unfolding printed
-  prints-fold out n e f = rw (e, f, answer) (fold-text _ (decided s small))
+  prints-fold out n e f = rw (e, f, answer) (fold-lines _ (decided s small))
 
   pub room : r .length ≤ 4096
   room = rw answer (fold-room _ (decided s small))

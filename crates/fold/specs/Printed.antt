@@ -5,7 +5,8 @@ use Prim.Native.Nat.{ℕ}
 use lib.Dec.{ltb}
 use lib.ListN.{replicate}
 use Rattle.format.specs.Limits.{limits}
-use Rattle.folder.specs.Folding.{Verdict, refuses, folds, folding}
+use Rattle.optimum.specs.Verdict.{Verdict, refuses, folds}
+use Rattle.folder.specs.Folding.{folding}
 use Rattle.fold.specs.Text.{three-lines, refusal-line}
 
 -- The lines for what the run decides: a refusal of the run's own, 13 for a run of more than 100 nodes, or the fold. No fold

@@ -6,7 +6,8 @@ use mathlib.Core.List.{List}
 use Prim.Native.Nat.{ℕ}
 use lib.ListN.{length, length-replicate}
 use Rattle.format.specs.declared.Unrolled.{Unrolled}
-use Rattle.folder.specs.Folding.{Verdict, fold-answer, fold-output, fold-work}
+use Rattle.optimum.specs.Verdict.{Verdict}
+use Rattle.folder.specs.Folding.{fold-answer, fold-output, fold-work}
 use Rattle.harness.specs.Lent.{filled-words, filled-bytes, unroll-says, unroll-leaves, Unrolls}
 
 module _ (v : Verdict) (costs choices out costs′ choices′ out′ : List ℕ) (p : costs′ ≡ filled-words (length costs))

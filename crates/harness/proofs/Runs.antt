@@ -5,13 +5,13 @@ use Prim.Native.Nat.{ℕ, _≤_}
 use native.Mathlib.Omega.{arith}
 use Rattle.format.specs.Order.{Bytes}
 use Rattle.format.specs.Machine.{Outcome, refused, accepted, read}
-use Rattle.format.specs.Readings.{run-rules, run-answer, run-reading}
+use Rattle.format.specs.Readings.{run-rules, as-run-reading, run-reading}
 use Rattle.optimum.proofs.Demands.{run-shape, run-nodes}
 
 pub few-nodes : (s : List ℕ) → Bytes s → run-reading s .nodes ≤ 1024
 unfolding run-reading
 few-nodes s small = by-outcome (read run-rules s) refl
   where
-    by-outcome : (o : Outcome) → read run-rules s ≡ o → run-answer o .nodes ≤ 1024
+    by-outcome : (o : Outcome) → read run-rules s ≡ o → as-run-reading o .nodes ≤ 1024
     by-outcome (refused n p) e = omega arith
     by-outcome (accepted t x) e = omega (arith, run-nodes s small t x e, run-shape s small t x e .total)

@@ -6,6 +6,7 @@ use Prim.Native.Nat.{ℕ}
 use native.Mathlib.Omega.{arith}
 use lib.ListN.{take}
 use Rattle.format.specs.Limits.{priced}
+use Rattle.format.specs.Readings.{format-rules}
 use Rattle.optimum.specs.Demands.{CheapestWithin, MinimumTree}
 use Rattle.embed.specs.Answers.{from-folded}
 use Rattle.embed.proofs.Entries.{short-status, short-kept, short-entries, long-kept, stored, of-stored}
@@ -65,7 +66,7 @@ returns-2 c =
     let table = args .table .now in
     let demand = said .1 .1 .1 .1 in
     let out = done .fold .last .1 .1 .1 .1 .1 .1 .1 .0 in
-    let Q : ℕ → ℕ → Type 0 = λ n m. CheapestWithin (args .run .now) (args .limit) (priced table (args .first) (args .each)) (take n out) m in
+    let Q : ℕ → ℕ → Type 0 = λ n m. CheapestWithin (args .run .now) (args .limit) (format-rules (priced table (args .first) (args .each))) (take n out) m in
     let S : ℕ → ℕ → Type 0 = λ n m. MinimumTree (args .run .now) (args .limit) table (args .first) (args .each) (take n out) in (
       numbers .0,
       (
