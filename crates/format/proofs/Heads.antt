@@ -12,7 +12,7 @@ use Rattle.format.specs.Machine.{first-of, Outcome, refused, accepted, u
 use Rattle.format.specs.Head.{Head, head-checks, headed}
 use Rattle.format.specs.declared.Tally.{Tally}
 use Rattle.format.proofs.Machine.{first-none}
-use Rattle.format.proofs.Refusals.{first-each}
+use Rattle.format.proofs.Refusals.{Each, found-each}
 
 -- The place is 0 whatever the number.
 place-none : (n : ℕ) → place-of n 0 0 ≡ 0
@@ -52,16 +52,13 @@ module _ (L : Limits) (h : Head) (o : Outcome) where
     unfolding head-checks
     headed-narrow = ltb-false _ _ (first-none (head-checks L h) (omega arith) (sym passed) .1 .0)
 
-  -- What holds of 11 and 12, and of the numbers of what follows, holds of the refusal's number.
-  pub headed-each : (Q : ℕ → Type 0) → Q 11 → Q 12 → ((m e : ℕ) → o ≡ refused m e → Q m) → (n p : ℕ) → headed L h o ≡ refused n p → Q n
-  unfolding head-checks
-  headed-each Q eleven twelve rest n p out = go (first-of (head-checks L h)) refl number
+  -- What holds of every head check's number, and of the numbers of what follows, holds of the refusal's number.
+  pub headed-each : (Q : ℕ → Type 0) → Each Q (head-checks L h) → ((m e : ℕ) → o ≡ refused m e → Q m) → (n p : ℕ)
+      → headed L h o ≡ refused n p → Q n
+  headed-each Q own rest n p out = go (first-of (head-checks L h)) refl
     where
-      number : first-of (head-checks L h) ≢ 0 → Q (first-of (head-checks L h))
-      number = first-each (λ m. m ≢ 0 → Q m) (head-checks L h) (λ z. absurd (z refl)) (λ z. eleven, (λ z. twelve, tt))
-
-      go : (m : ℕ) → first-of (head-checks L h) ≡ m → (m ≢ 0 → Q m) → Q n
-      go zero e q = rest n p (sym (headed-passed (sym e)) ∙ out)
-      go (suc m) e q =
+      go : (m : ℕ) → first-of (head-checks L h) ≡ m → Q n
+      go zero e = rest n p (sym (headed-passed (sym e)) ∙ out)
+      go (suc m) e =
           let same : suc m ≡ n = cc (out, headed-refused (suc m) (sym e) (omega arith)) in
-          rw same at (q (omega arith))
+          rw same at (found-each Q (head-checks L h) (suc m) (omega arith) e own)

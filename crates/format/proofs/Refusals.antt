@@ -48,6 +48,12 @@ first-each Q [] z q = z
 first-each Q (n when true ∷ rs) z q = q .0
 first-each Q (n when false ∷ rs) z q = first-each Q rs z (q .1)
 
+-- Where one applies, 0 need not be asked.
+pub found-each : (Q : ℕ → Type 0) (rs : List Check) (n : ℕ) → n ≢ 0 → first-of rs ≡ n → Each Q rs → Q n
+found-each Q [] n some e q = absurd (some (sym e))
+found-each Q (m when true ∷ rs) n some e q = rw e at (q .0)
+found-each Q (m when false ∷ rs) n some e q = found-each Q rs n some e (q .1)
+
 -- The numbers of the table are 1 to 10.
 refusal-small : (R : Rules) (st : State) (c : ℕ) (rest : List ℕ) → refusal R st c rest ≤ 10
 unfolding refusal checks

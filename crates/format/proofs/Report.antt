@@ -14,7 +14,7 @@ use Rattle.format.specs.Machine.{Outcome, refused, accepted, read}
 use Rattle.format.specs.Order.{Bytes}
 use Rattle.format.specs.Tree.{tree-of}
 use Rattle.format.specs.Readings.{fold-rules, as-fold-reading, fold-outcome, fold-reading}
-use Rattle.format.specs.Head.{Head, full-head}
+use Rattle.format.specs.Head.{Head, head-checks, full-head}
 use Rattle.format.specs.Shape.{Reads, tally-of}
 use Rattle.format.specs.Report.{RRT, empty, letter, repetition, count, Valid, append, series, Represents, Width, WidthAtMost, size}
 use Rattle.format.specs.Meaning.{report, report-of, TrueWidths, Means, report-size, MeansAtCost}
@@ -225,9 +225,9 @@ module _ (h : Head) (P : Prices) (s : List ℕ) where
   outcome-read t x e = headed-accepted limits h (read (fold-rules (h .limit) P) s) t x e
 
   pub outcome-some : (n p : ℕ) → fold-outcome h P s ≡ refused n p → n ≢ 0
-  unfolding fold-outcome
+  unfolding fold-outcome head-checks
   outcome-some n p e =
-      headed-each limits h (read (fold-rules (h .limit) P) s) (λ m. m ≢ 0) (omega arith) (omega arith) (refused-some (fold-rules (h .limit) P) s) n p e
+      headed-each limits h (read (fold-rules (h .limit) P) s) (λ m. m ≢ 0) (omega arith) (refused-some (fold-rules (h .limit) P) s) n p e
 
 -- What the fold reader's success says.
 module _ (s : List ℕ) (k : ℕ) (table : List ℕ) (first each : ℕ) (small : Bytes s) (r : FoldReading) (answered : r ≡ fold-reading s k table first each) (success : r .refusal ≡ 0) where
