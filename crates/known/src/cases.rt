@@ -1,7 +1,4 @@
 // The known folds of document 01, the marked ones too: what the folder writes, read and unrolled back.
-use crate::print::difference;
-use crate::print::number;
-use crate::print::word;
 use crate::runs::front;
 use crate::runs::spell;
 use format::Folded;
@@ -9,6 +6,9 @@ use harness::Checked;
 use harness::begins;
 use harness::fold_checked;
 use harness::unrolls;
+use print::difference;
+use print::number;
+use print::word;
 use reader::read_fold;
 use reader::read_run;
 

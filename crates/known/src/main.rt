@@ -2,8 +2,6 @@
 // saw, and a line that begins with `difference` where that is not right.
 mod cases;
 mod parts;
-mod print;
-mod refusals;
 mod runs;
 
 fn main() {

@@ -1,8 +1,8 @@
 // The parts of nodes, and siblings compared by them.
-use crate::print::difference;
-use crate::print::number;
-use crate::print::word;
 use harness::above;
+use print::difference;
+use print::number;
+use print::word;
 use reader::part;
 use reader::same_node;
 use reader::wide;

@@ -5,24 +5,19 @@ mod runs;
 
 use compare::Settings;
 use compare::Sums;
-use libc::STDOUT_FILENO;
+use print::number;
+use print::word;
 use runs::try_runs;
-
-// A word and a number.
-fn number(text: &[u8], n: u64) {
-    io::write_all(STDOUT_FILENO, text);
-    io::print_decimal(STDOUT_FILENO, n);
-}
 
 // Prints what was tried.
 fn show(name: &[u8], s: Sums) {
-    io::write_all(STDOUT_FILENO, name);
+    word(name);
     number(b": runs ", s.runs);
     number(b", folds ", s.folds);
     number(b", compared ", s.compared);
     number(b", cost ", s.cost);
     number(b", length ", s.length);
-    io::write_all(STDOUT_FILENO, b"\n");
+    word(b"\n");
 }
 
 fn main() {

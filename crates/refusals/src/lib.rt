@@ -1,11 +1,11 @@
 // The refusals: the example of every row of document 01, by every entry point that the row concerns.
-use crate::print::difference;
-use crate::print::number;
-use crate::print::word;
-use crate::runs::spell;
+use format::Format;
 use harness::fill_bytes;
 use harness::fold_checked;
 use harness::untouched;
+use print::difference;
+use print::number;
+use print::word;
 use reader::read_fold;
 use reader::read_run;
 use unroller::unroll;
@@ -165,13 +165,11 @@ fn open() {
     );
 }
 
-// Rows 9 and 10: a body of another width, and too many nodes.
+// Rows 9 and 10: a body of another width, and too many nodes, at last 1,025 steps whose label is the byte of a step.
 fn nodes() {
     refused_fold(9, b"\x20\x00\x02\x00\x02\x10\x07\x21", 1024, 7);
     refused_fold(10, b"\x20\x04\x01\x00\x01\x10\x07\x21", 1024, 7);
-    let letters = [b'a'; 1025];
-    let mut run = [0u8; 2050];
-    spell(&letters, &mut run);
+    let run = [Format::STEP; 2050];
     refused_run(10, &run, 2048);
 }
 

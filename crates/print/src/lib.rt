@@ -1,4 +1,4 @@
-// What the program prints: words, numbers, and the loud line of a difference.
+// What the programs print: words, numbers, and the loud line of a difference.
 use libc::STDOUT_FILENO;
 
 // A word as it stands.
