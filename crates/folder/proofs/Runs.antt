@@ -7,7 +7,7 @@ use native.Mathlib.Decide.{ℕ-discrete}
 use native.Mathlib.Omega.{arith}
 use lib.ListN.{length, getD, drop, replicate, length-drop}
 use borrow.Author.Tests.{lt-ltb, le-ltb}
-use lib.Seq.{getD-drop, ext-getD}
+use lib.Seq.{sets-eq, getD-drop, ext-getD}
 use Rattle.format.specs.Limits as limits
 use Rattle.format.specs.Forest.{Forest, end, step, group, repeat, Plain, siblings, nodes, bytes, at-most}
 use Rattle.format.specs.Tree.{tree-of}
@@ -17,7 +17,7 @@ use Rattle.optimum.proofs.Cut.{front-whole}
 use Rattle.optimum.proofs.Cheapest.{best-cost-end}
 use Rattle.table.specs.Table.{Filled, Kept, cells, cell, number, stretch}
 use Rattle.filling.specs.Filling.{prices-of, LevelReady}
-use Rattle.writer.specs.Writing.{WriteReady, FoldLength, FoldRoom, FoldWritten}
+use Rattle.writer.specs.Writing.{WriteReady, FoldLength, FoldWritten}
 use Rattle.folder.specs.inner.Run.{RunFilled, RunWritten, RunFolded, room-answer, room-output}
 use Rattle.table.proofs.Cells.{cell-in}
 use Rattle.table.proofs.Tables.{number-first, number-last}
@@ -85,9 +85,6 @@ module _ {s : List ℕ} {n limit : ℕ} {P : limits.Prices} {costs choices : Lis
             some (omega arith) ∙ (c ∙ ap (best-cost (at-most limit) P) (whole-stretch t (run .plain)))
       ]
 
-  pub fold-room : (len : ℕ) → FoldLength s 0 choices len → (out : List ℕ) → len ≤ length out → FoldRoom s 0 choices (length out)
-  fold-room len is-length out l = record { ready = write-ready; fits = omega (arith, is-length .is-length write-ready) }
-
   module _ (len : ℕ) (is-length : FoldLength s 0 choices len) (out : List ℕ) where
     len-is : len ≡ length f
     unfolding write-ready
@@ -105,8 +102,8 @@ module _ {s : List ℕ} {n limit : ℕ} {P : limits.Prices} {costs choices : Lis
     unfolding write-ready
     answer-whole l c is-cost out′ r v =
         let e = le-ltb (length out) (length f) (omega (arith, len-is)) in
-        let k : r ≡ length f = v .is-length write-ready in
-        (rw (e, len-is, is-cost), rw e (v .written write-ready ∙ rw k))
+        let all = sets-eq f out 0 (omega (arith, len-is)) in
+        (rw (e, len-is, is-cost), rw e (v .written write-ready ∙ rw zero-add at all))
 
 -- The answer holds for whatever limit and prices the table was filled.
 pub written-short : {s : List ℕ} {n : ℕ} {costs choices : List ℕ} (len : ℕ) → FoldLength s 0 choices len → (out : List ℕ) → length out < len → (r : Folded)

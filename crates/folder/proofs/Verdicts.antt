@@ -14,7 +14,7 @@ use Rattle.format.specs.Limits.{limits, Prices, priced, of-repeat}
 use Rattle.format.specs.Order.{Bytes}
 use Rattle.format.specs.Forest.{nodes, bytes, at-most}
 use Rattle.format.specs.Machine.{Outcome, refused, accepted, read}
-use Rattle.format.specs.Head.{full-head}
+use Rattle.format.specs.Head.{head-checks, full-head}
 use Rattle.format.specs.Readings.{run-rules, format-rules, as-run-reading, run-outcome}
 use Rattle.format.specs.Tree.{tree-of}
 use Rattle.format.specs.declared.Tally.{Tally}
@@ -91,9 +91,10 @@ module _ (s : List ℕ) (k : ℕ) (table : List ℕ) (first each : ℕ) (r : Run
 
   -- A number of the admission is none of the folder's own, and 0 only where the run is accepted.
   number-low : (n p : ℕ) → run-outcome (full-head table k) s ≡ refused n p → (n ≡ 0 → ⊥) × (n ≡ 14 → ⊥)
-  unfolding run-outcome
+  unfolding run-outcome head-checks
   number-low =
-      headed-each limits (full-head table k) (read run-rules s) (λ n. (n ≡ 0 → ⊥) × (n ≡ 14 → ⊥)) (omega arith, omega arith) (omega arith, omega arith)
+      headed-each limits (full-head table k) (read run-rules s) (λ n. (n ≡ 0 → ⊥) × (n ≡ 14 → ⊥))
+      ((omega arith, omega arith), ((omega arith, omega arith), tt))
       (λ n p e. (refused-some run-rules s n p e, λ z. omega (arith, refused-small run-rules s n p e)))
 
   pub run-number : r .refusal ≡ 14 → ⊥

@@ -16,7 +16,7 @@ ghost use Rattle.format.specs.Forest.{nodes, at-most};
 ghost use Rattle.format.specs.Tree.{tree-of};
 ghost use Rattle.table.specs.Table.{Filled, Kept, cells, cell};
 ghost use Rattle.filling.specs.Filling.{prices-of, LevelReady};
-ghost use Rattle.writer.specs.Writing.{FoldRoom, FoldWritten};
+ghost use Rattle.writer.specs.Writing.{WriteReady, FoldWritten};
 ghost use Rattle.folder.specs.Folding.{short-work};
 ghost use Rattle.folder.specs.inner.Run.{RunFilled, RunWritten, RunFolded};
 
@@ -91,7 +91,7 @@ fn whole_cost(costs: &[u32], n: usize) -> u64
 
 // Writes the fold of the whole run, behind which nothing follows, and answers its length.
 fn write_run(run: &[u8], choices: &[u32], out: &mut [u8]) -> usize
-    requires { ⌜ FoldRoom (now run) 0 (now choices) (length (now out)) ⌝ }
+    requires { ⌜ WriteReady (now run) 0 (now choices) ⌝ }
     ensures { λ r. ⌜ FoldWritten (now (run .entry)) 0 (now (choices .entry)) (now (out .entry)) (now (out .exit)) r ⌝ }
 {
     put_fold(run, 0, choices, out)

@@ -1,8 +1,8 @@
 -- The cheapest fold of a span of siblings as bytes: by the table's choice, what stands first and what follows it; of a sibling
--- alone, by its bytes in the run; and the lengths of these.
+-- alone, by its bytes in the run; and how many these are at most.
 use mathlib.Core.Path.{_≡_, refl, sym, ap, _∙_}
 use mathlib.Core.List.{List, [], _∷_, _++_}
-use Prim.Native.Nat.{ℕ, zero, suc, _+_, _-_, _*_, _/_, _%_, _<_, _≤_}
+use Prim.Native.Nat.{ℕ, zero, suc, _+_, _-_, _*_, _<_, _≤_}
 use native.Mathlib.Nat.{mul-le-mul, le-trans}
 use native.Mathlib.Decide.{decLe}
 use native.Mathlib.Omega.{arith}
@@ -18,12 +18,12 @@ use Rattle.optimum.proofs.Cut.{join-cut, front-add, front-front, front-whole, b
 use Rattle.optimum.proofs.Powers.{reach, spans-usual}
 use Rattle.optimum.proofs.Least.{least-one}
 use Rattle.optimum.proofs.Cheapest.{cheapest-optimal, is-cheapest, least-builds, optimal-end}
-use Rattle.table.specs.Keys.{packed}
-use Rattle.table.specs.Table.{Entry, cell, number, stretch, Falling}
+use Rattle.table.specs.Keys.{packed, count-digit, width-digit}
+use Rattle.table.specs.Table.{Entry, cell, number, stretch, Falling, entry-at}
 use Rattle.table.specs.Listing.{Placed, Numbered}
 use Rattle.table.proofs.Cells.{cells-mono}
 use Rattle.table.proofs.Tables.{falling-numbered, number-last, number-within, number-after-group, below-at}
-use Rattle.writer.specs.Writing.{WriteReady, SpanReady, FoldLength, SpanLength, fold-bytes, span-bytes}
+use Rattle.writer.specs.Writing.{WriteReady, SpanReady, fold-bytes, span-bytes, most-bytes}
 
 -- A sound fold has at most four bytes for each node that it unrolls to, and one of a single node has two: a repeat takes six
 -- bytes and stands for two nodes at least.
@@ -161,10 +161,6 @@ module _ (A : Allowed) (P : Prices) (t : Forest) (r : Run A t) (few : siblings t
             ∙ rw (e, front-front w (j - i - w) (j - i) (back i t) (omega arith), back-piece i (i + c * w) (c * w) (j - (i + c * w)) (j - i) t refl (omega arith));
       }
 
--- What the table says of the siblings from i up to j.
-abbrev pub choice-at : (choices numbers : List ℕ) → (i j : ℕ) → ℕ
-choice-at choices numbers i j = getD choices (cell (getD numbers j 0) (getD numbers i 0)) 0
-
 -- The choice 0 is the plain node, and any other a repeat with its count and width as digits.
 least-plain : (A : Allowed) (P : Prices) (t : Forest) (h w : ℕ) → packed h w ≡ 0 → Least A P usual (best-cost A P) t h w
     → Least A P usual (best-cost A P) t 0 0
@@ -210,19 +206,16 @@ module _ {s choices offsets numbers : List ℕ} {i j : ℕ} (z : SpanReady s cho
       cheapest-short (z .ready .allowed) (z .ready .prices-are) (stretch (tree-of s) i (j - i))
       (run-front (j - i) (run-back i (z .ready .spelled .run (z .ready .allowed))))
 
-  pub span-small : length (span-bytes z) ≤ 4096
+  pub span-small : length (span-bytes z) ≤ most-bytes
   span-small =
       omega (arith, span-short, nodes-cut i (tree-of s), nodes-cut (j - i) (back i (tree-of s)), z .ready .total)
-
-  length-of : (n : ℕ) → ((y : SpanReady s choices offsets numbers i j) → n ≡ length (span-bytes y)) → SpanLength s choices offsets numbers i j n
-  length-of n all = record { is-length = all; short = omega (arith, all z, span-short) }
 
   pub part-none : (k : ℕ) → part-of z k k ≡ []
   part-none k = piece-none (z .ready .allowed) (z .ready .prices-are) (tree-of s) k
 
-  module _ (k c : ℕ) (h : k < j) (e : c ≡ choice-at choices numbers k j) where
-    entry-at : (cost : ℕ) × Entry (z .ready .allowed) (z .ready .prices-are) (stretch (tree-of s) k (j - k)) cost c
-    entry-at =
+  module _ (k c : ℕ) (h : k < j) (e : c ≡ entry-at choices numbers k j) where
+    entry-of : (cost : ℕ) × Entry (z .ready .allowed) (z .ready .prices-are) (stretch (tree-of s) k (j - k)) cost c
+    entry-of =
         let b = getD numbers (siblings (tree-of s)) 0 in
         let t = tree-of s in
         let last : k + (j - k) ≡ j = omega arith in
@@ -235,19 +228,19 @@ module _ {s choices offsets numbers : List ℕ} {i j : ℕ} (z : SpanReady s cho
     span-plain n =
         let A = z .ready .allowed in
         let P = z .ready .prices-are in
-        let x = entry-at .1 in
+        let x = entry-of .1 in
         piece-plain A P (tree-of s) (z .ready .spelled .run A) ready-few k j h (z .end)
         (least-plain A P (stretch (tree-of s) k (j - k)) (x .count) (x .width) (omega (arith, x .chosen)) (x .least))
 
-    pub span-power : (c ≡ 0 → ⊥) → Repeated (z .ready .allowed) (z .ready .prices-are) (tree-of s) k j (c / 1024) (c % 1024)
+    pub span-power : (c ≡ 0 → ⊥) → Repeated (z .ready .allowed) (z .ready .prices-are) (tree-of s) k j (count-digit c) (width-digit c)
     span-power n =
         let A = z .ready .allowed in
         let P = z .ready .prices-are in
-        let x = entry-at .1 in
+        let x = entry-of .1 in
         let p = power-of (λ y. n (omega (arith, x .chosen))) (x .least .candidate) in
         let q = piece-power A P (tree-of s) (z .ready .spelled .run A) ready-few k j h (z .end) (x .count) (x .width) p (x .least) in
-        let a : c / 1024 ≡ x .count = omega (arith, x .chosen, q .width) in
-        let b : c % 1024 ≡ x .width = omega (arith, x .chosen, q .width) in
+        let a : count-digit c ≡ x .count = omega (arith, x .chosen, q .width, q .count) in
+        let b : width-digit c ≡ x .width = omega (arith, x .chosen, q .width) in
         rw (a, b) q
 
 -- The siblings of a sequence as `list_siblings` ensures them: how many, where they start, and their numbers.
@@ -284,17 +277,6 @@ listed {s} {b} {choices} z offsets numbers m all =
       end = omega (arith, all .0);
     } in
     record { span = span; same = rw (all .0) (piece-whole (z .allowed) (z .prices-are) t (z .spelled .run (z .allowed))) }
-
-pub listed-length : {s : List ℕ} {b : ℕ} {choices : List ℕ} (z : WriteReady s b choices) (offsets numbers : List ℕ) (m r : ℕ)
-    → Siblings s b offsets numbers m → SpanLength s choices offsets numbers 0 m r → FoldLength s b choices r
-listed-length {s} {b} {choices} z offsets numbers m r all l =
-    let t = tree-of s in
-    let whole : (y : WriteReady s b choices) → r ≡ length (fold-bytes y) = λ y.
-    let q = listed y offsets numbers m all in l .is-length (q .span) ∙ ap length (q .same) in
-    record {
-      is-length = whole;
-      short = omega (arith, whole z, cheapest-short (z .allowed) (z .prices-are) t (z .spelled .run (z .allowed)));
-    }
 
 -- The next sibling by what is left of the sequence.
 data Next (t : Forest) (i : ℕ) : Type 0 where
@@ -466,69 +448,3 @@ module _ {s choices offsets numbers : List ℕ} {i : ℕ} (z : SpanReady s choic
       by-form : Next tree i → Grouped z
       by-form (a-step l f e) = absurd (h (at-step l f e .first))
       by-form (a-group l g f e) = grouped l g f e
-
--- The lengths of a sibling alone.
-module _ {s choices offsets numbers : List ℕ} {i : ℕ} (z : SpanReady s choices offsets numbers i (i + 1)) where
-  pub step-length : getD s (getD offsets i 0) 0 ≡ 0x10 → SpanLength s choices offsets numbers i (i + 1) 2
-  step-length h = length-of z 2 (λ y. sym (ap length (node-step y h)))
-
-  pub group-length : (n : ℕ) → (getD s (getD offsets i 0) 0 ≡ 0x10 → ⊥)
-      → FoldLength (children s offsets i) (getD numbers (i + 1) 0) choices n
-      → SpanLength s choices offsets numbers i (i + 1) (3 + n)
-  group-length n h l =
-      length-of z (3 + n)
-      (λ y.
-      let g = node-group y h in
-      omega (arith, l .is-length (g .inside), ap length (g .spelled), length-append (fold-bytes (g .inside)) (0x12 ∷ [])))
-
--- The length of a span, counted up to sibling k.
-pub record Counted (s choices offsets numbers : List ℕ) (i j k n : ℕ) : Type 0 where
-  pub ahead : i ≤ k
-  pub within : k ≤ j
-  pub counts : (z : SpanReady s choices offsets numbers i j) → n + length (part-of z k j) ≡ length (span-bytes z)
-
-module _ {s choices offsets numbers : List ℕ} {i j : ℕ} where
-  pub counted-none : i ≤ j → Counted s choices offsets numbers i j i 0
-  counted-none h = record { ahead = omega arith; within = h; counts = λ z. omega arith }
-
-  module _ {k n : ℕ} (q : Counted s choices offsets numbers i j k n) where
-    pub counted-small : SpanReady s choices offsets numbers i j → n ≤ 4096
-    counted-small z = omega (arith, q .counts z, span-small z)
-
-    pub counted-all : j ≤ k → SpanReady s choices offsets numbers i j → SpanLength s choices offsets numbers i j n
-    counted-all h z =
-        let e : k ≡ j = omega (arith, q .within) in
-        length-of z n (λ y. omega (arith, rw e at (q .counts y), ap length (part-none y j)))
-
-    module _ (c : ℕ) (h : k < j) (e : c ≡ choice-at choices numbers k j) (r : ℕ) where
-      pub counted-plain : c ≡ 0 → SpanLength s choices offsets numbers k (k + 1) r → Counted s choices offsets numbers i j (k + 1) (n + r)
-      counted-plain f l =
-          record {
-            ahead = omega (arith, q .ahead);
-            within = omega arith;
-            counts = λ z.
-                omega (
-                  arith,
-                  q .counts z,
-                  ap length (span-plain z k c h e f),
-                  length-append (part-of z k (k + 1)) (part-of z (k + 1) j),
-                  l .is-length (narrow z k (k + 1) (omega arith) (omega arith)),
-                );
-          }
-
-      pub counted-power : (c ≡ 0 → ⊥) → SpanReady s choices offsets numbers i j → SpanLength s choices offsets numbers k (k + c % 1024) r
-          → Counted s choices offsets numbers i j (k + c / 1024 * (c % 1024)) (n + (6 + r))
-      counted-power f z₀ l =
-          record {
-            ahead = omega (arith, q .ahead);
-            within = span-power z₀ k c h e f .covers;
-            counts = λ z.
-                let p = span-power z k c h e f in
-                omega (
-                  arith,
-                  q .counts z,
-                  ap length (p .spelled),
-                  length-append (part-of z k (k + c % 1024)) (0x21 ∷ part-of z (k + c / 1024 * (c % 1024)) j),
-                  l .is-length (narrow z k (k + c % 1024) (omega arith) (omega arith)),
-                );
-          }

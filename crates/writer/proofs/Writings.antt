@@ -1,67 +1,82 @@
--- Writing bytes behind each other from a place on, and a cheapest fold by such writes.
+-- Writing bytes behind each other from a place on, as far as there is room, and a cheapest fold by such writes.
 use mathlib.Core.Path.{_≡_, refl, sym, ap, _∙_}
 use mathlib.Core.List.{List, [], _∷_, _++_, append-assoc, append-nil}
-use Prim.Native.Nat.{ℕ, suc, _+_, _-_, _*_, _/_, _%_, _<_, _≤_}
-use native.Mathlib.Numerals.{add-one}
+use Prim.Native.Nat.{ℕ, zero, suc, _+_, _-_, _<_, _≤_}
+use native.Mathlib.Decide.{decLe}
 use native.Mathlib.Omega.{arith}
-use lib.ListN.{length, length-append, length-set, length-drop, getD, set, take, drop, take-append-drop, drop-of-length-le}
-use lib.Seq.{sets-eq, set-split, take-all, take-at, drop-at, drop-drop, length-take-le}
-use borrow.Rule.Slice.PartMut.{putMid, same-len-mid}
-use Rattle.format.specs.Forest.{two-bytes}
-use Rattle.writer.specs.Writing.{SpanReady, FoldRoom, SpanRoom, FoldWritten, SpanWritten, fold-bytes, span-bytes, opened}
-use Rattle.writer.proofs.Spans.{part-of, choice-at, narrow, part-none, span-plain, span-power, Siblings, listed, children, node-two, node-step, node-group}
+use lib.ListN.{length, length-append, length-set, length-drop, getD, set, take, drop, drop-of-length-le}
+use lib.Seq.{sets, length-sets, set-out, take-all}
+use borrow.Rule.Slice.PartMut.{putMid}
+use Rattle.format.specs.Limits.{limits}
+use Rattle.format.specs.Tree.{tree-of}
+use Rattle.format.proofs.Lists.{sets-append}
+use Rattle.table.specs.Keys.{count-digit, width-digit, cover}
+use Rattle.table.specs.Table.{entry-at}
+use Rattle.writer.specs.Writing.{WriteReady, SpanReady, SpanFits, FoldWritten, SpanWritten, fold-bytes, span-bytes, most-bytes, open-bytes}
+use Rattle.writer.proofs.Spans.{Repeated, part-of, narrow, part-none, ready-few, span-small, span-plain, span-power, Siblings, listed, children, node-start, node-two, node-step, node-group}
 
--- The bytes `whole` are being written into `before` from the place `to` on: those up to the place `at` are there, and `left`
--- is still to come.
+-- Nothing is stored past the end, and what is stored from a place on is stored in the part that begins there.
+sets-out : (vs l : List ℕ) (i : ℕ) → length l ≤ i → sets l i vs ≡ l
+sets-out [] l i h = refl
+sets-out (v ∷ vs) l i h =
+    sets-out vs (set l i v) (suc i) (rw length-set (omega arith)) ∙ set-out l i v h
+
+sets-behind : (vs l : List ℕ) (x i : ℕ) → sets (x ∷ l) (suc i) vs ≡ x ∷ sets l i vs
+sets-behind [] l x i = refl
+sets-behind (v ∷ vs) l x i = sets-behind vs (set l i v) x (suc i)
+
+sets-rest : (vs l : List ℕ) (i : ℕ) → sets l i vs ≡ take i l ++ sets (drop i l) 0 vs
+sets-rest vs l zero = refl
+sets-rest vs [] (suc i) = sets-out vs [] (suc i) (omega arith) ∙ sym (sets-out vs [] 0 (omega arith))
+sets-rest vs (x ∷ l) (suc i) = sets-behind vs l x i ∙ ap (λ (r : List ℕ). x ∷ r) (sets-rest vs l i)
+
+-- So a part that is lent from a place on, or the empty one where the list ends ahead of it, comes back as if it were stored there.
+lent-back : (vs now after : List ℕ) (at start : ℕ) → (at ≤ length now → start ≡ at) → (length now ≤ at → start ≡ length now)
+    → after ≡ sets (take (length now - start) (drop start now)) 0 vs
+    → putMid start (length now - start) now after ≡ sets now at vs
+lent-back vs now after at start inside past e = by-place (decLe at (length now))
+  where
+    whole : putMid start (length now - start) now after ≡ sets now start vs
+    whole =
+        let size : length (drop start now) ≤ length now - start = omega (arith, length-drop start now) in
+        let none : drop (length now - start) (drop start now) ≡ [] = drop-of-length-le (drop start now) {i = length now - start} size in
+        rw (none, e, take-all (length now - start) (drop start now) size, append-nil (sets (drop start now) 0 vs))
+        (sym (sets-rest vs now start))
+
+    by-place : Dec (at ≤ length now) → putMid start (length now - start) now after ≡ sets now at vs
+    by-place (yes h) = whole ∙ rw (inside h)
+    by-place (no h) =
+        whole ∙ sets-out vs now start (omega (arith, past (omega arith))) ∙ sym (sets-out vs now at (omega arith))
+
+-- The bytes `whole` are being written into `before` from the place `to` on: `at` is the place behind those that are done, and
+-- `left` is still to come.
 pub record Along (whole left : List ℕ) (to : ℕ) (before : List ℕ) (at : ℕ) (now : List ℕ) : Type 0 where
   pub done : List ℕ
   pub splits : done ++ left ≡ whole
   pub place : at ≡ to + length done
-  pub list : now ≡ take to before ++ (done ++ drop at before)
+  pub list : now ≡ sets before to done
 
 along-none : (whole : List ℕ) (to : ℕ) (before : List ℕ) → Along whole whole to before to before
-along-none whole to before =
-    record { done = []; splits = refl; place = omega arith; list = sym (take-append-drop to before) }
+along-none whole to before = record { done = []; splits = refl; place = omega arith; list = refl }
 
 module _ {whole left : List ℕ} {to : ℕ} {before : List ℕ} {at : ℕ} {now : List ℕ} (z : Along whole left to before at now) where
-  -- What is left has room where the whole has.
-  along-room : (n : ℕ) → to + length whole ≤ n → at + length left ≤ n
-  along-room n h = omega (arith, z .place, ap length (z .splits), length-append (z .done) left)
+  -- What is left ends where the whole does.
+  along-end : at + length left ≡ to + length whole
+  along-end = omega (arith, z .place, ap length (z .splits), length-append (z .done) left)
 
-  -- More is written behind.
-  module _ (start : to ≤ length before) where
-    along-more : (x rest : List ℕ) (at′ : ℕ) (now′ : List ℕ) → left ≡ x ++ rest → at′ ≡ at + length x
-        → now′ ≡ take at now ++ (x ++ drop at′ now) → Along whole rest to before at′ now′
-    along-more x rest at′ now′ e f g =
-        let head : List ℕ = take to before ++ z .done in
-        let size : length head ≡ at =
-        omega (arith, length-append (take to before) (z .done), length-take-le to before start, z .place) in
-        let list : now ≡ head ++ drop at before = z .list ∙ sym (append-assoc (take to before) (z .done) (drop at before)) in
-        let front : take at now ≡ head = rw list (take-at head (drop at before) at size) in
-        let back : drop at now ≡ drop at before = rw list (drop-at head (drop at before) at size) in
-        let behind : drop at′ now ≡ drop at′ before =
-        rw f (sym (drop-drop (length x) at now) ∙ ap (drop (length x)) back ∙ drop-drop (length x) at before) in
-        record {
-          done = z .done ++ x;
-          splits = append-assoc (z .done) x rest ∙ rw (← e) (z .splits);
-          place = omega (arith, z .place, length-append (z .done) x);
-          list = g ∙ rw (front, behind) (simp append-assoc);
-        }
+  -- More is written behind: bytes, and one byte by a store.
+  along-more : (x rest : List ℕ) (at′ : ℕ) (now′ : List ℕ) → left ≡ x ++ rest → at′ ≡ at + length x → now′ ≡ sets now at x
+      → Along whole rest to before at′ now′
+  along-more x rest at′ now′ e f g =
+      record {
+        done = z .done ++ x;
+        splits = append-assoc (z .done) x rest ∙ rw (← e) (z .splits);
+        place = omega (arith, z .place, length-append (z .done) x);
+        list = g ∙ rw (z .list) (sym (sets-append (z .done) x before to at (sym (z .place))));
+      }
 
-    -- One byte by a store, and a list by a part of the slice that was lent and is back.
-    along-byte : (v : ℕ) (rest : List ℕ) → left ≡ v ∷ rest → at < length now → Along whole rest to before (at + 1) (set now at v)
-    along-byte v rest e h =
-        along-more (v ∷ []) rest (at + 1) (set now at v) e refl (set-split now at v h ∙ rw (← (add-one at)))
-
-    along-part : (x rest : List ℕ) (n : ℕ) (after : List ℕ) → left ≡ x ++ rest → n ≡ length x
-        → after ≡ x ++ drop n (take (length now - at) (drop at now))
-        → Along whole rest to before (at + n) (putMid at (length now - at) now after)
-    along-part x rest n after e f g =
-        let size : length (drop at now) ≤ length now - at = omega (arith, length-drop at now) in
-        let none : drop (length now - at) (drop at now) ≡ [] = drop-of-length-le (drop at now) {i = length now - at} size in
-        along-more x rest (at + n) (putMid at (length now - at) now after) e (rw f)
-        (rw (g, none, take-all (length now - at) (drop at now) size, drop-drop n at now)
-        (ap (λ (y : List ℕ). take at now ++ y) (append-nil (x ++ drop (at + n) now))))
+  along-byte : (v : ℕ) (rest : List ℕ) (now′ : List ℕ) → left ≡ v ∷ rest → now′ ≡ set now at v → Along whole rest to before (at + 1) now′
+  along-byte v rest now′ e g = along-more (v ∷ []) rest (at + 1) now′ e refl g
 
 -- A span is written when nothing of it is left.
 all-written : {s choices offsets numbers : List ℕ} {i j to : ℕ} {before : List ℕ} {p : ℕ} {now : List ℕ}
@@ -71,34 +86,21 @@ all-written {s} {choices} {offsets} {numbers} {i} {j} f =
     let all : (z : SpanReady s choices offsets numbers i j) → f z .done ≡ span-bytes z = λ z. sym (append-nil (f z .done)) ∙ f z .splits in
     record { is-end = λ z. rw (← (all z)) (f z .place); written = λ z. rw (← (all z)) (f z .list) }
 
--- Five stores that open a repeat.
-pub opening : (out : List ℕ) (to h w : ℕ) → to + 5 ≤ length out → h < 65536 → w < 65536
-    → set (set (set (set (set out to 0x20) (to + 1) (h / 256 % 256)) (to + 2) (h % 256)) (to + 3) (w / 256 % 256)) (to + 4) (w % 256)
-    ≡ opened out to h w
-opening out to h w fits a b =
-    let high : h / 256 % 256 ≡ h / 256 = omega arith in
-    let wide : w / 256 % 256 ≡ w / 256 = omega arith in
-    let one : to + 1 ≡ suc to = omega arith in
-    let two : to + 2 ≡ suc (suc to) = omega arith in
-    let three : to + 3 ≡ suc (suc (suc to)) = omega arith in
-    let four : to + 4 ≡ suc (suc (suc (suc to))) = omega arith in
-    let five : List ℕ = 0x20 ∷ two-bytes h (two-bytes w []) in
-    rw (high, wide, one, two, three, four) (sets-eq five out to fits ∙ append-assoc (take to out) five (drop (to + 5) out))
+-- The output is as long as it was.
+pub written-kept : {s choices offsets numbers : List ℕ} {i j to : ℕ} {before after : List ℕ} {r : ℕ} → SpanReady s choices offsets numbers i j
+    → SpanWritten s choices offsets numbers i j to before after r → length after ≡ length before
+written-kept {to = to} {before} z w = ap length (w .written z) ∙ length-sets before to (span-bytes z)
 
 -- A span is being written up to sibling k, whose place is p.
 pub record Putting (s choices offsets numbers : List ℕ) (i j to : ℕ) (before : List ℕ) (k p : ℕ) (now : List ℕ) : Type 0 where
   pub ahead : i ≤ k
   pub within : k ≤ j
-  pub kept : length now ≡ length before
   pub along : (z : SpanReady s choices offsets numbers i j) → Along (span-bytes z) (part-of z k j) to before p now
 
-module _ {s choices offsets numbers : List ℕ} {i j to : ℕ} (before : List ℕ) (m : SpanRoom s choices offsets numbers i j to (length before)) where
-  start : to ≤ length before
-  start = omega (arith, m .fits)
-
+module _ {s choices offsets numbers : List ℕ} {i j to : ℕ} (before : List ℕ) (m : SpanFits s choices offsets numbers i j to) where
   pub putting-none : Putting s choices offsets numbers i j to before i to before
   putting-none =
-      record { ahead = omega arith; within = m .ready .order; kept = refl; along = λ z. along-none (span-bytes z) to before }
+      record { ahead = omega arith; within = m .ready .order; along = λ z. along-none (span-bytes z) to before }
 
   module _ {k p : ℕ} {now : List ℕ} (q : Putting s choices offsets numbers i j to before k p now) where
     pub putting-all : j ≤ k → SpanWritten s choices offsets numbers i j to before now p
@@ -106,164 +108,151 @@ module _ {s choices offsets numbers : List ℕ} {i j to : ℕ} (before : List �
         let e : k ≡ j = omega (arith, q .within) in
         all-written (λ z. rw (e, part-none z j) at (q .along z))
 
-    room-left : p + length (part-of (m .ready) k j) ≤ length now
-    room-left = omega (arith, along-room (q .along (m .ready)) (length before) (m .fits), q .kept)
+    pub left-fits : p + length (part-of (m .ready) k j) ≤ most-bytes
+    left-fits = omega (arith, along-end (q .along (m .ready)), m .fits)
 
-    module _ (c : ℕ) (h : k < j) (e : c ≡ choice-at choices numbers k j) where
-      -- The plain node.
-      pub plain-room : c ≡ 0 → SpanRoom s choices offsets numbers k (k + 1) p (length now)
-      plain-room f =
-          record {
-            ready = narrow (m .ready) k (k + 1) (omega arith) (omega arith);
-            fits = omega (
-              arith,
-              room-left,
-              ap length (span-plain (m .ready) k c h e f),
-              length-append (part-of (m .ready) k (k + 1)) (part-of (m .ready) (k + 1) j),
-            );
-          }
+-- Sibling k is next, and c is the table's choice.
+pub record Turn (s choices offsets numbers : List ℕ) (i j to : ℕ) (before : List ℕ) (k p : ℕ) (now : List ℕ) (c : ℕ) : Type 0 where
+  pub fits : SpanFits s choices offsets numbers i j to
+  pub putting : Putting s choices offsets numbers i j to before k p now
+  pub more : k < j
+  pub looked : c ≡ entry-at choices numbers k j
 
-      pub putting-plain : (r : ℕ) (now′ : List ℕ) → c ≡ 0 → length now′ ≡ length now → SpanWritten s choices offsets numbers k (k + 1) p now now′ r
-          → Putting s choices offsets numbers i j to before (k + 1) r now′
-      putting-plain r now′ f same l =
-          record {
-            ahead = omega (arith, q .ahead);
-            within = omega arith;
-            kept = omega (arith, q .kept);
-            along = λ z.
-                let y = narrow z k (k + 1) (omega arith) (omega arith) in
-                along-more (q .along z) start (part-of z k (k + 1)) (part-of z (k + 1) j) r now′ (span-plain z k c h e f) (l .is-end y) (l .written y);
-          }
+module _ {s choices offsets numbers : List ℕ} {i j to : ℕ} {before : List ℕ} {k p : ℕ} {now : List ℕ} {c : ℕ}
+    (x : Turn s choices offsets numbers i j to before k p now c) where
+  abbrev ready : SpanReady s choices offsets numbers i j
+  ready = x .fits .ready
 
-      -- A repeat.
-      module _ (f : c ≡ 0 → ⊥) where
-        pub open-room : (p + 5 ≤ length now) × (c / 1024 < 65536) × (c % 1024 < 65536)
-        open-room =
-            let w = span-power (m .ready) k c h e f in
-            (omega (arith, room-left, ap length (w .spelled)), omega (arith, w .count), omega arith)
+  next-fits : p + length (part-of ready k j) ≤ most-bytes
+  next-fits = left-fits before (x .fits) (x .putting)
 
-        module _ (now₁ : List ℕ) (same₁ : length now₁ ≡ length now) (opens : now₁ ≡ opened now p (c / 1024) (c % 1024)) where
-          pub body-room : SpanRoom s choices offsets numbers k (k + c % 1024) (p + 5) (length now₁)
-          body-room =
-              let w = span-power (m .ready) k c h e f in
-              record {
-                ready = narrow (m .ready) k (k + c % 1024) (omega arith) (omega arith);
-                fits = omega (
-                  arith,
-                  room-left,
-                  ap length (w .spelled),
-                  length-append (part-of (m .ready) k (k + c % 1024)) (0x21 ∷ part-of (m .ready) (k + c / 1024 * (c % 1024)) j),
-                );
-              }
+  -- The plain node.
+  module _ (f : c ≡ 0) where
+    split : (z : SpanReady s choices offsets numbers i j) → part-of z k j ≡ part-of z k (k + 1) ++ part-of z (k + 1) j
+    split z = span-plain z k c (x .more) (x .looked) f
 
-          module _ (r : ℕ) (now₂ : List ℕ) (same₂ : length now₂ ≡ length now₁) (l : SpanWritten s choices offsets numbers k (k + c % 1024) (p + 5) now₁ now₂ r) where
-            body-written : (z : SpanReady s choices offsets numbers i j)
-                → Along (span-bytes z) (0x21 ∷ part-of z (k + c / 1024 * (c % 1024)) j) to before r now₂
-            body-written z =
-                let w = span-power z k c h e f in
-                let y = narrow z k (k + c % 1024) (omega arith) (omega arith) in
-                let rest : List ℕ = 0x21 ∷ part-of z (k + c / 1024 * (c % 1024)) j in
-                along-more
-                (along-more (q .along z) start (0x20 ∷ two-bytes (c / 1024) (two-bytes (c % 1024) [])) (part-of z k (k + c % 1024) ++ rest) (p + 5) now₁ (w .spelled) refl opens)
-                start (part-of z k (k + c % 1024)) rest r now₂ refl (l .is-end y) (l .written y)
+    pub plain-fits : SpanFits s choices offsets numbers k (k + 1) p
+    plain-fits =
+        record {
+          ready = narrow ready k (k + 1) (omega arith) (omega (arith, x .more));
+          fits = omega (arith, next-fits, ap length (split ready), length-append (part-of ready k (k + 1)) (part-of ready (k + 1) j));
+        }
 
-            pub close-room : r < length now₂
-            close-room = omega (arith, along-room (body-written (m .ready)) (length before) (m .fits), q .kept)
+    pub putting-plain : (r : ℕ) (now′ : List ℕ) → SpanWritten s choices offsets numbers k (k + 1) p now now′ r
+        → Putting s choices offsets numbers i j to before (k + 1) r now′
+    putting-plain r now′ l =
+        record {
+          ahead = omega (arith, x .putting .ahead);
+          within = omega (arith, x .more);
+          along = λ z.
+              let y = narrow z k (k + 1) (omega arith) (omega (arith, x .more)) in
+              along-more (x .putting .along z) (part-of z k (k + 1)) (part-of z (k + 1) j) r now′ (split z) (l .is-end y) (l .written y);
+        }
 
-            pub putting-power : Putting s choices offsets numbers i j to before (k + c / 1024 * (c % 1024)) (r + 1) (set now₂ r 0x21)
-            putting-power =
-                record {
-                  ahead = omega (arith, q .ahead);
-                  within = span-power (m .ready) k c h e f .covers;
-                  kept = simp length-set (omega (arith, q .kept));
-                  along = λ z. along-byte (body-written z) start 0x21 (part-of z (k + c / 1024 * (c % 1024)) j) refl close-room;
-                }
+  -- A repeat: its open, what it holds, its close.
+  module _ (f : c ≡ 0 → ⊥) where
+    abbrev w : ℕ
+    w = width-digit c
+
+    pub repeated : (z : SpanReady s choices offsets numbers i j)
+        → Repeated (z .ready .allowed) (z .ready .prices-are) (tree-of s) k j (count-digit c) w
+    repeated z = span-power z k c (x .more) (x .looked) f
+
+    pub body-fits : SpanFits s choices offsets numbers k (k + w) (p + 5)
+    body-fits =
+        let y = repeated ready in
+        record {
+          ready = narrow ready k (k + w) (omega arith) (omega arith);
+          fits = omega (arith, next-fits, ap length (y .spelled), length-append (part-of ready k (k + w)) (0x21 ∷ part-of ready (k + cover c) j));
+        }
+
+    pub putting-power : (now₁ : List ℕ) → now₁ ≡ sets now p (open-bytes (count-digit c) w)
+        → (r : ℕ) (now₂ : List ℕ) → SpanWritten s choices offsets numbers k (k + w) (p + 5) now₁ now₂ r
+        → (now₃ : List ℕ) → now₃ ≡ set now₂ r 0x21 → Putting s choices offsets numbers i j to before (k + cover c) (r + 1) now₃
+    putting-power now₁ opens r now₂ l now₃ closes =
+        record { ahead = omega (arith, x .putting .ahead); within = repeated ready .covers; along = along }
+      where
+        along : (z : SpanReady s choices offsets numbers i j) → Along (span-bytes z) (part-of z (k + cover c) j) to before (r + 1) now₃
+        along z =
+            let q = repeated z in
+            let y = narrow z k (k + w) (omega arith) (omega arith) in
+            let body = part-of z k (k + w) in
+            let rest = part-of z (k + cover c) j in
+            let opened = along-more (x .putting .along z) (open-bytes (count-digit c) w) (body ++ 0x21 ∷ rest) (p + 5) now₁ (q .spelled) refl opens in
+            let held = along-more opened body (0x21 ∷ rest) r now₂ refl (l .is-end y) (l .written y) in
+            along-byte held 0x21 rest now₃ refl closes
 
 -- A sequence as the span of all its siblings.
 module _ {s : List ℕ} {b : ℕ} {choices : List ℕ} (offsets numbers : List ℕ) (m : ℕ) (all : Siblings s b offsets numbers m) where
-  pub fold-room : (room : ℕ) → FoldRoom s b choices room → SpanRoom s choices offsets numbers 0 m 0 room
-  fold-room room z =
-      let q = listed (z .ready) offsets numbers m all in
-      record { ready = q .span; fits = omega (arith, ap length (q .same), z .fits) }
+  pub fold-fits : WriteReady s b choices → SpanFits s choices offsets numbers 0 m 0
+  fold-fits z =
+      let q = listed z offsets numbers m all in record { ready = q .span; fits = omega (arith, span-small (q .span)) }
 
   pub fold-written : (before after : List ℕ) (r : ℕ) → SpanWritten s choices offsets numbers 0 m 0 before after r
       → FoldWritten s b choices before after r
   fold-written before after r w =
       record {
         is-length = λ z. let q = listed z offsets numbers m all in omega (arith, w .is-end (q .span), ap length (q .same));
-        written = λ z.
-            let q = listed z offsets numbers m all in w .written (q .span) ∙ ap (λ (x : List ℕ). x ++ drop r before) (q .same);
+        written = λ z. let q = listed z offsets numbers m all in w .written (q .span) ∙ ap (sets before 0) (q .same);
       }
 
+-- Where a sibling stands: in the lists, in the bytes, and in the output.
+pub record NodeBounds (s offsets numbers : List ℕ) (i to : ℕ) : Type 0 where
+  pub below : i < limits .nodes
+  pub start : getD offsets i 0 + 2 ≤ length s
+  pub place : to + 2 ≤ most-bytes
+  pub long-offsets : length offsets ≡ 1025
+  pub long-numbers : length numbers ≡ 1025
+
+-- All of a group is written but its close, at whose place the writer is.
+pub record Unclosed (s choices offsets numbers : List ℕ) (i to : ℕ) (before : List ℕ) (at : ℕ) (now : List ℕ) : Type 0 where
+  pub along : (z : SpanReady s choices offsets numbers i (i + 1)) → Along (span-bytes z) (0x12 ∷ []) to before at now
+
 -- A sibling alone: its two first bytes, and for a group what it holds and the close.
-abbrev pub headed : (s offsets : List ℕ) → (i to : ℕ) → List ℕ → List ℕ
-headed s offsets i to before =
-    set (set before to (getD s (getD offsets i 0) 0)) (to + 1) (getD s (getD offsets i 0 + 1) 0)
+module _ {s choices offsets numbers : List ℕ} {i to : ℕ} (m : SpanFits s choices offsets numbers i (i + 1) to) where
+  pub node-bounds : NodeBounds s offsets numbers i to
+  node-bounds =
+      record {
+        below = omega (arith, ready-few (m .ready), m .ready .end);
+        start = node-start (m .ready);
+        place = omega (arith, m .fits, node-two (m .ready));
+        long-offsets = m .ready .long-offsets;
+        long-numbers = m .ready .long-numbers;
+      }
 
--- What is lent for the children, and the output when it is back.
-abbrev pub behind-head : (s offsets : List ℕ) → (i to : ℕ) → List ℕ → List ℕ
-behind-head s offsets i to before =
-    take (length (headed s offsets i to before) - (to + 2)) (drop (to + 2) (headed s offsets i to before))
+  -- Its two first bytes are written.
+  module _ (before now₁ now : List ℕ) (first : now₁ ≡ set before to (getD s (getD offsets i 0) 0))
+      (second : now ≡ set now₁ (to + 1) (getD s (getD offsets i 0 + 1) 0)) where
+    head-written : (whole rest : List ℕ) → whole ≡ getD s (getD offsets i 0) 0 ∷ getD s (getD offsets i 0 + 1) 0 ∷ rest
+        → Along whole rest to before (to + 2) now
+    head-written whole rest e =
+        let a = getD s (getD offsets i 0) 0 in
+        let b = getD s (getD offsets i 0 + 1) 0 in
+        let two : to + 1 + 1 ≡ to + 2 = omega arith in
+        rw two at (along-byte (along-byte (along-none whole to before) a (b ∷ rest) now₁ e first) b rest now refl second)
 
-abbrev pub with-inside : (s offsets : List ℕ) → (i to : ℕ) → (before after : List ℕ) → List ℕ
-with-inside s offsets i to before after =
-    putMid (to + 2) (length (headed s offsets i to before) - (to + 2)) (headed s offsets i to before) after
+    pub step-written : getD s (getD offsets i 0) 0 ≡ 0x10 → SpanWritten s choices offsets numbers i (i + 1) to before now (to + 2)
+    step-written h = all-written (λ z. head-written (span-bytes z) [] (node-step z h))
 
-head-kept : (s offsets : List ℕ) (i to : ℕ) (before : List ℕ) → length (headed s offsets i to before) ≡ length before
-head-kept s offsets i to before = simp length-set
+    pub inside-written : (getD s (getD offsets i 0) 0 ≡ 0x10 → ⊥)
+        → (lent : ℕ) → (to + 2 ≤ length now → lent ≡ to + 2) → (length now ≤ to + 2 → lent ≡ length now)
+        → (n : ℕ) (after : List ℕ)
+        → FoldWritten (children s offsets i) (getD numbers (i + 1) 0) choices (take (length now - lent) (drop lent now)) after n
+        → Unclosed s choices offsets numbers i to before (to + 2 + n) (putMid lent (length now - lent) now after)
+    inside-written h lent inside past n after w = record { along = along }
+      where
+        along : (z : SpanReady s choices offsets numbers i (i + 1))
+            → Along (span-bytes z) (0x12 ∷ []) to before (to + 2 + n) (putMid lent (length now - lent) now after)
+        along z =
+            let g = node-group z h in
+            let x = fold-bytes (g .inside) in
+            along-more (head-written (span-bytes z) (x ++ 0x12 ∷ []) (g .spelled)) x (0x12 ∷ []) (to + 2 + n) (putMid lent (length now - lent) now after)
+            refl (omega (arith, w .is-length (g .inside))) (lent-back x now after (to + 2) lent inside past (w .written (g .inside)))
 
-module _ {s choices offsets numbers : List ℕ} {i to : ℕ} (before : List ℕ) (m : SpanRoom s choices offsets numbers i (i + 1) to (length before)) where
-  pub node-room : to + 2 ≤ length before
-  node-room = omega (arith, m .fits, node-two (m .ready))
+  pub close-fits : {before : List ℕ} {at : ℕ} {now : List ℕ} → Unclosed s choices offsets numbers i to before at now → at < most-bytes
+  close-fits u = omega (arith, along-end (u .along (m .ready)), m .fits)
 
-  head-written : (whole rest : List ℕ) → whole ≡ getD s (getD offsets i 0) 0 ∷ getD s (getD offsets i 0 + 1) 0 ∷ rest
-      → Along whole rest to before (to + 2) (headed s offsets i to before)
-  head-written whole rest e =
-      let a = getD s (getD offsets i 0) 0 in
-      let b = getD s (getD offsets i 0 + 1) 0 in
-      let two : to + 1 + 1 ≡ to + 2 = omega arith in
-      let one = along-byte (along-none whole to before) (start before m) a (b ∷ rest) e (omega (arith, node-room)) in
-      rw two at (along-byte one (start before m) b rest refl (simp length-set (omega (arith, node-room))))
-
-  pub step-written : getD s (getD offsets i 0) 0 ≡ 0x10
-      → SpanWritten s choices offsets numbers i (i + 1) to before (headed s offsets i to before) (to + 2)
-  step-written h = all-written (λ z. head-written (span-bytes z) [] (node-step z h))
-
-  module _ (h : getD s (getD offsets i 0) 0 ≡ 0x10 → ⊥) where
-    pub group-room : FoldRoom (children s offsets i) (getD numbers (i + 1) 0) choices (length (behind-head s offsets i to before))
-    group-room =
-        let g = node-group (m .ready) h in
-        let now : List ℕ = headed s offsets i to before in
-        let size : length (behind-head s offsets i to before) ≡ length before - (to + 2) =
-        omega (arith, length-take-le (length now - (to + 2)) (drop (to + 2) now) (omega (arith, length-drop (to + 2) now)), head-kept s offsets i to before) in
-        record {
-          ready = g .inside;
-          fits = omega (arith, m .fits, ap length (g .spelled), length-append (fold-bytes (g .inside)) (0x12 ∷ []));
-        }
-
-    module _ (n : ℕ) (after : List ℕ) (same : length after ≡ length (behind-head s offsets i to before))
-        (w : FoldWritten (children s offsets i) (getD numbers (i + 1) 0) choices (behind-head s offsets i to before) after n) where
-      inside-written : (z : SpanReady s choices offsets numbers i (i + 1))
-          → Along (span-bytes z) (0x12 ∷ []) to before (to + 2 + n) (with-inside s offsets i to before after)
-      inside-written z =
-          let g = node-group z h in
-          along-part (head-written (span-bytes z) (fold-bytes (g .inside) ++ 0x12 ∷ []) (g .spelled)) (start before m)
-          (fold-bytes (g .inside)) (0x12 ∷ []) n after refl (w .is-length (g .inside)) (w .written (g .inside))
-
-      inside-kept : length (with-inside s offsets i to before after) ≡ length before
-      inside-kept =
-          let now : List ℕ = headed s offsets i to before in
-          same-len-mid (to + 2) (length now - (to + 2)) now after same ∙ head-kept s offsets i to before
-
-      pub close-place : to + 2 + n < length before
-      close-place = omega (arith, along-room (inside-written (m .ready)) (length before) (m .fits))
-
-      pub close-within : to + 2 + n < length (with-inside s offsets i to before after)
-      close-within = omega (arith, close-place, inside-kept)
-
-      pub group-kept : length (set (with-inside s offsets i to before after) (to + 2 + n) 0x12) ≡ length before
-      group-kept = length-set (with-inside s offsets i to before after) (to + 2 + n) 0x12 ∙ inside-kept
-
-      pub group-written : SpanWritten s choices offsets numbers i (i + 1) to before
-          (set (with-inside s offsets i to before after) (to + 2 + n) 0x12) (to + 2 + n + 1)
-      group-written = all-written (λ z. along-byte (inside-written z) (start before m) 0x12 [] refl close-within)
+pub closed : {s choices offsets numbers : List ℕ} {i to : ℕ} {before : List ℕ} {at : ℕ} {now : List ℕ}
+    → Unclosed s choices offsets numbers i to before at now → (now′ : List ℕ) → now′ ≡ set now at 0x12
+    → SpanWritten s choices offsets numbers i (i + 1) to before now′ (at + 1)
+closed u now′ e = all-written (λ z. along-byte (u .along z) 0x12 [] now′ refl e)

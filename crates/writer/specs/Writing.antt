@@ -1,9 +1,10 @@
--- What the writer's functions rest on and promise: the length and the bytes of the cheapest fold, by the choices in the table.
+-- What the writer's functions rest on and promise: the bytes of the cheapest fold and their length, by the choices in the table.
 use mathlib.Core.Path.{_≡_}
-use mathlib.Core.List.{List, _∷_, _++_}
+use mathlib.Core.List.{List, [], _∷_}
 use Prim.Native.Nat.{ℕ, _+_, _-_, _*_, _≤_}
-use lib.ListN.{length, getD, take, drop}
-use Rattle.format.specs.Limits.{Prices}
+use lib.ListN.{length, getD}
+use lib.Seq.{sets}
+use Rattle.format.specs.Limits.{Prices, limits}
 use Rattle.format.specs.Forest.{Allowed, siblings, nodes, bytes, two-bytes}
 use Rattle.format.specs.Tree.{tree-of}
 use Rattle.optimum.specs.Cheapest.{cheapest}
@@ -38,33 +39,28 @@ abbrev pub span-bytes : {s choices offsets numbers : List ℕ} {i j : ℕ} → S
 span-bytes {s = s} {i = i} {j = j} z =
     bytes (cheapest (z .ready .allowed) (z .ready .prices-are) (stretch (tree-of s) i (j - i)))
 
+-- No fold has more bytes than four for each node, so no place behind one is further on.
+abbrev pub most-bytes : ℕ
+most-bytes = 4 * limits .nodes
+
+-- A span of siblings whose fold ends at such a place when it begins at `to`.
+pub record SpanFits (s choices offsets numbers : List ℕ) (i j to : ℕ) : Type 0 where
+  pub ready : SpanReady s choices offsets numbers i j
+  pub fits : to + length (span-bytes ready) ≤ most-bytes
+
 -- A length is that of the cheapest fold, for whatever tables and prices the choices were made.
 pub record FoldLength (s : List ℕ) (b : ℕ) (choices : List ℕ) (r : ℕ) : Type 0 where
   pub is-length : (z : WriteReady s b choices) → r ≡ length (fold-bytes z)
-  pub short : r ≤ 4 * nodes (tree-of s)
 
-pub record SpanLength (s choices offsets numbers : List ℕ) (i j r : ℕ) : Type 0 where
-  pub is-length : (z : SpanReady s choices offsets numbers i j) → r ≡ length (span-bytes z)
-  pub short : r ≤ 4 * nodes (stretch (tree-of s) i (j - i))
-
--- There is room for it.
-pub record FoldRoom (s : List ℕ) (b : ℕ) (choices : List ℕ) (room : ℕ) : Type 0 where
-  pub ready : WriteReady s b choices
-  pub fits : length (fold-bytes ready) ≤ room
-
-pub record SpanRoom (s choices offsets numbers : List ℕ) (i j to room : ℕ) : Type 0 where
-  pub ready : SpanReady s choices offsets numbers i j
-  pub fits : to + length (span-bytes ready) ≤ room
-
--- It is written: from the place on, and nothing else.
+-- It is written from the place on, as far as there is room, and nothing else; the answer is the place behind it.
 pub record FoldWritten (s : List ℕ) (b : ℕ) (choices before after : List ℕ) (r : ℕ) : Type 0 where
   pub is-length : (z : WriteReady s b choices) → r ≡ length (fold-bytes z)
-  pub written : (z : WriteReady s b choices) → after ≡ fold-bytes z ++ drop r before
+  pub written : (z : WriteReady s b choices) → after ≡ sets before 0 (fold-bytes z)
 
 pub record SpanWritten (s choices offsets numbers : List ℕ) (i j to : ℕ) (before after : List ℕ) (r : ℕ) : Type 0 where
   pub is-end : (z : SpanReady s choices offsets numbers i j) → r ≡ to + length (span-bytes z)
-  pub written : (z : SpanReady s choices offsets numbers i j) → after ≡ take to before ++ (span-bytes z ++ drop r before)
+  pub written : (z : SpanReady s choices offsets numbers i j) → after ≡ sets before to (span-bytes z)
 
--- The output with the open of a repeat at a place.
-abbrev pub opened : List ℕ → (to h w : ℕ) → List ℕ
-opened out to h w = take to out ++ 0x20 ∷ two-bytes h (two-bytes w (drop (to + 5) out))
+-- The open of a repeat.
+abbrev pub open-bytes : (h w : ℕ) → List ℕ
+open-bytes h w = 0x20 ∷ two-bytes h (two-bytes w [])

@@ -1,500 +1,485 @@
 -- The bytes of the cheapest fold, by the table's choices. Each member falls by the bytes of its sequence; at one sequence the
 -- fold stands above its spans, a span above a narrower one, and those above a node.
 use mathlib.Core.Path.{refl, sym}
+use mathlib.Core.List.{List}
 use Prim.Native.Nat.{ℕ, _+_, _-_, _*_, _<_}
 use native.Mathlib.Omega.{arith}
-use lib.ListN.{length, length-set}
-use Rattle.writer.proofs.Spans.{ready-few, span-falling, span-power, node-start, node-group}
-use Rattle.writer.proofs.Writings.{Putting, putting-none, putting-plain, putting-power, putting-all, plain-room, open-room, body-room, close-room, fold-room, fold-written, node-room, step-written, group-room, close-place, close-within, group-kept, group-written}
-use borrow.Fn.Kinds.{In}
+use lib.ListN.{length}
+use borrow.Author.Needs.{needs}
+use borrow.Rule.Slice.PartMut.{putMid}
+use borrow.Fn.Kinds.{PK, In, Out}
 use borrow.Fn.PlainCycle.{Measures, is, falls, and}
+use Rattle.format.specs.Limits.{limits}
+use Rattle.table.specs.Keys.{cover}
+use Rattle.writer.specs.Writing.{most-bytes}
+use Rattle.writer.proofs.Spans.{Grouped, ready-few, span-falling, node-group}
+use Rattle.writer.proofs.Writings.{Putting, Turn, written-kept, putting-none, putting-all, left-fits, plain-fits, putting-plain, repeated, body-fits, putting-power}
+use Rattle.writer.proofs.Writings.{fold-fits, fold-written, node-bounds, step-written, Unclosed, inside-written, close-fits, closed}
 use Rattle.writer.proofs.put_fold.Reads as put-fold
 use Rattle.writer.proofs.put_fold.Kinds as put-fold-kinds
-use Rattle.writer.proofs.+put_fold+put_node+put_span.Lts-put_fold as put-fold-lts
+use Rattle.writer.proofs.+put_fold+put_node+put_span.Lts-put_fold as fold
 use Rattle.writer.proofs.put_node.Reads as put-node
 use Rattle.writer.proofs.put_node.Kinds as put-node-kinds
-use Rattle.writer.proofs.+put_fold+put_node+put_span.Lts-put_node as put-node-lts
+use Rattle.writer.proofs.+put_fold+put_node+put_span.Lts-put_node as node
 use Rattle.writer.proofs.put_span.Reads as put-span
 use Rattle.writer.proofs.put_span.Kinds as put-span-kinds
-use Rattle.writer.proofs.+put_fold+put_node+put_span.Lts-put_span as put-span-lts
-use Rattle.table.proofs.list_siblings.Reads as list-siblings-reads
-use Rattle.table.proofs.look.Reads as look-reads
-use Rattle.writer.proofs.put_open.Reads as put-open-reads
+use Rattle.writer.proofs.+put_fold+put_node+put_span.Lts-put_span as span
+use Rattle.table.proofs.count_digit.Reads as count-digit
+use Rattle.table.proofs.covered.Reads as covered
+use Rattle.table.proofs.width_digit.Reads as width-digit
+use Rattle.table.proofs.list_siblings.Reads as list-siblings
+use Rattle.table.proofs.look.Reads as look
+use Rattle.writer.proofs.put_byte.Reads as put-byte
+use Rattle.writer.proofs.put_open.Reads as put-open
+use Rattle.writer.proofs.smaller.Reads as smaller
 use Rattle.writer.proofs.+put_fold+put_node+put_span.{statement}
 use Rattle.writer.proofs.+put_fold+put_node+put_span.Tie.{close}
 
-abbrev μ-put-fold : Measures 3 put-fold-kinds.ps ℕ
-μ-put-fold κs a = 4096 * length (a .0 .now) + 4095
+-- The rank of a member at the sequence s, by how high it stands there.
+abbrev rank : List ℕ → ℕ → ℕ
+rank s high = (limits .nodes + 2) * length s + high
+
+abbrev μ-fold : Measures 3 put-fold-kinds.ps ℕ
+μ-fold κs a = rank (a .0 .now) (limits .nodes + 1)
+
+abbrev μ-node : Measures 5 put-node-kinds.ps ℕ
+μ-node κs a = rank (a .0 .now) 0
+
+abbrev μ-span : Measures 5 put-span-kinds.ps ℕ
+μ-span κs a = rank (a .0 .now) (a .1 .1 .1 .1 .1 .0 - a .1 .1 .1 .1 .0)
+
+-- A member is proved at a rank, and calls members below it.
+abbrev ranked : (n : ℕ) (ps : List (PK n)) → Measures n ps ℕ → In n ps → ℕ → In n ps
+ranked n ps μ pre t = and n ps (is n ps μ t) pre
+
+abbrev below : (n : ℕ) (ps : List (PK n)) → Measures n ps ℕ → In n ps → ℕ → In n ps
+below n ps μ pre t = and n ps (falls n ps _<_ μ t) pre
+
+abbrev Inv : span.InvT-loop
+Inv s choices offsets numbers i j out₀ to k₀ p₀ out k p = Putting s choices offsets numbers i j to out₀ k p out
+
+abbrev μ-loop : span.MeasureT-loop
+μ-loop s choices offsets numbers i j out₀ to k₀ p₀ out k p = j - k
+
+module _ (t : ℕ) where
+  -- What each member calls, and its places and needs over these.
+  abbrev fold-calls : fold.Claims
+  fold-calls = (list-siblings.Asked, list-siblings.Learnt, below 5 put-span-kinds.ps μ-span put-span.Pre t, put-span.Post)
+
+  abbrev node-calls : node.Claims
+  node-calls =
+      (put-byte.Asked, put-byte.Learnt, smaller.Asked, smaller.Learnt, below 3 put-fold-kinds.ps μ-fold put-fold.Pre t, put-fold.Post)
+
+  abbrev span-calls : span.Claims
+  span-calls = (
+    look.Asked,
+    look.Learnt,
+    below 5 put-node-kinds.ps μ-node put-node.Pre t,
+    put-node.Post,
+    width-digit.Asked,
+    width-digit.Learnt,
+    count-digit.Asked,
+    count-digit.Learnt,
+    put-open.Asked,
+    put-open.Learnt,
+    below 5 put-span-kinds.ps μ-span put-span.Pre t,
+    put-span.Post,
+    put-byte.Asked,
+    put-byte.Learnt,
+    covered.Asked,
+    covered.Learnt,
+  )
+
+  abbrev Fold : (fold.Claims → In 3 put-fold-kinds.ps → Out 3 put-fold-kinds.ps put-fold-kinds.r → Type 0) → Type 0
+  Fold x = x fold-calls (ranked 3 put-fold-kinds.ps μ-fold put-fold.Pre t) put-fold.Post
+
+  abbrev Node : (node.Claims → In 5 put-node-kinds.ps → Out 5 put-node-kinds.ps put-node-kinds.r → Type 0) → Type 0
+  Node x = x node-calls (ranked 5 put-node-kinds.ps μ-node put-node.Pre t) put-node.Post
+
+  abbrev Span : (span.Claims → In 5 put-span-kinds.ps → Out 5 put-span-kinds.ps put-span-kinds.r → span.InvT-loop → span.MeasureT-loop → Type 0) → Type 0
+  Span x = x span-calls (ranked 5 put-span-kinds.ps μ-span put-span.Pre t) put-span.Post Inv μ-loop
+
+  -- The fold: its siblings are listed.
+  abbrev fold-start : Fold fold.After-list-siblings → Fold fold.Start
+  fold-start c = c .before .before .before .before .before .before
 
-abbrev μ-put-node : Measures 5 put-node-kinds.ps ℕ
-μ-put-node κs a = 4096 * length (a .0 .now)
+  fold-slice-aggregate-list-siblings : Fold fold.Need-slice-aggregate-list-siblings
+  fold-slice-aggregate-list-siblings c = refl
 
-abbrev μ-put-span : Measures 5 put-span-kinds.ps ℕ
-μ-put-span κs a = 4096 * length (a .0 .now) + (a .1 .1 .1 .1 .1 .0 - a .1 .1 .1 .1 .0)
+  fold-slice-aggregate-list-siblings-2 : Fold fold.Need-slice-aggregate-list-siblings-2
+  fold-slice-aggregate-list-siblings-2 c = refl
 
-abbrev put-fold-at : ℕ → In 3 put-fold-kinds.ps
-put-fold-at t = and 3 put-fold-kinds.ps (is 3 put-fold-kinds.ps μ-put-fold t) put-fold.Pre
+  fold-list-siblings-requires : Fold fold.Need-list-siblings-requires
+  fold-list-siblings-requires c κs =
+      let z = c .before .before .before .before .before .pre .1 in
+      (z .spelled, (z .total, (refl, refl)))
 
-abbrev put-fold-below : ℕ → In 3 put-fold-kinds.ps
-put-fold-below t =
-    and 3 put-fold-kinds.ps (falls 3 put-fold-kinds.ps _<_ μ-put-fold t) put-fold.Pre
+  fold-slice-aggregate-put-span : Fold fold.Need-slice-aggregate-put-span
+  fold-slice-aggregate-put-span c = sym (c .before .before .before .list-siblings .ensures .1 .0 .0)
+
+  fold-slice-aggregate-put-span-2 : Fold fold.Need-slice-aggregate-put-span-2
+  fold-slice-aggregate-put-span-2 c = sym (c .before .before .before .before .list-siblings .ensures .1 .1 .0)
 
-abbrev put-node-at : ℕ → In 5 put-node-kinds.ps
-put-node-at t = and 5 put-node-kinds.ps (is 5 put-node-kinds.ps μ-put-node t) put-node.Pre
+  fold-put-span-requires : Fold fold.Need-put-span-requires
+  fold-put-span-requires c κs =
+      let listed = c .before .before .before .before .before in
+      let L = listed .list-siblings in
+      let S = fold-start listed in
+      let m = fold-fits (L .last .1 .1 .0) (L .last .1 .1 .1 .0) (L .result) (L .ensures) (S .pre .1) in
+      (omega (arith, S .pre .0, ready-few (m .ready), L .ensures .0), m)
 
-abbrev put-node-below : ℕ → In 5 put-node-kinds.ps
-put-node-below t =
-    and 5 put-node-kinds.ps (falls 5 put-node-kinds.ps _<_ μ-put-node t) put-node.Pre
+  fold-same-length : Fold fold.Need-same-length
+  fold-same-length c = c .before .before .put-span .kept .1 .1 .1 .1 .1 .1 .0
 
-abbrev put-span-at : ℕ → In 5 put-span-kinds.ps
-put-span-at t = and 5 put-span-kinds.ps (is 5 put-span-kinds.ps μ-put-span t) put-span.Pre
-
-abbrev put-span-below : ℕ → In 5 put-span-kinds.ps
-put-span-below t =
-    and 5 put-span-kinds.ps (falls 5 put-span-kinds.ps _<_ μ-put-span t) put-span.Pre
-
-abbrev put-fold-calls : ℕ → put-fold-lts.Claims
-put-fold-calls t = (list-siblings-reads.Asked, list-siblings-reads.Learnt, put-span-below t, put-span.Post)
+  fold-returns : Fold fold.Need-returns
+  fold-returns c =
+      let span = c .before .before .put-span in
+      let listed = c .before .before .before .before .before .before .before .before in
+      let L = listed .list-siblings in
+      fold-written (L .last .1 .1 .0) (L .last .1 .1 .1 .0) (L .result) (L .ensures)
+      (fold-start listed .args .out .now) (span .last .1 .1 .1 .1 .1 .1 .0) (span .result) (span .ensures)
 
-abbrev put-node-calls : ℕ → put-node-lts.Claims
-put-node-calls t = (put-fold-below t, put-fold.Post)
-
-abbrev put-span-calls : ℕ → put-span-lts.Claims
-put-span-calls t = (look-reads.Asked, look-reads.Learnt, put-node-below t, put-node.Post, put-open-reads.Asked, put-open-reads.Learnt, put-span-below t, put-span.Post)
-
-put-fold-slice-aggregate-list-siblings : (t : ℕ) → put-fold-lts.Need-slice-aggregate-list-siblings (put-fold-calls t) (put-fold-at t) put-fold.Post
-put-fold-slice-aggregate-list-siblings t c = refl
-
-put-fold-slice-aggregate-list-siblings-2 : (t : ℕ) → put-fold-lts.Need-slice-aggregate-list-siblings-2 (put-fold-calls t) (put-fold-at t) put-fold.Post
-put-fold-slice-aggregate-list-siblings-2 t c = refl
-
-put-fold-list-siblings-requires : (t : ℕ) → put-fold-lts.Need-list-siblings-requires (put-fold-calls t) (put-fold-at t) put-fold.Post
-put-fold-list-siblings-requires t c κs =
-    let z = c .before .before .before .before .before .pre .1 .ready in
-    (z .spelled, (z .total, (refl, refl)))
-
-put-fold-slice-aggregate-put-span : (t : ℕ) → put-fold-lts.Need-slice-aggregate-put-span (put-fold-calls t) (put-fold-at t) put-fold.Post
-put-fold-slice-aggregate-put-span t c = sym (c .before .before .before .list-siblings .ensures .1 .0 .0)
-
-put-fold-slice-aggregate-put-span-2 : (t : ℕ) → put-fold-lts.Need-slice-aggregate-put-span-2 (put-fold-calls t) (put-fold-at t) put-fold.Post
-put-fold-slice-aggregate-put-span-2 t c = sym (c .before .before .before .before .list-siblings .ensures .1 .1 .0)
-
-put-fold-put-span-requires : (t : ℕ) → put-fold-lts.Need-put-span-requires (put-fold-calls t) (put-fold-at t) put-fold.Post
-put-fold-put-span-requires t c κs =
-    let S = c .before .before .before .before .before .before .before .before .before .before .before in
-    let L = c .before .before .before .before .before .list-siblings in
-    let m = fold-room (L .last .1 .1 .0) (L .last .1 .1 .1 .0) (L .result) (L .ensures) (length (S .args .out .now)) (S .pre .1) in
-    (omega (arith, S .pre .0, ready-few (m .ready), L .ensures .0), m)
-
-put-fold-same-length : (t : ℕ) → put-fold-lts.Need-same-length (put-fold-calls t) (put-fold-at t) put-fold.Post
-put-fold-same-length t c = c .before .before .put-span .kept .1 .1 .1 .1 .1 .1 .0
-
-put-fold-returns : (t : ℕ) → put-fold-lts.Need-returns (put-fold-calls t) (put-fold-at t) put-fold.Post
-put-fold-returns t c =
-    let S = c .before .before .before .before .before .before .before .before .before .before .before .before .before .before in
-    let L = c .before .before .before .before .before .before .before .before .list-siblings in
-    let span = c .before .before .put-span in
-    fold-written (L .last .1 .1 .0) (L .last .1 .1 .1 .0) (L .result) (L .ensures) (S .args .out .now) (span .last .1 .1 .1 .1 .1 .1 .0) (span .result) (span .ensures)
-
-put-node-mul-at : (t : ℕ) → put-node-lts.Need-mul-at (put-node-calls t) (put-node-at t) put-node.Post
-put-node-mul-at t c =
-    let z = c .before .before .before .before .before .pre .1 .ready in
-    omega (arith, ready-few z)
-
-put-node-shared-slice-read-at : (t : ℕ) → put-node-lts.Need-shared-slice-read-at (put-node-calls t) (put-node-at t) put-node.Post
-put-node-shared-slice-read-at t c =
-    let z = c .before .before .before .before .before .before .pre .1 .ready in
-    omega (arith, ready-few z)
-
-put-node-shared-slice-read-out : (t : ℕ) → put-node-lts.Need-shared-slice-read-out (put-node-calls t) (put-node-at t) put-node.Post
-put-node-shared-slice-read-out t c = omega (arith, node-start (c .before .before .before .before .before .before .before .pre .1 .ready))
-
-put-node-slice-write-out : (t : ℕ) → put-node-lts.Need-slice-write-out (put-node-calls t) (put-node-at t) put-node.Post
-put-node-slice-write-out t c =
-    let S = c .before .before .before .before .before .before .before in
-    omega (arith, node-room (S .args .out .now) (S .pre .1))
-
-put-node-add-out : (t : ℕ) → put-node-lts.Need-add-out (put-node-calls t) (put-node-at t) put-node.Post
-put-node-add-out t c =
-    let S = c .before .before .before .before .before .before .before in
-    omega (arith, node-start (S .pre .1 .ready), S .good)
-
-put-node-shared-slice-read-out-2 : (t : ℕ) → put-node-lts.Need-shared-slice-read-out-2 (put-node-calls t) (put-node-at t) put-node.Post
-put-node-shared-slice-read-out-2 t c = omega (arith, node-start (c .before .before .before .before .before .before .before .before .pre .1 .ready))
-
-put-node-add-out-2 : (t : ℕ) → put-node-lts.Need-add-out-2 (put-node-calls t) (put-node-at t) put-node.Post
-put-node-add-out-2 t c =
-    let S = c .before .before .before .before .before .before .before .before in
-    omega (arith, node-room (S .args .out .now) (S .pre .1), S .good)
-
-put-node-slice-write-out-2 : (t : ℕ) → put-node-lts.Need-slice-write-out-2 (put-node-calls t) (put-node-at t) put-node.Post
-put-node-slice-write-out-2 t c =
-    let S = c .before .before .before .before .before .before .before .before in
-    simp length-set (omega (arith, node-room (S .args .out .now) (S .pre .1)))
-
-put-node-shared-slice-read-if1 : (t : ℕ) → put-node-lts.Need-shared-slice-read-if1 (put-node-calls t) (put-node-at t) put-node.Post
-put-node-shared-slice-read-if1 t c = omega (arith, node-start (c .before .before .before .before .before .before .before .before .before .pre .1 .ready))
-
-put-node-add-result : (t : ℕ) → put-node-lts.Need-add-result (put-node-calls t) (put-node-at t) put-node.Post
-put-node-add-result t c =
-    let S = c .before .before .before .before .before .before .before .before .before .before in
-    omega (arith, node-room (S .args .out .now) (S .pre .1), S .good)
-
-put-node-same-length : (t : ℕ) → put-node-lts.Need-same-length (put-node-calls t) (put-node-at t) put-node.Post
-put-node-same-length t c = simp length-set
-
-put-node-returns : (t : ℕ) → put-node-lts.Need-returns (put-node-calls t) (put-node-at t) put-node.Post
-put-node-returns t c =
-    let S = c .before .before .before .before .before .before .before .before .before .before in
-    let branch = c .if1 in
-    step-written (S .args .out .now) (S .pre .1) (branch .taken)
-
-put-node-add-end : (t : ℕ) → put-node-lts.Need-add-end (put-node-calls t) (put-node-at t) put-node.Post
-put-node-add-end t c =
-    let z = c .before .before .before .before .before .before .before .before .before .before .pre .1 .ready in
-    omega (arith, ready-few z)
-
-put-node-mul-end : (t : ℕ) → put-node-lts.Need-mul-end (put-node-calls t) (put-node-at t) put-node.Post
-put-node-mul-end t c =
-    let z = c .before .before .before .before .before .before .before .before .before .before .pre .1 .ready in
-    omega (arith, ready-few z)
-
-put-node-shared-slice-read-end : (t : ℕ) → put-node-lts.Need-shared-slice-read-end (put-node-calls t) (put-node-at t) put-node.Post
-put-node-shared-slice-read-end t c =
-    let z = c .before .before .before .before .before .before .before .before .before .before .before .pre .1 .ready in
-    omega (arith, ready-few z)
-
-put-node-sub-end : (t : ℕ) → put-node-lts.Need-sub-end (put-node-calls t) (put-node-at t) put-node.Post
-put-node-sub-end t c =
-    let S = c .before .before .before .before .before .before .before .before .before .before .before in
-    let branch = c .before .if1 in
-    omega (arith, node-group (S .pre .1 .ready) (branch .left) .ahead)
-
-put-node-add-start : (t : ℕ) → put-node-lts.Need-add-start (put-node-calls t) (put-node-at t) put-node.Post
-put-node-add-start t c =
-    let S = c .before .before .before .before .before .before .before .before .before .before .before in
-    omega (arith, node-room (S .args .out .now) (S .pre .1), S .good)
-
-put-node-add-put-fold : (t : ℕ) → put-node-lts.Need-add-put-fold (put-node-calls t) (put-node-at t) put-node.Post
-put-node-add-put-fold t c =
-    let S = c .before .before .before .before .before .before .before .before .before .before .before in
-    omega (arith, node-start (S .pre .1 .ready), S .good)
-
-put-node-sub-put-fold : (t : ℕ) → put-node-lts.Need-sub-put-fold (put-node-calls t) (put-node-at t) put-node.Post
-put-node-sub-put-fold t c =
-    let S = c .before .before .before .before .before .before .before .before .before .before .before in
-    let branch = c .before .if1 in
-    omega (arith, node-group (S .pre .1 .ready) (branch .left) .ahead)
-
-put-node-part-put-fold-start : (t : ℕ) → put-node-lts.Need-part-put-fold-start (put-node-calls t) (put-node-at t) put-node.Post
-put-node-part-put-fold-start t c =
-    let S = c .before .before .before .before .before .before .before .before .before .before .before in
-    let branch = c .before .if1 in
-    omega (arith, node-group (S .pre .1 .ready) (branch .left) .ahead)
-
-put-node-part-put-fold-end : (t : ℕ) → put-node-lts.Need-part-put-fold-end (put-node-calls t) (put-node-at t) put-node.Post
-put-node-part-put-fold-end t c =
-    let S = c .before .before .before .before .before .before .before .before .before .before .before in
-    let branch = c .before .if1 in
-    omega (arith, node-group (S .pre .1 .ready) (branch .left) .within)
-
-put-node-add-put-fold-2 : (t : ℕ) → put-node-lts.Need-add-put-fold-2 (put-node-calls t) (put-node-at t) put-node.Post
-put-node-add-put-fold-2 t c =
-    let z = c .before .before .before .before .before .before .before .before .before .before .before .before .pre .1 .ready in
-    omega (arith, ready-few z)
-
-put-node-mul-put-fold : (t : ℕ) → put-node-lts.Need-mul-put-fold (put-node-calls t) (put-node-at t) put-node.Post
-put-node-mul-put-fold t c =
-    let z = c .before .before .before .before .before .before .before .before .before .before .before .before .pre .1 .ready in
-    omega (arith, ready-few z)
-
-put-node-shared-slice-read-put-fold : (t : ℕ) → put-node-lts.Need-shared-slice-read-put-fold (put-node-calls t) (put-node-at t) put-node.Post
-put-node-shared-slice-read-put-fold t c =
-    let z = c .before .before .before .before .before .before .before .before .before .before .before .before .before .pre .1 .ready in
-    omega (arith, ready-few z)
-
-put-node-sub-put-fold-2 : (t : ℕ) → put-node-lts.Need-sub-put-fold-2 (put-node-calls t) (put-node-at t) put-node.Post
-put-node-sub-put-fold-2 t c =
-    let S = c .before .before .before .before .before .before .before .before .before .before .before .before .before in
-    simp length-set (omega (arith, node-room (S .args .out .now) (S .pre .1)))
-
-put-node-part-put-fold-start-2 : (t : ℕ) → put-node-lts.Need-part-put-fold-start-2 (put-node-calls t) (put-node-at t) put-node.Post
-put-node-part-put-fold-start-2 t c =
-    let S = c .before .before .before .before .before .before .before .before .before .before .before .before .before in
-    simp length-set (omega (arith, node-room (S .args .out .now) (S .pre .1)))
-
-put-node-part-put-fold-end-2 : (t : ℕ) → put-node-lts.Need-part-put-fold-end-2 (put-node-calls t) (put-node-at t) put-node.Post
-put-node-part-put-fold-end-2 t c = omega arith
-
-put-node-put-fold-requires : (t : ℕ) → put-node-lts.Need-put-fold-requires (put-node-calls t) (put-node-at t) put-node.Post
-put-node-put-fold-requires t c κs =
-    let S = c .before .before .before .before .before .before .before .before .before .before .before .before .before .before in
-    let branch = c .before .before .before .before .if1 in
-    let m = S .pre .1 in
-    (omega (arith, S .pre .0, node-group (m .ready) (branch .left) .shorter), group-room (S .args .out .now) m (branch .left))
-
-put-node-add-out-3 : (t : ℕ) → put-node-lts.Need-add-out-3 (put-node-calls t) (put-node-at t) put-node.Post
-put-node-add-out-3 t c =
-    let S = c .before .before .before .before .before .before .before .before .before .before .before .before .before .before .before .before .before in
-    let branch = c .before .before .before .before .before .before .before .if1 in
-    let fold = c .before .before .put-fold in
-    omega (arith, close-place (S .args .out .now) (S .pre .1) (branch .left) (fold .result) (fold .last .1 .1 .1 .0) (fold .kept .1 .1 .1 .0) (fold .ensures), S .good)
-
-put-node-slice-write-out-3 : (t : ℕ) → put-node-lts.Need-slice-write-out-3 (put-node-calls t) (put-node-at t) put-node.Post
-put-node-slice-write-out-3 t c =
-    let S = c .before .before .before .before .before .before .before .before .before .before .before .before .before .before .before .before .before in
-    let branch = c .before .before .before .before .before .before .before .if1 in
-    let fold = c .before .before .put-fold in
-    close-within (S .args .out .now) (S .pre .1) (branch .left) (fold .result) (fold .last .1 .1 .1 .0) (fold .kept .1 .1 .1 .0) (fold .ensures)
-
-put-node-add-result-2 : (t : ℕ) → put-node-lts.Need-add-result-2 (put-node-calls t) (put-node-at t) put-node.Post
-put-node-add-result-2 t c =
-    let S = c .before .before .before .before .before .before .before .before .before .before .before .before .before .before .before .before .before in
-    let branch = c .before .before .before .before .before .before .before .if1 in
-    let fold = c .before .before .put-fold in
-    omega (arith, close-place (S .args .out .now) (S .pre .1) (branch .left) (fold .result) (fold .last .1 .1 .1 .0) (fold .kept .1 .1 .1 .0) (fold .ensures), S .good)
-
-put-node-add-result-3 : (t : ℕ) → put-node-lts.Need-add-result-3 (put-node-calls t) (put-node-at t) put-node.Post
-put-node-add-result-3 t c =
-    let S = c .before .before .before .before .before .before .before .before .before .before .before .before .before .before .before .before .before in
-    let branch = c .before .before .before .before .before .before .before .if1 in
-    let fold = c .before .before .put-fold in
-    omega (arith, close-place (S .args .out .now) (S .pre .1) (branch .left) (fold .result) (fold .last .1 .1 .1 .0) (fold .kept .1 .1 .1 .0) (fold .ensures), S .good)
-
-put-node-same-length-2 : (t : ℕ) → put-node-lts.Need-same-length-2 (put-node-calls t) (put-node-at t) put-node.Post
-put-node-same-length-2 t c =
-    let S = c .before .before .before .before .before .before .before .before .before .before .before .before .before .before .before .before .before in
-    let branch = c .before .before .before .before .before .before .before .if1 in
-    let fold = c .before .before .put-fold in
-    group-kept (S .args .out .now) (S .pre .1) (branch .left) (fold .result) (fold .last .1 .1 .1 .0) (fold .kept .1 .1 .1 .0) (fold .ensures)
-
-put-node-returns-2 : (t : ℕ) → put-node-lts.Need-returns-2 (put-node-calls t) (put-node-at t) put-node.Post
-put-node-returns-2 t c =
-    let S = c .before .before .before .before .before .before .before .before .before .before .before .before .before .before .before .before .before in
-    let branch = c .before .before .before .before .before .before .before .if1 in
-    let fold = c .before .before .put-fold in
-    group-written (S .args .out .now) (S .pre .1) (branch .left) (fold .result) (fold .last .1 .1 .1 .0) (fold .kept .1 .1 .1 .0) (fold .ensures)
-
-abbrev put-span-Inv-loop : put-span-lts.InvT-loop
-put-span-Inv-loop s choices offsets numbers i j out₀ to k₀ p₀ out k p = Putting s choices offsets numbers i j to out₀ k p out
-
-abbrev put-span-μ-loop : put-span-lts.MeasureT-loop
-put-span-μ-loop s choices offsets numbers i j out₀ to k₀ p₀ out k p = j - k
-
-put-span-loop-holds : (t : ℕ) → put-span-lts.Need-loop-holds (put-span-calls t) (put-span-at t) put-span.Post put-span-Inv-loop put-span-μ-loop
-put-span-loop-holds t c =
-    let S = c .before .before .before .before .before in
-    putting-none (S .args .out .now) (S .pre .1)
-
-put-span-look-requires : (t : ℕ) → put-span-lts.Need-look-requires (put-span-calls t) (put-span-at t) put-span.Post put-span-Inv-loop put-span-μ-loop
-put-span-look-requires t c κs =
-    let S = c .before .before .before .before .before .before .before in
-    let test = c .loop-test in
-    (span-falling (S .pre .1 .ready), test .taken)
-
-put-span-put-node-requires : (t : ℕ) → put-span-lts.Need-put-node-requires (put-span-calls t) (put-span-at t) put-span.Post put-span-Inv-loop put-span-μ-loop
-put-span-put-node-requires t c κs =
-    let S = c .before .before .before .before .before .before .before .before .before .before in
-    let loop = c .before .before .before .before .loop in
-    let test = c .before .before .before .loop-test in
-    let look = c .before .before .look in
-    let branch = c .before .if1 in
-    (omega (arith, S .pre .0, loop .inv .ahead, test .taken), plain-room (S .args .out .now) (S .pre .1) (loop .inv) (look .result) (test .taken) (look .ensures .0) (branch .taken))
-
-put-span-add-k : (t : ℕ) → put-span-lts.Need-add-k (put-span-calls t) (put-span-at t) put-span.Post put-span-Inv-loop put-span-μ-loop
-put-span-add-k t c =
-    let S = c .before .before .before .before .before .before .before .before .before .before .before .before .before in
-    let test = c .before .before .before .before .before .before .loop-test in
-    omega (arith, test .taken, S .fits)
-
-put-span-loop-less : (t : ℕ) → put-span-lts.Need-loop-less (put-span-calls t) (put-span-at t) put-span.Post put-span-Inv-loop put-span-μ-loop
-put-span-loop-less t c = omega (arith, c .before .before .before .before .before .before .loop-test .taken)
-
-put-span-loop-again : (t : ℕ) → put-span-lts.Need-loop-again (put-span-calls t) (put-span-at t) put-span.Post put-span-Inv-loop put-span-μ-loop
-put-span-loop-again t c =
-    let S = c .before .before .before .before .before .before .before .before .before .before .before .before .before in
-    let loop = c .before .before .before .before .before .before .before .loop in
-    let test = c .before .before .before .before .before .before .loop-test in
-    let look = c .before .before .before .before .before .look in
-    let branch = c .before .before .before .before .if1 in
-    let node = c .before .before .put-node in
-    putting-plain (S .args .out .now) (S .pre .1) (loop .inv) (look .result) (test .taken) (look .ensures .0) (node .result) (node .last .1 .1 .1 .1 .1 .0) (branch .taken) (node .kept .1 .1 .1 .1 .1 .0) (node .ensures)
-
-put-span-put-open-requires : (t : ℕ) → put-span-lts.Need-put-open-requires (put-span-calls t) (put-span-at t) put-span.Post put-span-Inv-loop put-span-μ-loop
-put-span-put-open-requires t c κs =
-    let S = c .before .before .before .before .before .before .before .before .before .before in
-    let loop = c .before .before .before .before .loop in
-    let test = c .before .before .before .loop-test in
-    let look = c .before .before .look in
-    let branch = c .before .if1 in
-    open-room (S .args .out .now) (S .pre .1) (loop .inv) (look .result) (test .taken) (look .ensures .0) (branch .left)
-
-put-span-add-put-span : (t : ℕ) → put-span-lts.Need-add-put-span (put-span-calls t) (put-span-at t) put-span.Post put-span-Inv-loop put-span-μ-loop
-put-span-add-put-span t c =
-    let S = c .before .before .before .before .before .before .before .before .before .before .before .before .before in
-    let loop = c .before .before .before .before .before .before .before .loop in
-    let test = c .before .before .before .before .before .before .loop-test in
-    let look = c .before .before .before .before .before .look in
-    let branch = c .before .before .before .before .if1 in
-    let p = span-power (S .pre .1 .ready) (loop .k) (look .result) (test .taken) (look .ensures .0) (branch .left) in
-    omega (arith, S .fits)
-
-put-span-add-put-span-2 : (t : ℕ) → put-span-lts.Need-add-put-span-2 (put-span-calls t) (put-span-at t) put-span.Post put-span-Inv-loop put-span-μ-loop
-put-span-add-put-span-2 t c =
-    let S = c .before .before .before .before .before .before .before .before .before .before .before .before .before .before in
-    let loop = c .before .before .before .before .before .before .before .before .loop in
-    let test = c .before .before .before .before .before .before .before .loop-test in
-    let look = c .before .before .before .before .before .before .look in
-    let branch = c .before .before .before .before .before .if1 in
-    omega (arith, open-room (S .args .out .now) (S .pre .1) (loop .inv) (look .result) (test .taken) (look .ensures .0) (branch .left), loop .inv .kept, S .good)
-
-put-span-put-span-requires : (t : ℕ) → put-span-lts.Need-put-span-requires (put-span-calls t) (put-span-at t) put-span.Post put-span-Inv-loop put-span-μ-loop
-put-span-put-span-requires t c κs =
-    let S = c .before .before .before .before .before .before .before .before .before .before .before .before .before .before in
-    let loop = c .before .before .before .before .before .before .before .before .loop in
-    let test = c .before .before .before .before .before .before .before .loop-test in
-    let look = c .before .before .before .before .before .before .look in
-    let branch = c .before .before .before .before .before .if1 in
-    let opens = c .before .before .before .put-open in
-    let p = span-power (S .pre .1 .ready) (loop .k) (look .result) (test .taken) (look .ensures .0) (branch .left) in
-    (omega (arith, S .pre .0, loop .inv .ahead), body-room (S .args .out .now) (S .pre .1) (loop .inv) (look .result) (test .taken) (look .ensures .0) (branch .left) (opens .last .0) (opens .kept .0) (opens .ensures))
-
-put-span-slice-write-out : (t : ℕ) → put-span-lts.Need-slice-write-out (put-span-calls t) (put-span-at t) put-span.Post put-span-Inv-loop put-span-μ-loop
-put-span-slice-write-out t c =
-    let S = c .before .before .before .before .before .before .before .before .before .before .before .before .before .before .before .before .before in
-    let loop = c .before .before .before .before .before .before .before .before .before .before .before .loop in
-    let test = c .before .before .before .before .before .before .before .before .before .before .loop-test in
-    let look = c .before .before .before .before .before .before .before .before .before .look in
-    let branch = c .before .before .before .before .before .before .before .before .if1 in
-    let opens = c .before .before .before .before .before .before .put-open in
-    let span = c .before .before .put-span in
-    close-room (S .args .out .now) (S .pre .1) (loop .inv) (look .result) (test .taken) (look .ensures .0) (branch .left) (opens .last .0) (opens .kept .0) (opens .ensures) (span .result) (span .last .1 .1 .1 .1 .1 .1 .0) (span .kept .1 .1 .1 .1 .1 .1 .0) (span .ensures)
-
-put-span-add-p : (t : ℕ) → put-span-lts.Need-add-p (put-span-calls t) (put-span-at t) put-span.Post put-span-Inv-loop put-span-μ-loop
-put-span-add-p t c =
-    let S = c .before .before .before .before .before .before .before .before .before .before .before .before .before .before .before .before .before in
-    let loop = c .before .before .before .before .before .before .before .before .before .before .before .loop in
-    let test = c .before .before .before .before .before .before .before .before .before .before .loop-test in
-    let look = c .before .before .before .before .before .before .before .before .before .look in
-    let branch = c .before .before .before .before .before .before .before .before .if1 in
-    let opens = c .before .before .before .before .before .before .put-open in
-    let span = c .before .before .put-span in
-    omega (arith, close-room (S .args .out .now) (S .pre .1) (loop .inv) (look .result) (test .taken) (look .ensures .0) (branch .left) (opens .last .0) (opens .kept .0) (opens .ensures) (span .result) (span .last .1 .1 .1 .1 .1 .1 .0) (span .kept .1 .1 .1 .1 .1 .1 .0) (span .ensures), span .kept .1 .1 .1 .1 .1 .1 .0, opens .kept .0, loop .inv .kept, S .good)
-
-put-span-mul-k : (t : ℕ) → put-span-lts.Need-mul-k (put-span-calls t) (put-span-at t) put-span.Post put-span-Inv-loop put-span-μ-loop
-put-span-mul-k t c =
-    let S = c .before .before .before .before .before .before .before .before .before .before .before .before .before .before .before .before .before in
-    let loop = c .before .before .before .before .before .before .before .before .before .before .before .loop in
-    let test = c .before .before .before .before .before .before .before .before .before .before .loop-test in
-    let look = c .before .before .before .before .before .before .before .before .before .look in
-    let branch = c .before .before .before .before .before .before .before .before .if1 in
-    let p = span-power (S .pre .1 .ready) (loop .k) (look .result) (test .taken) (look .ensures .0) (branch .left) in
-    omega (arith, S .fits)
-
-put-span-add-k-2 : (t : ℕ) → put-span-lts.Need-add-k-2 (put-span-calls t) (put-span-at t) put-span.Post put-span-Inv-loop put-span-μ-loop
-put-span-add-k-2 t c =
-    let S = c .before .before .before .before .before .before .before .before .before .before .before .before .before .before .before .before .before in
-    let loop = c .before .before .before .before .before .before .before .before .before .before .before .loop in
-    let test = c .before .before .before .before .before .before .before .before .before .before .loop-test in
-    let look = c .before .before .before .before .before .before .before .before .before .look in
-    let branch = c .before .before .before .before .before .before .before .before .if1 in
-    let p = span-power (S .pre .1 .ready) (loop .k) (look .result) (test .taken) (look .ensures .0) (branch .left) in
-    omega (arith, S .fits)
-
-put-span-loop-less-2 : (t : ℕ) → put-span-lts.Need-loop-less-2 (put-span-calls t) (put-span-at t) put-span.Post put-span-Inv-loop put-span-μ-loop
-put-span-loop-less-2 t c =
-    let S = c .before .before .before .before .before .before .before .before .before .before .before .before .before .before .before .before .before in
-    let loop = c .before .before .before .before .before .before .before .before .before .before .before .loop in
-    let test = c .before .before .before .before .before .before .before .before .before .before .loop-test in
-    let look = c .before .before .before .before .before .before .before .before .before .look in
-    let branch = c .before .before .before .before .before .before .before .before .if1 in
-    let p = span-power (S .pre .1 .ready) (loop .k) (look .result) (test .taken) (look .ensures .0) (branch .left) in
-    omega arith
-
-put-span-loop-again-2 : (t : ℕ) → put-span-lts.Need-loop-again-2 (put-span-calls t) (put-span-at t) put-span.Post put-span-Inv-loop put-span-μ-loop
-put-span-loop-again-2 t c =
-    let S = c .before .before .before .before .before .before .before .before .before .before .before .before .before .before .before .before .before in
-    let loop = c .before .before .before .before .before .before .before .before .before .before .before .loop in
-    let test = c .before .before .before .before .before .before .before .before .before .before .loop-test in
-    let look = c .before .before .before .before .before .before .before .before .before .look in
-    let branch = c .before .before .before .before .before .before .before .before .if1 in
-    let opens = c .before .before .before .before .before .before .put-open in
-    let span = c .before .before .put-span in
-    putting-power (S .args .out .now) (S .pre .1) (loop .inv) (look .result) (test .taken) (look .ensures .0) (branch .left) (opens .last .0) (opens .kept .0) (opens .ensures) (span .result) (span .last .1 .1 .1 .1 .1 .1 .0) (span .kept .1 .1 .1 .1 .1 .1 .0) (span .ensures)
-
-put-span-same-length : (t : ℕ) → put-span-lts.Need-same-length (put-span-calls t) (put-span-at t) put-span.Post put-span-Inv-loop put-span-μ-loop
-put-span-same-length t c = c .before .loop .inv .kept
-
-put-span-returns : (t : ℕ) → put-span-lts.Need-returns (put-span-calls t) (put-span-at t) put-span.Post put-span-Inv-loop put-span-μ-loop
-put-span-returns t c =
-    let S = c .before .before .before .before .before .before .before in
-    let loop = c .before .loop in
-    let test = c .loop-test in
-    putting-all (S .args .out .now) (S .pre .1) (loop .inv) (test .left)
+  -- A node: its two bytes stand, and for a group what it holds is lent the rest.
+  abbrev node-start : Node node.After-slice-known → Node node.Start
+  node-start c = c .before .before .before .before .before
+
+  abbrev node-headed : Node node.After-shared-slice-known8 → Node node.Start
+  node-headed c = node-start (c .before .before .before .before .before .before .before .before .before .before .before .before)
+
+  abbrev node-inside : Node node.After-put-fold-arg2 → Node node.Else1
+  node-inside c = c .before .before .before .before .before
+
+  grouped : (c : Node node.Else1) → Grouped (node-headed (c .before) .pre .1 .ready)
+  grouped c = node-group (node-headed (c .before) .pre .1 .ready) (c .if1 .left)
+
+  node-mul-at : Node node.Need-mul-at
+  node-mul-at c = let b = node-bounds (node-start c .pre .1) in omega arith
+
+  node-shared-slice-read-at : Node node.Need-shared-slice-read-at
+  node-shared-slice-read-at c = let b = node-bounds (node-start (c .before) .pre .1) in omega arith
+
+  node-shared-slice-read-put-byte : Node node.Need-shared-slice-read-put-byte
+  node-shared-slice-read-put-byte c = let b = node-bounds (node-start (c .before .before .before) .pre .1) in omega arith
+
+  node-put-byte-requires : Node node.Need-put-byte-requires
+  node-put-byte-requires c κs = search needs
+
+  node-add-put-byte : Node node.Need-add-put-byte
+  node-add-put-byte c = let b = node-bounds (node-start (c .before .before .before .before .before .before .before) .pre .1) in omega arith
+
+  node-add-put-byte-2 : Node node.Need-add-put-byte-2
+  node-add-put-byte-2 c = let b = node-bounds (node-start (c .before .before .before .before .before .before .before) .pre .1) in omega arith
+
+  node-shared-slice-read-put-byte-2 : Node node.Need-shared-slice-read-put-byte-2
+  node-shared-slice-read-put-byte-2 c =
+      let b = node-bounds (node-start (c .before .before .before .before .before .before .before .before) .pre .1) in omega arith
+
+  node-put-byte-requires-2 : Node node.Need-put-byte-requires-2
+  node-put-byte-requires-2 c κs = search needs
+
+  node-shared-slice-read-if1 : Node node.Need-shared-slice-read-if1
+  node-shared-slice-read-if1 c = let b = node-bounds (node-headed c .pre .1) in omega arith
+
+  node-add-result : Node node.Need-add-result
+  node-add-result c = let b = node-bounds (node-headed (c .before) .pre .1) in omega arith
+
+  node-returns : Node node.Need-returns
+  node-returns c =
+      let S = node-headed (c .before) in
+      let first = c .before .before .before .before .before .before .before .before .before .put-byte in
+      let second = c .before .before .before .before .put-byte2 in
+      step-written (S .pre .1) (S .args .out .now) (first .last .0) (second .last .0) (first .ensures) (second .ensures) (c .if1 .taken)
+
+  node-same-length : Node node.Need-same-length
+  node-same-length c = written-kept (node-headed (c .before) .pre .1 .ready) (node-returns c)
+
+  node-add-end : Node node.Need-add-end
+  node-add-end c = let b = node-bounds (node-headed (c .before) .pre .1) in omega arith
+
+  node-mul-end : Node node.Need-mul-end
+  node-mul-end c = let b = node-bounds (node-headed (c .before) .pre .1) in omega arith
+
+  node-shared-slice-read-end : Node node.Need-shared-slice-read-end
+  node-shared-slice-read-end c = let b = node-bounds (node-headed (c .before .before) .pre .1) in omega arith
+
+  node-sub-end : Node node.Need-sub-end
+  node-sub-end c = let g = grouped (c .before) in omega arith
+
+  node-add-start : Node node.Need-add-start
+  node-add-start c = let b = node-bounds (node-headed (c .before .before) .pre .1) in omega arith
+
+  node-smaller-requires : Node node.Need-smaller-requires
+  node-smaller-requires c κs = search needs
+
+  node-add-put-fold : Node node.Need-add-put-fold
+  node-add-put-fold c =
+      let S = node-headed (c .before .before .before) in
+      let b = node-bounds (S .pre .1) in
+      omega (arith, S .good)
+
+  node-sub-put-fold : Node node.Need-sub-put-fold
+  node-sub-put-fold c = let g = grouped (c .before .before) in omega arith
+
+  node-part-put-fold-start : Node node.Need-part-put-fold-start
+  node-part-put-fold-start c = let g = grouped (c .before .before) in omega arith
+
+  node-part-put-fold-end : Node node.Need-part-put-fold-end
+  node-part-put-fold-end c = let g = grouped (c .before .before) in omega arith
+
+  node-add-put-fold-2 : Node node.Need-add-put-fold-2
+  node-add-put-fold-2 c = let b = node-bounds (node-headed (c .before .before .before .before) .pre .1) in omega arith
+
+  node-mul-put-fold : Node node.Need-mul-put-fold
+  node-mul-put-fold c = let b = node-bounds (node-headed (c .before .before .before .before) .pre .1) in omega arith
+
+  node-shared-slice-read-put-fold : Node node.Need-shared-slice-read-put-fold
+  node-shared-slice-read-put-fold c = let b = node-bounds (node-headed (c .before .before .before .before .before) .pre .1) in omega arith
+
+  node-sub-put-fold-2 : Node node.Need-sub-put-fold-2
+  node-sub-put-fold-2 c = omega (arith, c .before .before .smaller .ensures .0)
+
+  node-part-put-fold-start-2 : Node node.Need-part-put-fold-start-2
+  node-part-put-fold-start-2 c = omega (arith, c .before .before .smaller .ensures .0)
+
+  node-part-put-fold-end-2 : Node node.Need-part-put-fold-end-2
+  node-part-put-fold-end-2 c = omega arith
+
+  node-put-fold-requires : Node node.Need-put-fold-requires
+  node-put-fold-requires c κs =
+      let g = grouped (node-inside c) in
+      let S = node-headed (node-inside c .before) in
+      (omega (arith, S .pre .0), g .inside)
+
+  unclosed : (c : Node node.After-put-fold)
+      → (let c₁ = node-inside (c .before) in
+      let a = node-headed (c₁ .before) .args in
+      let now = c₁ .before .before .before .before .put-byte2 .last .0 in
+      let lent = c .before .before .before .before .smaller .result in
+      Unclosed (a .s .now) (a .choices .now) (a .offsets .now) (a .numbers .now) (a .i) (a .to) (a .out .now)
+      (a .to + 2 + c .put-fold .result) (putMid lent (length now - lent) now (c .put-fold .last .1 .1 .1 .0)))
+  unclosed c =
+      let c₁ = node-inside (c .before) in
+      let S = node-headed (c₁ .before) in
+      let first = c₁ .before .before .before .before .before .before .before .before .before .put-byte in
+      let second = c₁ .before .before .before .before .put-byte2 in
+      let lent = c .before .before .before .before .smaller in
+      inside-written (S .pre .1) (S .args .out .now) (first .last .0) (second .last .0) (first .ensures) (second .ensures) (c₁ .if1 .left)
+      (lent .result) (lent .ensures .1) (lent .ensures .2) (c .put-fold .result) (c .put-fold .last .1 .1 .1 .0) (c .put-fold .ensures)
+
+  close-place : (c : Node node.After-put-fold) → node-headed (node-inside (c .before) .before) .args .to + 2 + c .put-fold .result < most-bytes
+  close-place c = close-fits (node-headed (node-inside (c .before) .before) .pre .1) (unclosed c)
+
+  node-add-put-byte-3 : Node node.Need-add-put-byte-3
+  node-add-put-byte-3 c = omega (arith, close-place (c .before .before .before))
+
+  node-put-byte-requires-3 : Node node.Need-put-byte-requires-3
+  node-put-byte-requires-3 c κs = search needs
+
+  node-add-result-2 : Node node.Need-add-result-2
+  node-add-result-2 c = omega (arith, close-place (c .before .before .before .before .before .before))
+
+  node-add-result-3 : Node node.Need-add-result-3
+  node-add-result-3 c = omega (arith, close-place (c .before .before .before .before .before .before))
+
+  node-returns-2 : Node node.Need-returns-2
+  node-returns-2 c =
+      let close = c .before .before .put-byte3 in
+      closed (unclosed (c .before .before .before .before .before .before)) (close .last .0) (close .ensures)
+
+  node-same-length-2 : Node node.Need-same-length-2
+  node-same-length-2 c =
+      written-kept (node-headed (node-inside (c .before .before .before .before .before .before .before) .before) .pre .1 .ready) (node-returns-2 c)
+
+  -- A span: the table says what stands first.
+  abbrev span-start : Span span.At-loop → Span span.Start
+  span-start c = c .before .before .before .before .before .before
+
+  abbrev opened : Span span.After-put-span-arg → Span span.Else1
+  opened c = c .before .before .before .before .before .before .before
+
+  turn : (c : Span span.After-look)
+      → (let a = span-start (c .before .before) .args in
+      let l = c .before .before .loop in
+      Turn (a .s .now) (a .choices .now) (a .offsets .now) (a .numbers .now) (a .i) (a .j) (a .to) (a .out .now) (l .k) (l .p) (l .out) (c .look .result))
+  turn c =
+      record {
+        fits = span-start (c .before .before) .pre .1;
+        putting = c .before .before .loop .inv;
+        more = c .before .loop-test .taken;
+        looked = c .look .ensures .0;
+      }
+
+  span-loop-holds : Span span.Need-loop-holds
+  span-loop-holds c = let S = c .before .before .before .before .before in putting-none (S .args .out .now) (S .pre .1)
+
+  span-look-requires : Span span.Need-look-requires
+  span-look-requires c κs = (span-falling (span-start (c .before) .pre .1 .ready), c .loop-test .taken)
+
+  span-put-node-requires : Span span.Need-put-node-requires
+  span-put-node-requires c κs =
+      let x = turn (c .before .before) in
+      let S = span-start (c .before .before .before .before) in
+      (omega (arith, S .pre .0, x .more, x .putting .ahead), plain-fits x (c .before .if1 .taken))
+
+  span-add-k : Span span.Need-add-k
+  span-add-k c =
+      let x = turn (c .before .before .before .before .before) in
+      let S = span-start (c .before .before .before .before .before .before .before) in
+      omega (arith, x .more, S .fits)
+
+  span-loop-less : Span span.Need-loop-less
+  span-loop-less c = omega (arith, turn (c .before .before .before .before .before) .more)
+
+  span-loop-again : Span span.Need-loop-again
+  span-loop-again c =
+      let node = c .before .before .put-node in
+      let c₁ = c .before .before .before .before in
+      putting-plain (turn (c₁ .before)) (c₁ .if1 .taken) (node .result) (node .last .1 .1 .1 .1 .1 .0) (node .ensures)
+
+  span-width-digit-requires : Span span.Need-width-digit-requires
+  span-width-digit-requires c κs = search needs
+
+  span-count-digit-requires : Span span.Need-count-digit-requires
+  span-count-digit-requires c κs = search needs
+
+  span-put-open-requires : Span span.Need-put-open-requires
+  span-put-open-requires c κs =
+      let c₁ = c .before .before .before in
+      let width = c .before .before .width-digit in
+      (omega (arith, body-fits (turn (c₁ .before)) (c₁ .if1 .left) .fits), omega (arith, c .count-digit .ensures .1), omega (arith, width .ensures .1))
+
+  span-add-put-span : Span span.Need-add-put-span
+  span-add-put-span c =
+      let c₁ = c .before .before .before .before .before .before in
+      let y = repeated (turn (c₁ .before)) (c₁ .if1 .left) (span-start (c₁ .before .before .before) .pre .1 .ready) in
+      omega (arith, c .before .before .before .before .before .width-digit .ensures .0, span-start (c₁ .before .before .before) .fits)
+
+  span-add-put-span-2 : Span span.Need-add-put-span-2
+  span-add-put-span-2 c = omega (arith, body-fits (turn (opened c .before)) (opened c .if1 .left) .fits)
+
+  span-put-span-requires : Span span.Need-put-span-requires
+  span-put-span-requires c κs =
+      let c₁ = opened c in
+      let x = turn (c₁ .before) in
+      let S = span-start (c₁ .before .before .before) in
+      let width = c .before .before .before .before .before .before .width-digit .ensures .0 in
+      let y = repeated x (c₁ .if1 .left) (S .pre .1 .ready) in
+      (omega (arith, S .pre .0, x .putting .ahead), rw width (body-fits x (c₁ .if1 .left)))
+
+  span-put-byte-requires : Span span.Need-put-byte-requires
+  span-put-byte-requires c κs = search needs
+
+  repeat-put : (c : Span span.After-put-byte)
+      → (let c₁ = opened (c .before .before .before .before .before) in
+      let a = span-start (c₁ .before .before .before) .args in
+      let l = c₁ .before .before .before .loop in
+      Putting (a .s .now) (a .choices .now) (a .offsets .now) (a .numbers .now) (a .i) (a .j) (a .to) (a .out .now)
+      (l .k + cover (c₁ .before .look .result)) (c .before .before .before .before .put-span .result + 1) (c .put-byte .last .0))
+  repeat-put c =
+      let span = c .before .before .before .before .put-span in
+      let call = c .before .before .before .before .before in
+      let c₁ = opened call in
+      let opens = call .before .before .before .put-open in
+      let count = call .before .before .before .before .count-digit .ensures .0 in
+      let width = call .before .before .before .before .before .before .width-digit .ensures .0 in
+      putting-power (turn (c₁ .before)) (c₁ .if1 .left) (opens .last .0) (rw (count, width) at (opens .ensures))
+      (span .result) (span .last .1 .1 .1 .1 .1 .1 .0) (rw width at (span .ensures)) (c .put-byte .last .0) (c .put-byte .ensures)
+
+  span-add-p : Span span.Need-add-p
+  span-add-p c =
+      let S = span-start (opened (c .before .before .before .before .before .before .before) .before .before .before) in
+      omega (arith, left-fits (S .args .out .now) (S .pre .1) (repeat-put (c .before .before)))
+
+  span-covered-requires : Span span.Need-covered-requires
+  span-covered-requires c κs = search needs
+
+  span-add-k-2 : Span span.Need-add-k-2
+  span-add-k-2 c =
+      let S = span-start (opened (c .before .before .before .before .before .before .before .before) .before .before .before) in
+      omega (arith, c .covered .ensures, repeat-put (c .before .before .before) .within, S .fits)
+
+  span-loop-less-2 : Span span.Need-loop-less-2
+  span-loop-less-2 c =
+      let c₁ = opened (c .before .before .before .before .before .before .before .before) in
+      let x = turn (c₁ .before) in
+      let y = repeated x (c₁ .if1 .left) (x .fits .ready) in
+      omega (arith, c .covered .ensures, x .more)
+
+  span-loop-again-2 : Span span.Need-loop-again-2
+  span-loop-again-2 c = rw (c .covered .ensures) (repeat-put (c .before .before .before))
+
+  span-returns : Span span.Need-returns
+  span-returns c =
+      let S = span-start (c .before) in putting-all (S .args .out .now) (S .pre .1) (c .before .loop .inv) (c .loop-test .left)
+
+  span-same-length : Span span.Need-same-length
+  span-same-length c = written-kept (span-start (c .before) .pre .1 .ready) (span-returns c)
 
 pub +put-fold+put-node+put-span-spec : {M : Type 1} → statement M
-+put-fold+put-node+put-span-spec = close μ-put-fold μ-put-node μ-put-span (λ t. put-fold-lts.spec (put-fold-calls t) (put-fold-at t) put-fold.Post
-    (put-fold-slice-aggregate-list-siblings t)
-    (put-fold-slice-aggregate-list-siblings-2 t)
-    (put-fold-list-siblings-requires t)
-    (put-fold-slice-aggregate-put-span t)
-    (put-fold-slice-aggregate-put-span-2 t)
-    (put-fold-put-span-requires t)
-    (put-fold-same-length t)
-    (put-fold-returns t))
-    (λ t. put-node-lts.spec (put-node-calls t) (put-node-at t) put-node.Post
-    (put-node-mul-at t)
-    (put-node-shared-slice-read-at t)
-    (put-node-shared-slice-read-out t)
-    (put-node-slice-write-out t)
-    (put-node-add-out t)
-    (put-node-shared-slice-read-out-2 t)
-    (put-node-add-out-2 t)
-    (put-node-slice-write-out-2 t)
-    (put-node-shared-slice-read-if1 t)
-    (put-node-add-result t)
-    (put-node-same-length t)
-    (put-node-returns t)
-    (put-node-add-end t)
-    (put-node-mul-end t)
-    (put-node-shared-slice-read-end t)
-    (put-node-sub-end t)
-    (put-node-add-start t)
-    (put-node-add-put-fold t)
-    (put-node-sub-put-fold t)
-    (put-node-part-put-fold-start t)
-    (put-node-part-put-fold-end t)
-    (put-node-add-put-fold-2 t)
-    (put-node-mul-put-fold t)
-    (put-node-shared-slice-read-put-fold t)
-    (put-node-sub-put-fold-2 t)
-    (put-node-part-put-fold-start-2 t)
-    (put-node-part-put-fold-end-2 t)
-    (put-node-put-fold-requires t)
-    (put-node-add-out-3 t)
-    (put-node-slice-write-out-3 t)
-    (put-node-add-result-2 t)
-    (put-node-add-result-3 t)
-    (put-node-same-length-2 t)
-    (put-node-returns-2 t))
-    λ t. put-span-lts.spec (put-span-calls t) (put-span-at t) put-span.Post
-    put-span-Inv-loop
-    put-span-μ-loop
-    (put-span-loop-holds t)
-    (put-span-look-requires t)
-    (put-span-put-node-requires t)
-    (put-span-add-k t)
-    (put-span-loop-less t)
-    (put-span-loop-again t)
-    (put-span-put-open-requires t)
-    (put-span-add-put-span t)
-    (put-span-add-put-span-2 t)
-    (put-span-put-span-requires t)
-    (put-span-slice-write-out t)
-    (put-span-add-p t)
-    (put-span-mul-k t)
-    (put-span-add-k-2 t)
-    (put-span-loop-less-2 t)
-    (put-span-loop-again-2 t)
-    (put-span-same-length t)
-    (put-span-returns t)
++put-fold+put-node+put-span-spec = close μ-fold μ-node μ-span
+    (λ t. fold.spec (fold-calls t) (ranked 3 put-fold-kinds.ps μ-fold put-fold.Pre t) put-fold.Post
+    (fold-slice-aggregate-list-siblings t)
+    (fold-slice-aggregate-list-siblings-2 t)
+    (fold-list-siblings-requires t)
+    (fold-slice-aggregate-put-span t)
+    (fold-slice-aggregate-put-span-2 t)
+    (fold-put-span-requires t)
+    (fold-same-length t)
+    (fold-returns t))
+    (λ t. node.spec (node-calls t) (ranked 5 put-node-kinds.ps μ-node put-node.Pre t) put-node.Post
+    (node-mul-at t)
+    (node-shared-slice-read-at t)
+    (node-shared-slice-read-put-byte t)
+    (node-put-byte-requires t)
+    (node-add-put-byte t)
+    (node-add-put-byte-2 t)
+    (node-shared-slice-read-put-byte-2 t)
+    (node-put-byte-requires-2 t)
+    (node-shared-slice-read-if1 t)
+    (node-add-result t)
+    (node-same-length t)
+    (node-returns t)
+    (node-add-end t)
+    (node-mul-end t)
+    (node-shared-slice-read-end t)
+    (node-sub-end t)
+    (node-add-start t)
+    (node-smaller-requires t)
+    (node-add-put-fold t)
+    (node-sub-put-fold t)
+    (node-part-put-fold-start t)
+    (node-part-put-fold-end t)
+    (node-add-put-fold-2 t)
+    (node-mul-put-fold t)
+    (node-shared-slice-read-put-fold t)
+    (node-sub-put-fold-2 t)
+    (node-part-put-fold-start-2 t)
+    (node-part-put-fold-end-2 t)
+    (node-put-fold-requires t)
+    (node-add-put-byte-3 t)
+    (node-put-byte-requires-3 t)
+    (node-add-result-2 t)
+    (node-add-result-3 t)
+    (node-same-length-2 t)
+    (node-returns-2 t))
+    λ t. span.spec (span-calls t) (ranked 5 put-span-kinds.ps μ-span put-span.Pre t) put-span.Post Inv μ-loop
+    (span-loop-holds t)
+    (span-look-requires t)
+    (span-put-node-requires t)
+    (span-add-k t)
+    (span-loop-less t)
+    (span-loop-again t)
+    (span-width-digit-requires t)
+    (span-count-digit-requires t)
+    (span-put-open-requires t)
+    (span-add-put-span t)
+    (span-add-put-span-2 t)
+    (span-put-span-requires t)
+    (span-put-byte-requires t)
+    (span-add-p t)
+    (span-covered-requires t)
+    (span-add-k-2 t)
+    (span-loop-less-2 t)
+    (span-loop-again-2 t)
+    (span-same-length t)
+    (span-returns t)

@@ -1,7 +1,7 @@
 -- `folder::run::put_run` meets its contract: the length decides, and what is written is the fold.
 use borrow.Author.Needs.{needs}
 use native.Mathlib.Omega.{arith}
-use Rattle.folder.proofs.Runs.{write-ready, fold-room, written-short, written-whole}
+use Rattle.folder.proofs.Runs.{write-ready, written-short, written-whole}
 use Rattle.folder.proofs.run.put_run.Statement.{statement}
 use Rattle.folder.proofs.run.put_run.Tie as tie
 
@@ -22,8 +22,7 @@ returns c =
 
 write-run-requires : tie.Need-write-run-requires
 write-run-requires c κs =
-    let F = c .before .before in
-    fold-room (start F .pre .1 .1) (F .fold-length .result) (F .fold-length .ensures) (start F .args .out .now) (omega (arith, c .before .if1 .left))
+    write-ready (start (c .before .before) .pre .1 .1)
 
 whole-cost-requires : tie.Need-whole-cost-requires
 whole-cost-requires c κs = let w = start (c .before .before .before .before .before) .pre .1 .1 in (w .few, w .cost-room)
