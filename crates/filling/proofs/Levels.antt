@@ -1,13 +1,14 @@
 -- Filling a level: what a row is solved from, what one more row enters, and the end of the last.
 use mathlib.Core.Path.{_≡_, refl, _∙_}
 use mathlib.Core.List.{List}
-use Prim.Native.Nat.{ℕ, zero, suc, _+_, _-_, _/_, _%_, _<_, _≤_}
+use Prim.Native.Nat.{ℕ, zero, suc, _+_, _-_, _<_, _≤_}
 use native.Mathlib.Omega.{arith}
 use lib.ListN.{length, getD, replicate}
 use Rattle.format.specs.Forest.{siblings, nodes, at-most}
 use Rattle.format.specs.Tree.{tree-of}
 use Rattle.optimum.specs.Cheapest.{Run, back}
 use Rattle.optimum.proofs.Cut.{siblings-le-nodes, siblings-back}
+use Rattle.table.specs.Keys.{cost-digit, choice-digits}
 use Rattle.table.specs.Table.{Entered, Below, Filled, Kept, KeptOthers, cells, Falling, Stored}
 use Rattle.table.specs.Listing.{Placed, Numbered, Classed}
 use Rattle.filling.specs.Filling.{prices-of, Single, LevelReady, RowGround, Scratch}
@@ -59,7 +60,7 @@ module _ {s : List ℕ} {limit : ℕ} {table prices costs choices offsets number
       (entered : Entered (at-most limit) (prices-of table prices) (getD numbers m 0) (tree-of s) (i + 1) costs choices)
       (below : Below (at-most limit) (prices-of table prices) (getD numbers m 0) (tree-of s) costs choices) where
     pub row-entered : {keys costs′ choices′ : List ℕ} → RowSolved (row-ready single entered below) keys
-        → Stored numbers i (m - i) (λ d. getD keys d 0 / 2097152) costs costs′ → Stored numbers i (m - i) (λ d. getD keys d 0 % 2097152) choices choices′
+        → Stored numbers i (m - i) (λ d. cost-digit (getD keys d 0)) costs costs′ → Stored numbers i (m - i) (λ d. choice-digits (getD keys d 0)) choices choices′
         → Entered (at-most limit) (prices-of table prices) (getD numbers m 0) (tree-of s) i costs′ choices′
     unfolding row-ready
     row-entered {keys} r c k =

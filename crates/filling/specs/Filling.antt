@@ -9,7 +9,7 @@ use Rattle.format.specs.Tree.{tree-of}
 use Rattle.optimum.specs.Cheapest.{back, node, best-cost}
 use Rattle.table.specs.Table.{Below, cells}
 use Rattle.table.specs.Listing.{Spelled, Placed, Numbered}
-use Rattle.solver.specs.Rows.{Matches, KeysReady}
+use Rattle.solver.specs.Rows.{Matches, KeysReady, top-price}
 
 -- The prices that a table of labels and a list of repeat prices give.
 abbrev pub prices-of : (table prices : List ℕ) → Prices
@@ -25,7 +25,7 @@ prices-of table prices =
 pub record Prepared (table prices : List ℕ) : Type 0 where
   pub long : length prices ≡ 1025
   pub price-of : (h : ℕ) → 2 ≤ h → h ≤ 1024 → getD prices h 0 ≡ of-repeat (prices-of table prices) h
-  pub small : (h : ℕ) → getD prices h 0 ≤ 4294836225
+  pub small : (h : ℕ) → getD prices h 0 ≤ top-price
   pub low : (l : ℕ) → getD table l 0 < 65536
 
 -- All that filling the stretches of one sequence rests on.

@@ -45,7 +45,18 @@ pub fn enter_row(
     let span = matches[w];
     let own = own_cost(s, table, costs, offsets, numbers, i);
     start_row(costs, choices, numbers, i, m, own, w, span, keys);
-    solve(costs, numbers, i, m, limit, prices, matches, span, keys);
+    solve(
+        costs,
+        choices,
+        numbers,
+        i,
+        m,
+        limit,
+        prices,
+        matches,
+        span,
+        keys,
+    );
     store_row(costs, choices, numbers, i, m - i, keys);
 }
 

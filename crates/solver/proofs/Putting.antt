@@ -2,13 +2,14 @@
 use mathlib.Core.Path.{_≡_, refl, _∙_}
 use mathlib.Core.Logic.{_⊎_, inl, inr, ⊎-elim}
 use mathlib.Core.List.{List}
-use Prim.Native.Nat.{ℕ, _+_, _*_, _≤_, _<_}
+use Prim.Native.Nat.{ℕ, _+_, _≤_, _<_}
 use native.Mathlib.Decide.{decLe, decLt}
 use native.Mathlib.Omega.{arith}
 use lib.ListN.{length, getD, set, length-set}
 use lib.Seq.{getD-set-same, getD-set-other}
-use Rattle.solver.specs.Rows.{Copied, Plainly, Pushing, Started, KeysReady, top-key}
-use Rattle.table.specs.Table.{entry-at}
+use Rattle.solver.specs.Rows.{Copied, Plainly, Pushing, Started, KeysReady, top-key, cost-base}
+use Rattle.table.specs.Keys.{key}
+use Rattle.table.specs.Table.{key-at, rest-key}
 use Rattle.table.proofs.Listings.{entry-more, entry-all}
 
 -- The places from `from` up to below d have something of which Q holds, the others what they had.
@@ -45,7 +46,7 @@ module _ (Q : ℕ → ℕ → Type 0) (from : ℕ) (before : List ℕ) where
 
 -- The keys of another row.
 abbrev pub OfRow : (costs choices numbers : List ℕ) (j : ℕ) → ℕ → ℕ → Type 0
-OfRow costs choices numbers j c x = (x ≤ top-key) × (x ≡ entry-at costs numbers j (j + c) * 2097152 + entry-at choices numbers j (j + c))
+OfRow costs choices numbers j c x = (x ≤ top-key) × (x ≡ key-at costs choices numbers j (j + c))
 
 pub copied-all : (costs choices numbers : List ℕ) (j n d : ℕ) (before now : List ℕ) → ((c : ℕ) → getD before c 0 ≤ top-key) → n < d
     → Put (OfRow costs choices numbers j) 1 d before now → Copied costs choices numbers j n before now
@@ -57,12 +58,12 @@ copied-all costs choices numbers j n d before now low past p =
     }
 
 -- Those of the plain node with what follows it.
-abbrev pub OfPlain : (costs numbers : List ℕ) (i own : ℕ) → ℕ → ℕ → Type 0
-OfPlain costs numbers i own c x = (x ≤ top-key) × (x ≡ (own + entry-at costs numbers (i + 1) (i + c)) * 2097152)
+abbrev pub OfPlain : (costs choices numbers : List ℕ) (i own : ℕ) → ℕ → ℕ → Type 0
+OfPlain costs choices numbers i own c x = (x ≤ top-key) × (x ≡ key own 0 + rest-key costs choices numbers (i + 1) (i + c))
 
-pub plainly-all : (costs numbers : List ℕ) (i n own from d : ℕ) (before now : List ℕ) → ((c : ℕ) → getD before c 0 ≤ top-key) → n < d
-    → Put (OfPlain costs numbers i own) from d before now → Plainly costs numbers i n own from before now
-plainly-all costs numbers i n own from d before now low past p =
+pub plainly-all : (costs choices numbers : List ℕ) (i n own from d : ℕ) (before now : List ℕ) → ((c : ℕ) → getD before c 0 ≤ top-key) → n < d
+    → Put (OfPlain costs choices numbers i own) from d before now → Plainly costs choices numbers i n own from before now
+plainly-all costs choices numbers i n own from d before now low past p =
     record {
       long = p .same-length;
       low = put-all _ _ _ _ _ p (λ c x. x ≤ top-key) low (λ c x l q. q .0);
@@ -71,46 +72,46 @@ plainly-all costs numbers i n own from d before now low past p =
     }
 
 -- The lesser of what was there and what is pushed.
-abbrev pub push-key : (costs numbers : List ℕ) (i c k : ℕ) → ℕ → ℕ
-push-key costs numbers i c k d = k + entry-at costs numbers (i + c) (i + d) * 2097152
+abbrev pub push-key : (costs choices numbers : List ℕ) (i c k : ℕ) → ℕ → ℕ
+push-key costs choices numbers i c k d = k + rest-key costs choices numbers (i + c) (i + d)
 
-abbrev pub OfPush : (costs numbers : List ℕ) (i n c k : ℕ) (before : List ℕ) → ℕ → ℕ → Type 0
-OfPush costs numbers i n c k before d x =
-    (d ≤ n) × (x ≤ push-key costs numbers i c k d) × (x ≤ getD before d 0) × ((x ≡ push-key costs numbers i c k d) ⊎ (x ≡ getD before d 0))
+abbrev pub OfPush : (costs choices numbers : List ℕ) (i n c k : ℕ) (before : List ℕ) → ℕ → ℕ → Type 0
+OfPush costs choices numbers i n c k before d x =
+    (d ≤ n) × (x ≤ push-key costs choices numbers i c k d) × (x ≤ getD before d 0) × ((x ≡ push-key costs choices numbers i c k d) ⊎ (x ≡ getD before d 0))
 
-pub pushing-all : (costs numbers : List ℕ) (i n c k from d : ℕ) (before now : List ℕ) → n < d
-    → Put (OfPush costs numbers i n c k before) from d before now → Pushing costs numbers i n c k from before now
-pushing-all costs numbers i n c k from d before now past p =
+pub pushing-all : (costs choices numbers : List ℕ) (i n c k from d : ℕ) (before now : List ℕ) → n < d
+    → Put (OfPush costs choices numbers i n c k before) from d before now → Pushing costs choices numbers i n c k from before now
+pushing-all costs choices numbers i n c k from d before now past p =
     record {
       same-length = p .same-length;
       lower = put-all _ _ _ _ _ p (λ e x. x ≤ getD before e 0) (λ e. omega arith) (λ e x l q. q .2);
       pushed = λ e l m. p .put e l (omega arith) .1;
       came = put-all _ _ _ _ _ p
-          (λ e x. (x ≡ getD before e 0) ⊎ ((from ≤ e) × (e ≤ n) × (x ≡ push-key costs numbers i c k e)))
+          (λ e x. (x ≡ getD before e 0) ⊎ ((from ≤ e) × (e ≤ n) × (x ≡ push-key costs choices numbers i c k e)))
           (λ e. inl refl)
           (λ e x l q. ⊎-elim (λ z. inr (l, q .0, z)) (λ z. inl z) (q .3));
     }
 
 -- After a copy, the key of the one sibling may be put in.
-pub one-ready : {costs choices numbers : List ℕ} {j n : ℕ} {start between : List ℕ} (own : ℕ) → length start ≡ 1025 → own < 4294967296
-    → Copied costs choices numbers j n start between → KeysReady (set between 1 (own * 2097152))
-one-ready {between = between} own long small copied =
+pub one-ready : {costs choices numbers : List ℕ} {j n own k : ℕ} {start between : List ℕ} → k ≡ key own 0 → length start ≡ 1025 → own < cost-base
+    → Copied costs choices numbers j n start between → KeysReady (set between 1 k)
+one-ready {k = k} {between = between} e long small copied =
     record {
-      long = length-set between 1 (own * 2097152) ∙ copied .long ∙ long;
-      low = entry-all (λ x. x ≤ top-key) between 1 (own * 2097152) (omega (arith, copied .long)) (copied .low) (omega arith);
+      long = length-set between 1 k ∙ copied .long ∙ long;
+      low = entry-all (λ x. x ≤ top-key) between 1 k (omega (arith, copied .long)) (copied .low) (omega arith);
     }
 
 -- The three parts of a row's first keys: those copied, that of the one sibling, and those of the plain node past both.
-pub started : (costs choices numbers : List ℕ) (i n own w span from : ℕ) (start between keys : List ℕ) → length start ≡ 1025
+pub started : (costs choices numbers : List ℕ) (i n own w span from k : ℕ) (start between keys : List ℕ) → k ≡ key own 0 → length start ≡ 1025
     → 2 ≤ from → span < from → ((c : ℕ) → 1 < c → span < c → from ≤ c) → Copied costs choices numbers (i + w) span start between
-    → Plainly costs numbers i n own from (set between 1 (own * 2097152)) keys → Started costs choices numbers i n own w span keys
-started costs choices numbers i n own w span from start between keys long twice past first copied plainly =
+    → Plainly costs choices numbers i n own from (set between 1 k) keys → Started costs choices numbers i n own w span keys
+started costs choices numbers i n own w span from k start between keys e long twice past first copied plainly =
     record {
-      long = plainly .long ∙ length-set between 1 (own * 2097152) ∙ copied .long ∙ long;
+      long = plainly .long ∙ length-set between 1 k ∙ copied .long ∙ long;
       low = plainly .low;
-      one = plainly .kept 1 (omega arith) ∙ getD-set-same between 1 (own * 2097152) 0 (omega (arith, copied .long));
+      one = plainly .kept 1 (omega arith) ∙ getD-set-same between 1 k 0 (omega (arith, copied .long)) ∙ e;
       copied = λ c l m. plainly .kept c (omega arith)
-          ∙ getD-set-other between 1 c (own * 2097152) 0 (λ e. omega arith)
+          ∙ getD-set-other between 1 c k 0 (λ q. omega arith)
           ∙ copied .copied c (omega arith) m;
       plain = λ c l m h. plainly .plain c (first c l m) h;
     }

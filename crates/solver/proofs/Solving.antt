@@ -2,7 +2,7 @@
 use mathlib.Core.Path.{_≡_, refl, sym, ap, _∙_}
 use mathlib.Core.Logic.{_⊎_, ⊎-elim}
 use mathlib.Core.List.{List}
-use Prim.Native.Nat.{ℕ, suc, _+_, _-_, _*_, _/_, _%_, _<_, _≤_}
+use Prim.Native.Nat.{ℕ, suc, _+_, _-_, _*_, _<_, _≤_}
 use native.Mathlib.Nat.{mul-le-mul-right}
 use native.Mathlib.Decide.{decLt, ℕ-discrete}
 use native.Mathlib.Omega.{arith}
@@ -14,8 +14,9 @@ use Rattle.optimum.proofs.Cut.{back-back, run-back, siblings-back, siblings-le-
 use Rattle.optimum.proofs.Powers.{front-less, reach}
 use Rattle.optimum.proofs.Rank.{rank-usual}
 use Rattle.optimum.proofs.Least.{least-unique}
-use Rattle.table.specs.Table.{Entry, stretch, entry-at}
-use Rattle.solver.specs.Rows.{RowReady, Rowed, RowSolved, KeysReady, Advanced, Started, Settled, Pushed, push, pass, Widened, offer, too-wide, unlike, Matched, BestKey, Keyed, Came, pair-key, offer-key}
+use Rattle.table.specs.Keys.{cost-digit, choice-digits, cover}
+use Rattle.table.specs.Table.{Entry, stretch, entry-at, rest-key}
+use Rattle.solver.specs.Rows.{RowReady, Rowed, RowSolved, KeysReady, Advanced, Started, Settled, Pushed, push, pass, Widened, offer, too-wide, unlike, Matched, BestKey, Keyed, Came, pair-key, offer-key, cost-base}
 use Rattle.solver.proofs.Offers.{copy-more, near-power, power-near}
 use Rattle.solver.proofs.Stretches.{Modest, fitting, entry-best, best-entry, best-covers, best-low, cost-low, whole-price, whole-candidate, whole-power, first-candidate, first-price, first-key, best-is, keyed-best, best-keyed, best-one, keyed-plain}
 
@@ -93,22 +94,22 @@ module _ {costs choices numbers : List ℕ} {i m own limit : ℕ} {prices same :
 
   -- One solved stretch more, of d siblings.
   module _ (span e d : ℕ) (before after : List ℕ) (next : suc e ≡ d) (more : i + d ≤ m) (r : Rowed z span e before)
-      (s : Settled costs numbers i (m - i) limit prices d (getD same d 0) span before after) where
+      (s : Settled costs choices numbers i (m - i) limit prices d (getD same d 0) span before after) where
     abbrev k : ℕ
     k = getD before d 0
 
     best : BestKey (z .allowed) (z .prices-are) (stretch (z .tree) i d) (getD before d 0)
     best = keyed-best modest i e d k (omega arith) (omega arith) (omega (arith, z .count)) (r .keyed d (omega arith) more)
 
-    covers : getD before d 0 / 1024 % 2048 * (getD before d 0 % 1024) ≡ best .count * best .width
+    covers : cover (getD before d 0) ≡ best .count * best .width
     covers = best-covers modest i d k best
 
-    its-cost : getD before d 0 / 2097152 ≡ best-cost (z .allowed) (z .prices-are) (stretch (z .tree) i d)
+    its-cost : cost-digit (getD before d 0) ≡ best-cost (z .allowed) (z .prices-are) (stretch (z .tree) i d)
     its-cost = best-entry modest i d k best .costs
 
     -- The key of a repeat of it.
     key-is : (h : ℕ) → 2 ≤ h → h ≤ 1024
-        → offer-key prices (getD before d 0 / 2097152) d h
+        → offer-key prices (cost-digit (getD before d 0)) d h
         ≡ rank usual (of-repeat (z .prices-are) h + best-cost (z .allowed) (z .prices-are) (stretch (z .tree) i d)) h d
     key-is h l l′ =
         omega (
@@ -121,18 +122,18 @@ module _ {costs choices numbers : List ℕ} {i m own limit : ℕ} {prices same :
     -- The key of what is left put behind it.
     module _ (n : ℕ) (some : d < n) (h : i + n ≤ m) where
       follows : (g v : ℕ) → g * v ≡ d → Least (z .allowed) (z .prices-are) usual (best-cost (z .allowed) (z .prices-are)) (stretch (z .tree) i d) g v
-          → getD before d 0 + entry-at costs numbers (i + d) (i + n) * 2097152
+          → getD before d 0 + rest-key costs choices numbers (i + d) (i + n)
           ≡ rank usual (best-cost (z .allowed) (z .prices-are) (stretch (z .tree) i d) + best-cost (z .allowed) (z .prices-are) (front (n - d) (back (i + d) (z .tree)))) g v
       follows g v f l =
           rw (best-is modest i d g v k best l, rest-cost d (n - d) n (omega arith) (omega arith) (omega arith) h)
           (first-key modest i (i + d) d (n - d) n g v refl (omega arith) (omega arith) f l)
 
     -- No key rises.
-    push-lower : Pushed costs numbers i (m - i) d span (getD before d 0) before (s .between) → (n : ℕ) → getD (s .between) n 0 ≤ getD before n 0
+    push-lower : Pushed costs choices numbers i (m - i) d span (getD before d 0) before (s .between) → (n : ℕ) → getD (s .between) n 0 ≤ getD before n 0
     push-lower (push from a b c f p) n = p .lower n
     push-lower (pass f x) n = rw x (omega arith)
 
-    widen-lower : Widened limit prices (getD before d 0 / 2097152) d (getD same d 0) span (s .between) after → (n : ℕ) → getD after n 0 ≤ getD (s .between) n 0
+    widen-lower : Widened limit prices (cost-digit (getD before d 0)) d (getD same d 0) span (s .between) after → (n : ℕ) → getD after n 0 ≤ getD (s .between) n 0
     widen-lower (offer from a b c f p) n = p .lower n
     widen-lower (too-wide f x) n = rw x (omega arith)
     widen-lower (unlike f x) n = rw x (omega arith)
@@ -141,11 +142,11 @@ module _ {costs choices numbers : List ℕ} {i m own limit : ℕ} {prices same :
     lower n = omega (arith, push-lower (s .pushed) n, widen-lower (s .widened) n)
 
     -- Those of up to `span` siblings stay.
-    push-same : (n : ℕ) → n ≤ span → Pushed costs numbers i (m - i) d span (getD before d 0) before (s .between) → getD (s .between) n 0 ≡ getD before n 0
+    push-same : (n : ℕ) → n ≤ span → Pushed costs choices numbers i (m - i) d span (getD before d 0) before (s .between) → getD (s .between) n 0 ≡ getD before n 0
     push-same n l (push from a b c f p) = ⊎-elim (λ x. x) (λ x. absurd (omega arith)) (p .came n)
     push-same n l (pass f x) = rw x
 
-    widen-same : (n : ℕ) → n ≤ span → Widened limit prices (getD before d 0 / 2097152) d (getD same d 0) span (s .between) after
+    widen-same : (n : ℕ) → n ≤ span → Widened limit prices (cost-digit (getD before d 0)) d (getD same d 0) span (s .between) after
         → getD after n 0 ≡ getD (s .between) n 0
     widen-same n l (offer from a b c f p) =
         ⊎-elim (λ x. x) (λ x. absurd (omega (arith, mul-le-mul-right d (x .late), x .covers))) (p .came n)
@@ -162,7 +163,7 @@ module _ {costs choices numbers : List ℕ} {i m own limit : ℕ} {prices same :
           let x = r .keyed n pos fits in
           record { count = x .count; width = x .width; candidate = x .candidate; is-key = x .is-key }
 
-      pair-between : Pushed costs numbers i (m - i) d span (getD before d 0) before (s .between) → Pair (z .allowed) (z .prices-are) (stretch (z .tree) i n) (getD (s .between) n 0)
+      pair-between : Pushed costs choices numbers i (m - i) d span (getD before d 0) before (s .between) → Pair (z .allowed) (z .prices-are) (stretch (z .tree) i n) (getD (s .between) n 0)
       pair-between (push from a b c f p) = ⊎-elim
           (λ x. rw x pair-before)
           (λ x.
@@ -179,10 +180,10 @@ module _ {costs choices numbers : List ℕ} {i m own limit : ℕ} {prices same :
           (p .came n)
       pair-between (pass f x) = rw x pair-before
 
-      pair-after : Widened limit prices (getD before d 0 / 2097152) d (getD same d 0) span (s .between) after → Pair (z .allowed) (z .prices-are) (stretch (z .tree) i n) (getD after n 0)
+      pair-after : Widened limit prices (cost-digit (getD before d 0)) d (getD same d 0) span (s .between) after → Pair (z .allowed) (z .prices-are) (stretch (z .tree) i n) (getD after n 0)
       pair-after (offer from a b c f p) = ⊎-elim
           (λ x. rw x (pair-between (s .pushed)))
-          (λ (x : Came prices (getD before d 0 / 2097152) d (getD same d 0) from n (getD after n 0)).
+          (λ (x : Came prices (cost-digit (getD before d 0)) d (getD same d 0) from n (getD after n 0)).
           let q = near-power (x .count) d (getD same d 0) (z-run) (omega arith) (omega (arith, z .limited)) (matched d (omega arith) more) (omega (arith, x .late)) (x .near) in
           let y = reach q in
           record {
@@ -202,7 +203,7 @@ module _ {costs choices numbers : List ℕ} {i m own limit : ℕ} {prices same :
       -- and bounded by those that came with d.
       module _ (far : span < n) where
         whole-now : (h w : ℕ) → Power (z .allowed) (back i (z .tree)) h w → h * w ≡ n → w ≡ d
-            → Widened limit prices (getD before d 0 / 2097152) d (getD same d 0) span (s .between) after
+            → Widened limit prices (cost-digit (getD before d 0)) d (getD same d 0) span (s .between) after
             → getD after n 0 ≤ rank usual (of-repeat (z .prices-are) h + best-cost (z .allowed) (z .prices-are) (stretch (z .tree) i d)) h d
         whole-now h w q f x (offer from a b c l p) =
             let y = reach q in
@@ -218,7 +219,7 @@ module _ {costs choices numbers : List ℕ} {i m own limit : ℕ} {prices same :
             absurd (omega (arith, mul-le-mul-right d u))
 
         first-now : (g v : ℕ) → d < n → g * v ≡ d → Least (z .allowed) (z .prices-are) usual (best-cost (z .allowed) (z .prices-are)) (stretch (z .tree) i d) g v
-            → Pushed costs numbers i (m - i) d span (getD before d 0) before (s .between)
+            → Pushed costs choices numbers i (m - i) d span (getD before d 0) before (s .between)
             → getD after n 0 ≤ rank usual (best-cost (z .allowed) (z .prices-are) (stretch (z .tree) i d) + best-cost (z .allowed) (z .prices-are) (front (n - d) (back (i + d) (z .tree)))) g v
         first-now g v some f l (push from a b c u p) =
             omega (arith, widen-lower (s .widened) n, p .pushed n (c n some far) (omega arith), follows n some fits g v f l)
@@ -293,36 +294,36 @@ module _ {costs choices numbers : List ℕ} {i m own limit : ℕ} {prices same :
 
   -- What a solved row enters in the table, and that it fits.
   module _ (keys : List ℕ) (r : RowSolved z keys) (n : ℕ) (pos : 0 < n) (fits : i + n ≤ m) where
-    pub solved-entry : Entry (z .allowed) (z .prices-are) (stretch (z .tree) i n) (getD keys n 0 / 2097152) (getD keys n 0 % 2097152)
+    pub solved-entry : Entry (z .allowed) (z .prices-are) (stretch (z .tree) i n) (cost-digit (getD keys n 0)) (choice-digits (getD keys n 0))
     solved-entry = best-entry modest i n (getD keys n 0) (r .solved n pos fits)
 
-    pub solved-low : getD keys n 0 < 9007199254740992
+    pub solved-low : cost-digit (getD keys n 0) < cost-base
     solved-low = best-low modest i n (getD keys n 0) (r .solved n pos fits)
 
-  pub own-low : own < 4294967296
+  pub own-low : own < cost-base
   own-low = omega (arith, z .own-cost, cost-low modest i 1)
 
 -- The loop of a row.
-module _ {costs numbers : List ℕ} {i m limit : ℕ} {prices same : List ℕ} {span : ℕ} {before : List ℕ} where
-  pub advanced-none : KeysReady before → Advanced costs numbers i m limit prices same span 0 before before
-  advanced-none k = record { ready = k; rowed = λ choices own z r. r }
+module _ {costs choices numbers : List ℕ} {i m limit : ℕ} {prices same : List ℕ} {span : ℕ} {before : List ℕ} where
+  pub advanced-none : KeysReady before → Advanced costs choices numbers i m limit prices same span 0 before before
+  advanced-none k = record { ready = k; rowed = λ own z r. r }
 
   pub advanced-past : (top s : ℕ) (now : List ℕ) → ((w : ℕ) → 0 < w → i + w ≤ m → getD same w 0 ≤ span)
-      → ((c : ℕ) → c ≤ 2 * span → c ≤ m - i → c ≤ top) → Advanced costs numbers i m limit prices same span top before now
-      → Advanced costs numbers i m limit prices same span s before now
+      → ((c : ℕ) → c ≤ 2 * span → c ≤ m - i → c ≤ top) → Advanced costs choices numbers i m limit prices same span top before now
+      → Advanced costs choices numbers i m limit prices same span s before now
   advanced-past top s now most high a =
-      record { ready = a .ready; rowed = λ choices own z r. rowed-past z span top most high s now (a .rowed choices own z r) }
+      record { ready = a .ready; rowed = λ own z r. rowed-past z span top most high s now (a .rowed own z r) }
 
-  pub advanced-more : (e d : ℕ) (now after : List ℕ) → suc e ≡ d → i + d ≤ m → Advanced costs numbers i m limit prices same span e before now → KeysReady after
-      → Settled costs numbers i (m - i) limit prices d (getD same d 0) span now after → Advanced costs numbers i m limit prices same span d before after
+  pub advanced-more : (e d : ℕ) (now after : List ℕ) → suc e ≡ d → i + d ≤ m → Advanced costs choices numbers i m limit prices same span e before now → KeysReady after
+      → Settled costs choices numbers i (m - i) limit prices d (getD same d 0) span now after → Advanced costs choices numbers i m limit prices same span d before after
   advanced-more e d now after next more a k s =
-      record { ready = k; rowed = λ choices own z r. settled-rowed z span e d now after next more (a .rowed choices own z r) s }
+      record { ready = k; rowed = λ own z r. settled-rowed z span e d now after next more (a .rowed own z r) s }
 
 -- The keys stay as they may be worked on.
 ready-lower : {before after : List ℕ} → KeysReady before → length after ≡ length before → ((c : ℕ) → getD after c 0 ≤ getD before c 0) → KeysReady after
 ready-lower k e l = record { long = e ∙ k .long; low = λ c. omega (arith, l c, k .low c) }
 
-pub pushed-ready : {costs numbers : List ℕ} {i n d span k : ℕ} {before after : List ℕ} → KeysReady before → Pushed costs numbers i n d span k before after
+pub pushed-ready : {costs choices numbers : List ℕ} {i n d span k : ℕ} {before after : List ℕ} → KeysReady before → Pushed costs choices numbers i n d span k before after
     → KeysReady after
 pushed-ready r (push from a b c f p) = ready-lower r (p .same-length) (p .lower)
 pushed-ready r (pass f x) = rw x r

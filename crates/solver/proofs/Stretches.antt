@@ -1,6 +1,6 @@
 -- The keys of the stretches that begin at sibling i: from a key that is bounded by few candidates to that of the least pair, and back.
 use mathlib.Core.Path.{_≡_, refl, sym, _∙_}
-use Prim.Native.Nat.{ℕ, suc, _+_, _-_, _*_, _/_, _%_, _<_, _≤_}
+use Prim.Native.Nat.{ℕ, suc, _+_, _*_, _<_, _≤_}
 use native.Mathlib.Omega.{arith}
 use Rattle.format.specs.Limits.{Prices, of-repeat}
 use Rattle.format.specs.Forest.{Forest, end, step, group, repeat, Plain, Allowed, siblings, nodes, cost}
@@ -12,8 +12,9 @@ use Rattle.optimum.proofs.Least.{price-piece, least-one, least-unique}
 use Rattle.optimum.proofs.Level.{plain-at, power-at, bound-at}
 use Rattle.optimum.proofs.Cover.{least-by-cover}
 use Rattle.optimum.proofs.Cheapest.{best-cost-run, best-cost-end, best-cost-least}
+use Rattle.table.specs.Keys.{packed, key, cost-digit, choice-digits, count-digit, width-digit, cover}
 use Rattle.table.specs.Table.{Entry, stretch}
-use Rattle.solver.specs.Rows.{BestKey, Keyed, pair-key}
+use Rattle.solver.specs.Rows.{BestKey, Keyed, pair-key, cost-base}
 
 -- A run costs at most 65,535 for each node, where labels have prices of 16 bits.
 cost-most : (P : Prices) → ((l : ℕ) → P .of-step l < 65536) → ((l : ℕ) → P .of-group l < 65536) → (t : Forest) → Plain t
@@ -32,7 +33,7 @@ pub record Modest (A : Allowed) (P : Prices) (t : Forest) : Type 0 where
   pub group-low : (l : ℕ) → P .of-group l < 65536
 
 -- The entry of a stretch, and its key.
-pub entry-best : (A : Allowed) (P : Prices) (x : Forest) (c k : ℕ) → Entry A P x c k → BestKey A P x (c * 2097152 + k)
+pub entry-best : (A : Allowed) (P : Prices) (x : Forest) (c k : ℕ) → Entry A P x c k → BestKey A P x (key c k)
 entry-best A P x c k e =
     record {
       count = e .count;
@@ -68,26 +69,26 @@ module _ {A : Allowed} {P : Prices} {t : Forest} (g : Modest A P t) (i : ℕ) wh
 
   -- The digits of a key are the cost and the packed pair.
   module _ (n k : ℕ) (b : BestKey A P (stretch t i n) k) where
-    digits : (b .count < 2048) × (b .width < 1024) × (k ≡ best-cost A P (stretch t i n) * 2097152 + b .count * 1024 + b .width)
+    digits : (b .count < usual .counts) × (b .width < usual .widths) × (k ≡ key (best-cost A P (stretch t i n)) (packed (b .count) (b .width)))
     digits = (
       fitting n .count (b .count) (b .width) (b .least .candidate),
       fitting n .width (b .count) (b .width) (b .least .candidate),
-      b .is-rank ∙ rank-usual (best-cost A P (stretch t i n)) (b .count) (b .width),
+      omega (arith, b .is-rank, rank-usual (best-cost A P (stretch t i n)) (b .count) (b .width)),
     )
 
-    pub best-entry : Entry A P (stretch t i n) (k / 2097152) (k % 2097152)
+    pub best-entry : Entry A P (stretch t i n) (cost-digit k) (choice-digits k)
     best-entry =
         let d = digits in
         record { costs = omega arith; count = b .count; width = b .width; chosen = omega arith; least = b .least }
 
-    pub best-covers : k / 1024 % 2048 * (k % 1024) ≡ b .count * b .width
+    pub best-covers : cover k ≡ b .count * b .width
     best-covers =
         let d = digits in
-        let h : k / 1024 % 2048 ≡ b .count = omega arith in
-        let w : k % 1024 ≡ b .width = omega arith in
+        let h : count-digit k ≡ b .count = omega arith in
+        let w : width-digit k ≡ b .width = omega arith in
         rw (h, w)
 
-    pub best-low : k < 9007199254740992
+    pub best-low : cost-digit k < cost-base
     best-low = let d = digits in omega (arith, cost-low n)
 
     is-pair : k ≡ pair-key A P (stretch t i n) (b .count) (b .width)
@@ -127,9 +128,9 @@ module _ {A : Allowed} {P : Prices} {t : Forest} (g : Modest A P t) (i : ℕ) wh
           whole-price c h w first-power f,
         )
 
-    pub first-key : rank usual (best-cost A P (stretch t i c)) h w + best-cost A P (front m (back j t)) * 2097152
+    pub first-key : rank usual (best-cost A P (stretch t i c)) h w + key (best-cost A P (front m (back j t))) 0
         ≡ rank usual (best-cost A P (stretch t i c) + best-cost A P (front m (back j t))) h w
-    first-key = sym (rank-add usual (best-cost A P (stretch t i c)) (best-cost A P (front m (back j t))) h w)
+    first-key = omega (arith, rank-add usual (best-cost A P (stretch t i c)) (best-cost A P (front m (back j t))) h w)
 
   -- The pair of a key is the least one, so there is no other.
   pub best-is : (c h w k : ℕ) → BestKey A P (stretch t i c) k → Least A P usual (best-cost A P) (stretch t i c) h w
@@ -172,7 +173,7 @@ module _ {A : Allowed} {P : Prices} {t : Forest} (g : Modest A P t) (i : ℕ) wh
       }
 
   -- One sibling has only the plain pair.
-  pub best-one : (k : ℕ) → i < siblings t → k ≡ best-cost A P (node i t) * 2097152 → BestKey A P (stretch t i 1) k
+  pub best-one : (k : ℕ) → i < siblings t → k ≡ key (best-cost A P (node i t)) 0 → BestKey A P (stretch t i 1) k
   best-one k some e =
       record {
         count = 0;
@@ -182,7 +183,7 @@ module _ {A : Allowed} {P : Prices} {t : Forest} (g : Modest A P t) (i : ℕ) wh
       }
 
   -- The plain node first, before any repeat is offered.
-  pub keyed-plain : (m n k : ℕ) → 1 + m ≡ n → k ≡ (best-cost A P (node i t) + best-cost A P (front m (back (i + 1) t))) * 2097152
+  pub keyed-plain : (m n k : ℕ) → 1 + m ≡ n → k ≡ key (best-cost A P (node i t)) 0 + key (best-cost A P (front m (back (i + 1) t))) 0
       → Keyed A P t i 0 n k
   keyed-plain m n k e f =
       let p = plain-at A P t i (i + 1) m n (g .run) refl e in

@@ -2,19 +2,31 @@
 use mathlib.Core.Path.{_≡_}
 use mathlib.Core.Logic.{_⊎_}
 use mathlib.Core.List.{List}
-use Prim.Native.Nat.{ℕ, _+_, _-_, _*_, _/_, _%_, _<_, _≤_}
+use Prim.Native.Nat.{ℕ, _+_, _-_, _*_, _<_, _≤_}
 use lib.ListN.{length, getD}
 use Rattle.format.specs.Limits.{Prices, of-repeat}
 use Rattle.format.specs.Forest.{Forest, Allowed, siblings, nodes}
 use Rattle.optimum.specs.Cheapest.{Run, front, back, node, rank, usual, price, Candidate, Power, Least, best-cost}
-use Rattle.table.specs.Table.{Entered, entry-at, stretch}
+use Rattle.table.specs.Keys.{packed, key, cost-digit, cover}
+use Rattle.table.specs.Table.{Entered, key-at, rest-key, stretch}
 use Rattle.table.specs.Listing.{Numbered, Classed}
+
+-- The bounds of the numbers of a row. Costs have 32 bits; no price of a count is higher than 65,535 times 16 bits; and a key is at most
+-- that of two costs together.
+abbrev pub cost-base : ℕ
+cost-base = 4294967296
+
+abbrev pub top-price : ℕ
+top-price = 65535 * 65535
+
+abbrev pub top-key : ℕ
+top-key = key (2 * cost-base) 0
 
 -- The price of each count, as a list.
 pub record Priced (P : Prices) (prices : List ℕ) : Type 0 where
   pub long : length prices ≡ 1025
   pub price-of : (h : ℕ) → 2 ≤ h → h ≤ 1024 → getD prices h 0 ≡ of-repeat P h
-  pub small : (h : ℕ) → getD prices h 0 ≤ 4294836225
+  pub small : (h : ℕ) → getD prices h 0 ≤ top-price
 
 -- k siblings from the first on equal the one w further, and no more.
 pub record Matched (T : Forest) (w k : ℕ) : Type 0 where
@@ -29,10 +41,6 @@ pub record Matches (T : Forest) (same : List ℕ) : Type 0 where
 -- The key of a pair that may stand first in the stretch x: its rank at the least costs of the parts.
 abbrev pub pair-key : Allowed → Prices → Forest → (h w : ℕ) → ℕ
 pair-key A P x h w = rank usual (price P (best-cost A P) x h w) h w
-
--- No key is higher.
-abbrev pub top-key : ℕ
-top-key = 4611686018427387904
 
 -- A key of a stretch: that of its least pair.
 pub record BestKey (A : Allowed) (P : Prices) (t : Forest) (k : ℕ) : Type 0 where
@@ -55,7 +63,7 @@ pub record Keyed (A : Allowed) (P : Prices) (t : Forest) (i s n k : ℕ) : Type 
 
 -- The key of the repeat of count h and width d, whose body costs `cost`, by itself.
 abbrev pub offer-key : List ℕ → (cost d h : ℕ) → ℕ
-offer-key prices cost d h = (cost + getD prices h 0) * 2097152 + (h * 1024 + d)
+offer-key prices cost d h = key (cost + getD prices h 0) (packed h d)
 
 -- A key at cover c that one of the counts from `from` on gave.
 pub record Came (prices : List ℕ) (cost d span from c k : ℕ) : Type 0 where
@@ -73,41 +81,41 @@ pub record Offering (prices : List ℕ) (cost d span from : ℕ) (before after :
   pub came : (c : ℕ) → (getD after c 0 ≡ getD before c 0) ⊎ Came prices cost d span from c (getD after c 0)
 
 -- What a repeat that covers c siblings at the key k does to the keys of `from` to n siblings, the rest's cost added.
-pub record Pushing (costs numbers : List ℕ) (i n c k from : ℕ) (before after : List ℕ) : Type 0 where
+pub record Pushing (costs choices numbers : List ℕ) (i n c k from : ℕ) (before after : List ℕ) : Type 0 where
   pub same-length : length after ≡ length before
   pub lower : (d : ℕ) → getD after d 0 ≤ getD before d 0
-  pub pushed : (d : ℕ) → from ≤ d → d ≤ n → getD after d 0 ≤ k + entry-at costs numbers (i + c) (i + d) * 2097152
+  pub pushed : (d : ℕ) → from ≤ d → d ≤ n → getD after d 0 ≤ k + rest-key costs choices numbers (i + c) (i + d)
   pub came : (d : ℕ) → (getD after d 0 ≡ getD before d 0)
-      ⊎ ((from ≤ d) × (d ≤ n) × (getD after d 0 ≡ k + entry-at costs numbers (i + c) (i + d) * 2097152))
+      ⊎ ((from ≤ d) × (d ≤ n) × (getD after d 0 ≡ k + rest-key costs choices numbers (i + c) (i + d)))
 
 -- The keys of a row before any repeat is offered: those of the row of sibling i + w as far as the two are the same, and those of
 -- the plain node with the rest.
 pub record Started (costs choices numbers : List ℕ) (i n own w span : ℕ) (keys : List ℕ) : Type 0 where
   pub long : length keys ≡ 1025
   pub low : (c : ℕ) → getD keys c 0 ≤ top-key
-  pub one : getD keys 1 0 ≡ own * 2097152
-  pub copied : (c : ℕ) → 1 < c → c ≤ span → getD keys c 0 ≡ entry-at costs numbers (i + w) (i + w + c) * 2097152 + entry-at choices numbers (i + w) (i + w + c)
-  pub plain : (c : ℕ) → 1 < c → span < c → c ≤ n → getD keys c 0 ≡ (own + entry-at costs numbers (i + 1) (i + c)) * 2097152
+  pub one : getD keys 1 0 ≡ key own 0
+  pub copied : (c : ℕ) → 1 < c → c ≤ span → getD keys c 0 ≡ key-at costs choices numbers (i + w) (i + w + c)
+  pub plain : (c : ℕ) → 1 < c → span < c → c ≤ n → getD keys c 0 ≡ key own 0 + rest-key costs choices numbers (i + 1) (i + c)
 
 -- The first n keys are those of another row.
 pub record Copied (costs choices numbers : List ℕ) (j n : ℕ) (before after : List ℕ) : Type 0 where
   pub long : length after ≡ length before
   pub low : (c : ℕ) → getD after c 0 ≤ top-key
-  pub copied : (c : ℕ) → 0 < c → c ≤ n → getD after c 0 ≡ entry-at costs numbers j (j + c) * 2097152 + entry-at choices numbers j (j + c)
+  pub copied : (c : ℕ) → 0 < c → c ≤ n → getD after c 0 ≡ key-at costs choices numbers j (j + c)
 
 -- The entries from `from` to n are those of the plain node with the rest, the ones before as they were.
-pub record Plainly (costs numbers : List ℕ) (i n own from : ℕ) (before after : List ℕ) : Type 0 where
+pub record Plainly (costs choices numbers : List ℕ) (i n own from : ℕ) (before after : List ℕ) : Type 0 where
   pub long : length after ≡ length before
   pub low : (c : ℕ) → getD after c 0 ≤ top-key
   pub kept : (c : ℕ) → c < from → getD after c 0 ≡ getD before c 0
-  pub plain : (c : ℕ) → from ≤ c → c ≤ n → getD after c 0 ≡ (own + entry-at costs numbers (i + 1) (i + c)) * 2097152
+  pub plain : (c : ℕ) → from ≤ c → c ≤ n → getD after c 0 ≡ key own 0 + rest-key costs choices numbers (i + 1) (i + c)
 
 -- What a solved stretch of d siblings does to the keys of longer ones. It is followed by what is left where its key is that of a
 -- repeat that covers it,
-pub data Pushed (costs numbers : List ℕ) (i n d span k : ℕ) (before after : List ℕ) : Type 0 where
-  push : (from : ℕ) → d < from → span < from → ((c : ℕ) → d < c → span < c → from ≤ c) → k / 1024 % 2048 * (k % 1024) ≡ d
-      → Pushing costs numbers i n d k from before after → Pushed costs numbers i n d span k before after
-  pass : (k / 1024 % 2048 * (k % 1024) ≡ d → ⊥) → after ≡ before → Pushed costs numbers i n d span k before after
+pub data Pushed (costs choices numbers : List ℕ) (i n d span k : ℕ) (before after : List ℕ) : Type 0 where
+  push : (from : ℕ) → d < from → span < from → ((c : ℕ) → d < c → span < c → from ≤ c) → cover k ≡ d
+      → Pushing costs choices numbers i n d k from before after → Pushed costs choices numbers i n d span k before after
+  pass : (cover k ≡ d → ⊥) → after ≡ before → Pushed costs choices numbers i n d span k before after
 
 -- and repeated where that is allowed and siblings match.
 pub data Widened (limit : ℕ) (prices : List ℕ) (cost d match span : ℕ) (before after : List ℕ) : Type 0 where
@@ -116,10 +124,10 @@ pub data Widened (limit : ℕ) (prices : List ℕ) (cost d match span : ℕ) (be
   too-wide : limit < d → after ≡ before → Widened limit prices cost d match span before after
   unlike : match < d → after ≡ before → Widened limit prices cost d match span before after
 
-pub record Settled (costs numbers : List ℕ) (i n limit : ℕ) (prices : List ℕ) (d match span : ℕ) (before after : List ℕ) : Type 0 where
+pub record Settled (costs choices numbers : List ℕ) (i n limit : ℕ) (prices : List ℕ) (d match span : ℕ) (before after : List ℕ) : Type 0 where
   pub between : List ℕ
-  pub pushed : Pushed costs numbers i n d span (getD before d 0) before between
-  pub widened : Widened limit prices (getD before d 0 / 2097152) d match span between after
+  pub pushed : Pushed costs choices numbers i n d span (getD before d 0) before between
+  pub widened : Widened limit prices (cost-digit (getD before d 0)) d match span between after
 
 -- All that the search of the row of sibling i rests on.
 pub record RowReady (costs choices numbers : List ℕ) (i m own limit : ℕ) (prices same : List ℕ) : Type 0 where
@@ -152,9 +160,9 @@ pub record KeysReady (keys : List ℕ) : Type 0 where
   pub low : (c : ℕ) → getD keys c 0 ≤ top-key
 
 -- The stretches of up to s siblings have done their part, whatever tree and prices the row was asked for.
-pub record Advanced (costs numbers : List ℕ) (i m limit : ℕ) (prices same : List ℕ) (span s : ℕ) (before after : List ℕ) : Type 0 where
+pub record Advanced (costs choices numbers : List ℕ) (i m limit : ℕ) (prices same : List ℕ) (span s : ℕ) (before after : List ℕ) : Type 0 where
   pub ready : KeysReady after
-  pub rowed : (choices : List ℕ) (own : ℕ) (z : RowReady costs choices numbers i m own limit prices same) → Rowed z span 0 before → Rowed z span s after
+  pub rowed : (own : ℕ) (z : RowReady costs choices numbers i m own limit prices same) → Rowed z span 0 before → Rowed z span s after
 
 -- The row is solved.
 pub record RowSolved {costs choices numbers : List ℕ} {i m own limit : ℕ} {prices same : List ℕ} (z : RowReady costs choices numbers i m own limit prices same)

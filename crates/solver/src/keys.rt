@@ -1,12 +1,15 @@
 // The keys of one row: where they come from before any repeat is offered, and what a solved stretch does to those of longer ones.
-// A key is cost, count and width in one number, so that the least key is the cheapest choice and ties go by byte order.
-use table::read;
+use table::choice_of;
+use table::key_at;
+use table::key_of;
+use table::rest_key;
 ghost use mathlib.Core.Path.{_≡_};
 ghost use mathlib.Core.Logic.{_⊎_};
-ghost use Prim.Native.Nat.{ℕ, _+_, _-_, _*_, _/_, _%_, _<_, _≤_};
+ghost use Prim.Native.Nat.{ℕ, _+_, _<_, _≤_};
 ghost use lib.ListN.{length, getD};
 ghost use Rattle.table.specs.Table.{Falling};
-ghost use Rattle.solver.specs.Rows.{top-key, Copied, Plainly, Offering, Pushing};
+ghost use Rattle.table.specs.Keys.{cost-digit};
+ghost use Rattle.solver.specs.Rows.{top-key, top-price, cost-base, Copied, Plainly, Offering, Pushing};
 
 // Takes over the keys of the stretches of 1 to n siblings from sibling j on.
 pub fn copy_row(
@@ -24,7 +27,7 @@ pub fn copy_row(
     let q = numbers[j];
     let mut d = 1;
     while d <= n {
-        keys[d] = read(costs, numbers, q, j + d) * 2097152 + read(choices, numbers, q, j + d);
+        keys[d] = key_at(costs, choices, numbers, q, j + d);
         d += 1;
     }
 }
@@ -32,6 +35,7 @@ pub fn copy_row(
 // The plain node, which costs `own`, with what follows it, for the stretches of `from` to n siblings.
 pub fn plain_row(
     costs: &[u32],
+    choices: &[u32],
     numbers: &[usize],
     i: usize,
     n: usize,
@@ -39,24 +43,18 @@ pub fn plain_row(
     from: usize,
     keys: &mut [u64],
 )
-    requires { ⌜ Falling (now numbers) (i + n) (length (now costs)) ⌝ }
+    requires { ⌜ Falling (now numbers) (i + n) (length (now costs)) × Falling (now numbers) (i + n) (length (now choices)) ⌝ }
     requires { ⌜ (length (now keys) ≡ 1025) × (n ≤ 1024) × ((c : ℕ) → getD (now keys) c 0 ≤ top-key) ⌝ }
-    requires { ⌜ (own < 4294967296) × (2 ≤ from) × (from ≤ 1025) × (0 < n) ⌝ }
-    ensures { λ _. ⌜ Plainly (now (costs .entry)) (now (numbers .entry)) i n own from (now (keys .entry)) (now (keys .exit)) ⌝ }
+    requires { ⌜ (own < cost-base) × (2 ≤ from) × (from ≤ 1025) × (0 < n) ⌝ }
+    ensures { λ _. ⌜ Plainly (now (costs .entry)) (now (choices .entry)) (now (numbers .entry)) i n own from (now (keys .entry)) (now (keys .exit)) ⌝ }
 {
     let q = numbers[i + 1];
+    let plain = key_of(own, 0);
     let mut d = from;
     while d <= n {
-        keys[d] = (own + read(costs, numbers, q, i + d)) * 2097152;
+        keys[d] = plain + rest_key(costs, choices, numbers, q, i + d);
         d += 1;
     }
-}
-
-// The siblings that the repeat in a key covers, 0 for the plain node.
-pub fn covered(key: u64) -> u64
-    ensures { λ r. ⌜ r ≡ key / 1024 % 2048 * (key % 1024) ⌝ }
-{
-    key / 1024 % 2048 * (key % 1024)
 }
 
 pub fn lesser(a: u64, b: u64) -> u64
@@ -71,6 +69,7 @@ pub fn lesser(a: u64, b: u64) -> u64
 // Offers the repeat that covers c siblings at the key k, what follows it added, to the stretches of `from` to n siblings.
 pub fn push(
     costs: &[u32],
+    choices: &[u32],
     numbers: &[usize],
     i: usize,
     n: usize,
@@ -79,14 +78,14 @@ pub fn push(
     from: usize,
     keys: &mut [u64],
 )
-    requires { ⌜ Falling (now numbers) (i + n) (length (now costs)) ⌝ }
+    requires { ⌜ Falling (now numbers) (i + n) (length (now costs)) × Falling (now numbers) (i + n) (length (now choices)) ⌝ }
     requires { ⌜ (length (now keys) ≡ 1025) × (n ≤ 1024) × (c < from) × (from ≤ 1025) × (k ≤ top-key) × (c ≤ n) ⌝ }
-    ensures { λ _. ⌜ Pushing (now (costs .entry)) (now (numbers .entry)) i n c k from (now (keys .entry)) (now (keys .exit)) ⌝ }
+    ensures { λ _. ⌜ Pushing (now (costs .entry)) (now (choices .entry)) (now (numbers .entry)) i n c k from (now (keys .entry)) (now (keys .exit)) ⌝ }
 {
     let q = numbers[i + c];
     let mut d = from;
     while d <= n {
-        keys[d] = lesser(k + read(costs, numbers, q, i + d) * 2097152, keys[d]);
+        keys[d] = lesser(k + rest_key(costs, choices, numbers, q, i + d), keys[d]);
         d += 1;
     }
 }
@@ -95,14 +94,14 @@ pub fn push(
 // `from` on.
 pub fn offer(prices: &[u64], cost: u64, d: usize, span: usize, from: usize, keys: &mut [u64])
     requires { ⌜ (length (now prices) ≡ 1025) × (length (now keys) ≡ 1025) ⌝ }
-    requires { ⌜ ((h : ℕ) → getD (now prices) h 0 ≤ 4294836225) ⌝ }
-    requires { ⌜ (cost ≤ 2199023255552) × (0 < d) × (span + d ≤ 1024) × (2 ≤ from) × (from ≤ 1025) ⌝ }
+    requires { ⌜ ((h : ℕ) → getD (now prices) h 0 ≤ top-price) ⌝ }
+    requires { ⌜ (cost ≤ cost-digit top-key) × (0 < d) × (span + d ≤ 1024) × (2 ≤ from) × (from ≤ 1025) ⌝ }
     ensures { λ _. ⌜ Offering (now (prices .entry)) cost d span from (now (keys .entry)) (now (keys .exit)) ⌝ }
 {
     let mut h = from;
     while (h - 1) * d <= span {
         let c = h * d;
-        let k = (cost + prices[h]) * 2097152 + (h * 1024 + d) as u64;
+        let k = key_of(cost + prices[h], choice_of(h, d));
         if k < keys[c] {
             keys[c] = k;
         }

@@ -1,14 +1,16 @@
 // One row of the table: the cheapest folds of all stretches that begin at one sibling.
 use crate::keys::copy_row;
-use crate::keys::covered;
 use crate::keys::offer;
 use crate::keys::plain_row;
 use crate::keys::push;
+use table::cost_digit;
+use table::covered;
+use table::key_of;
 ghost use mathlib.Core.Path.{_≡_};
 ghost use Prim.Native.Nat.{ℕ, _+_, _-_, _*_, _<_, _≤_};
 ghost use lib.ListN.{length, getD};
 ghost use Rattle.format.specs.Forest.{siblings};
-ghost use Rattle.solver.specs.Rows.{Growing, KeysReady, Started, Settled, Advanced};
+ghost use Rattle.solver.specs.Rows.{top-price, cost-base, Growing, KeysReady, Started, Settled, Advanced};
 ghost use Rattle.table.specs.Table.{Falling};
 
 // One more than k where two siblings are equal, else none.
@@ -63,16 +65,16 @@ pub fn start_row(
 )
     requires { ⌜ Falling (now numbers) m (length (now costs)) × Falling (now numbers) m (length (now choices)) ⌝ }
     requires { ⌜ KeysReady (now keys) ⌝ }
-    requires { ⌜ (m ≤ 1024) × (own < 4294967296) × (i + w + span ≤ m) × (i < m) ⌝ }
+    requires { ⌜ (m ≤ 1024) × (own < cost-base) × (i + w + span ≤ m) × (i < m) ⌝ }
     ensures { λ _. ⌜ Started (now (costs .entry)) (now (choices .entry)) (now (numbers .entry)) i (m - i) own w span (now (keys .exit)) ⌝ }
 {
     copy_row(costs, choices, numbers, i + w, span, keys);
-    keys[1] = own * 2097152;
+    keys[1] = key_of(own, 0);
     let mut from = span + 1;
     if span == 0 {
         from = 2;
     }
-    plain_row(costs, numbers, i, m - i, own, from, keys);
+    plain_row(costs, choices, numbers, i, m - i, own, from, keys);
 }
 
 // The first number above both.
@@ -111,6 +113,7 @@ fn matched_within(d: usize, limit: usize, matched: usize) -> usize
 // as siblings match. The keys of up to `span` siblings are final and need neither.
 fn settle(
     costs: &[u32],
+    choices: &[u32],
     numbers: &[usize],
     i: usize,
     m: usize,
@@ -121,18 +124,35 @@ fn settle(
     span: usize,
     keys: &mut [u64],
 )
-    requires { ⌜ Falling (now numbers) m (length (now costs)) ⌝ }
-    requires { ⌜ KeysReady (now keys) × (length (now prices) ≡ 1025) × ((h : ℕ) → getD (now prices) h 0 ≤ 4294836225) ⌝ }
+    requires { ⌜ Falling (now numbers) m (length (now costs)) × Falling (now numbers) m (length (now choices)) ⌝ }
+    requires { ⌜ KeysReady (now keys) × (length (now prices) ≡ 1025) × ((h : ℕ) → getD (now prices) h 0 ≤ top-price) ⌝ }
     requires { ⌜ (m ≤ 1024) × (0 < d) × (i + d + matched ≤ m) × (span ≤ 1024) ⌝ }
     ensures low { λ _. ⌜ KeysReady (now (keys .exit)) ⌝ }
-    ensures settled { λ _. ⌜ Settled (now (costs .entry)) (now (numbers .entry)) i (m - i) limit (now (prices .entry)) d matched span (now (keys .entry)) (now (keys .exit)) ⌝ }
+    ensures settled { λ _. ⌜ Settled (now (costs .entry)) (now (choices .entry)) (now (numbers .entry)) i (m - i) limit (now (prices .entry)) d matched span (now (keys .entry)) (now (keys .exit)) ⌝ }
 {
     let key = keys[d];
-    if covered(key) == d as u64 {
-        push(costs, numbers, i, m - i, d, key, past(d, span), keys);
+    if covered(key) == d {
+        push(
+            costs,
+            choices,
+            numbers,
+            i,
+            m - i,
+            d,
+            key,
+            past(d, span),
+            keys,
+        );
     }
     if d <= matched_within(d, limit, matched) {
-        offer(prices, key / 2097152, d, matched, count_past(d, span), keys);
+        offer(
+            prices,
+            cost_digit(key),
+            d,
+            matched,
+            count_past(d, span),
+            keys,
+        );
     }
 }
 
@@ -149,6 +169,7 @@ fn smaller(a: usize, b: usize) -> usize
 // twice as many, and longer stretches have nothing to offer.
 pub fn solve(
     costs: &[u32],
+    choices: &[u32],
     numbers: &[usize],
     i: usize,
     m: usize,
@@ -158,18 +179,19 @@ pub fn solve(
     span: usize,
     keys: &mut [u64],
 )
-    requires { ⌜ Falling (now numbers) m (length (now costs)) ⌝ }
-    requires { ⌜ KeysReady (now keys) × (length (now prices) ≡ 1025) × ((h : ℕ) → getD (now prices) h 0 ≤ 4294836225) ⌝ }
+    requires { ⌜ Falling (now numbers) m (length (now costs)) × Falling (now numbers) m (length (now choices)) ⌝ }
+    requires { ⌜ KeysReady (now keys) × (length (now prices) ≡ 1025) × ((h : ℕ) → getD (now prices) h 0 ≤ top-price) ⌝ }
     requires { ⌜ (m ≤ 1024) × (i < m) × (length (now matches) ≡ 1025) × (span ≤ 1024) ⌝ }
     requires { ⌜ ((w : ℕ) → 0 < w → i + w ≤ m → getD (now matches) w 0 ≤ span) ⌝ }
     requires { ⌜ ((w : ℕ) → 0 < w → i + w ≤ m → i + w + getD (now matches) w 0 ≤ m) ⌝ }
-    ensures { λ _. ⌜ Advanced (now (costs .entry)) (now (numbers .entry)) i m limit (now (prices .entry)) (now (matches .entry)) span (m - i) (now (keys .entry)) (now (keys .exit)) ⌝ }
+    ensures { λ _. ⌜ Advanced (now (costs .entry)) (now (choices .entry)) (now (numbers .entry)) i m limit (now (prices .entry)) (now (matches .entry)) span (m - i) (now (keys .entry)) (now (keys .exit)) ⌝ }
 {
     let top = smaller(2 * span, m - i);
     let mut d = 1;
     while d <= top {
         settle(
             costs,
+            choices,
             numbers,
             i,
             m,

@@ -68,7 +68,7 @@ pub fn covered(key: u64) -> usize
 pub fn key_at(costs: &[u32], choices: &[u32], numbers: &[usize], q: usize, j: usize) -> u64
     requires { ⌜ Held (now numbers) q j (length (now costs)) ⌝ }
     requires { ⌜ Held (now numbers) q j (length (now choices)) ⌝ }
-    ensures { λ r. ⌜ r ≡ key (getD (now (costs .entry)) (cell (getD (now (numbers .entry)) j 0) q) 0) (getD (now (choices .entry)) (cell (getD (now (numbers .entry)) j 0) q) 0) ⌝ }
+    ensures { λ r. ⌜ (r ≡ key (getD (now (costs .entry)) (cell (getD (now (numbers .entry)) j 0) q) 0) (getD (now (choices .entry)) (cell (getD (now (numbers .entry)) j 0) q) 0)) × (r < key 4294967296 4294967296) ⌝ }
 {
     key_of(read(costs, numbers, q, j), read(choices, numbers, q, j))
 }

@@ -10,7 +10,7 @@ use Rattle.filling.proofs.level.enter_row.Tie as tie
 
 -- From where the row is solved, and from where its sibling's cost is known, back to the function's start.
 abbrev own : tie.After-solve → tie.After-own-cost
-own c = c .before .before .before .before .before .before .before .before .before
+own c = c .before .before .before .before .before .before .before .before .before .before
 
 abbrev start : tie.After-own-cost → tie.Start
 start c = c .before .before .before .before .before .before .before .before .before .before .before .before
@@ -21,13 +21,13 @@ row : (c : tie.After-own-cost)
     RowReady (a .costs .now) (a .choices .now) (a .numbers .now) (a .i) (a .m) (c .own-cost .result) (a .limit) (a .prices .now) (a .matches .now))
 row c = let p = start c .pre in row-ready (p .0) (p .1 .0) (c .own-cost .ensures) (p .1 .1 .1 .0) (p .1 .1 .1 .1)
 
-solved : (c : tie.After-solve) → RowSolved (row (own c)) (c .solve .last .1 .1 .1 .1 .1 .1 .1 .1 .0)
+solved : (c : tie.After-solve) → RowSolved (row (own c)) (c .solve .last .1 .1 .1 .1 .1 .1 .1 .1 .1 .0)
 solved c =
     let a = start (own c) .args in
     let p = start (own c) .pre in
     row-solved (row (own c)) _ _
-    (c .solve .ensures .rowed (a .choices .now) (own c .own-cost .result) (row (own c))
-    (started-rowed (row (own c)) (a .w) (p .1 .1 .0 .1) (p .1 .1 .0 .2) _ (c .before .before .before .before .before .start-row .ensures)))
+    (c .solve .ensures .rowed (own c .own-cost .result) (row (own c))
+    (started-rowed (row (own c)) (a .w) (p .1 .1 .0 .1) (p .1 .1 .0 .2) _ (c .before .before .before .before .before .before .start-row .ensures)))
 
 mul-span : tie.Need-mul-span
 mul-span c = let p = c .before .before .before .before .before .before .before .before .before .pre in omega (arith, siblings-few (p .0), p .1 .0 .count)
@@ -61,12 +61,12 @@ start-row-requires c κs =
 
 solve-requires : tie.Need-solve-requires
 solve-requires c κs =
-    let O = c .before .before .before .before .before .before .before .before in
+    let O = c .before .before .before .before .before .before .before .before .before in
     let p = start O .pre in
     let z = row O in
     let w = p .1 .1 .0 in
-    let s = c .before .before .before .before .start-row .ensures in (
-      level-falling (p .0) (p .1 .0) _ _ (p .0 .cost-room) (omega arith),
+    let s = c .before .before .before .before .before .start-row .ensures in (
+      (level-falling (p .0) (p .1 .0) _ _ (p .0 .cost-room) (omega arith), level-falling (p .0) (p .1 .0) _ _ (p .0 .choice-room) (omega arith)),
       (
         (record { long = s .long; low = s .low }, p .0 .prepared .long, p .0 .prepared .small),
         (
@@ -82,7 +82,7 @@ solve-requires c κs =
     )
 
 sub-store-row : tie.Need-sub-store-row
-sub-store-row c = omega (arith, c .before .before .before .before .before .before .before .before .before .before .before .before .before .before .before .before .before .before .before .before .before .before .before .before .before .pre .1 .0 .some)
+sub-store-row c = omega (arith, start (own (c .before .before .before .before)) .pre .1 .0 .some)
 
 store-row-requires : tie.Need-store-row-requires
 store-row-requires c κs =
@@ -91,7 +91,7 @@ store-row-requires c κs =
     let z = row (own F) in
     let some = p .1 .0 .some in (
       (level-falling (p .0) (p .1 .0) _ _ (p .0 .cost-room) (omega arith), level-falling (p .0) (p .1 .0) _ _ (p .0 .choice-room) (omega arith)),
-      (omega (arith, few z, F .solve .ensures .ready .long), λ d l h. solved-low z _ (solved F) d l (omega arith)),
+      (omega (arith, few z, F .solve .ensures .ready .long), λ d l h. omega (arith, solved-low z _ (solved F) d l (omega arith))),
     )
 
 same-length : tie.Need-same-length

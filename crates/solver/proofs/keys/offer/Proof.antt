@@ -15,12 +15,20 @@ Inv-loop prices cost d span from keys₀ h₀ keys h = Upto prices cost d span f
 abbrev μ-loop : tie.MeasureT-loop
 μ-loop prices cost d span from keys₀ h₀ keys h = 1026 - h
 
+-- The function's start, from the loop's head, and the inside of the loop, from where its branches join.
+abbrev start : tie.At-loop Inv-loop μ-loop → tie.Start Inv-loop μ-loop
+start c = c .before .before .before
+
+abbrev inside : tie.Joined1 Inv-loop μ-loop → tie.In-loop Inv-loop μ-loop
+inside c = c .before .before .before .before .before
+
 -- What is in span fits the lists.
-within : (c : tie.In-loop Inv-loop μ-loop) → (c .before .loop .h * c .before .before .args .d ≤ 1024) × (c .before .loop .h ≤ 1024)
+within : (c : tie.In-loop Inv-loop μ-loop) → (c .before .loop .h * start (c .before) .args .d ≤ 1024) × (c .before .loop .h ≤ 1024)
 within c =
-    let p = c .before .before .pre .1 .1 in
+    let S = start (c .before) in
+    let p = S .pre .1 .1 in
     let h = c .before .loop .h in
-    in-reach (h - 1) h (c .before .before .args .d) (c .before .before .args .span) (omega arith) (p .1) (p .2) (c .loop-test .taken)
+    in-reach (h - 1) h (S .args .d) (S .args .span) (omega arith) (p .1) (p .2) (c .loop-test .taken)
 
 loop-holds : tie.Need-loop-holds Inv-loop μ-loop
 loop-holds c = upto-none _ _ _ _ _ _ (omega arith)
@@ -32,61 +40,65 @@ mul-loop : tie.Need-mul-loop Inv-loop μ-loop
 mul-loop c =
     let h = c .loop .h in
     let l : h - 1 ≤ 1024 = omega (arith, c .loop .inv .few) in
-    let m : c .before .args .d ≤ 1024 = omega arith in
+    let m : start c .args .d ≤ 1024 = omega arith in
     omega (arith, mul-le-mul l m)
 
 mul-c : tie.Need-mul-c Inv-loop μ-loop
 mul-c c = let w = within c in omega arith
 
-mul-k : tie.Need-mul-k Inv-loop μ-loop
-mul-k c = let w = within c in omega arith
+mul-key-of : tie.Need-mul-key-of Inv-loop μ-loop
+mul-key-of c = let w = within c in omega arith
 
-shared-slice-read-k : tie.Need-shared-slice-read-k Inv-loop μ-loop
-shared-slice-read-k c = let w = within (c .before) in omega arith
+shared-slice-read-key-of : tie.Need-shared-slice-read-key-of Inv-loop μ-loop
+shared-slice-read-key-of c = let w = within (c .before) in omega arith
 
-add-k : tie.Need-add-k Inv-loop μ-loop
-add-k c = omega (arith, c .before .before .before .pre .1 .0 (c .before .before .loop .h))
+add-key-of : tie.Need-add-key-of Inv-loop μ-loop
+add-key-of c = omega (arith, start (c .before .before) .pre .1 .0 (c .before .before .loop .h))
 
-mul-k-2 : tie.Need-mul-k-2 Inv-loop μ-loop
-mul-k-2 c = omega (arith, c .before .before .before .pre .1 .0 (c .before .before .loop .h))
+choice-of-requires : tie.Need-choice-of-requires Inv-loop μ-loop
+choice-of-requires c κs = let w = within (c .before) in (w .1, omega arith)
 
-mul-k-3 : tie.Need-mul-k-3 Inv-loop μ-loop
-mul-k-3 c = let w = within (c .before) in omega arith
-
-add-k-2 : tie.Need-add-k-2 Inv-loop μ-loop
-add-k-2 c = let w = within (c .before) in omega arith
-
-add-k-3 : tie.Need-add-k-3 Inv-loop μ-loop
-add-k-3 c = let w = within (c .before) in omega (arith, c .before .before .before .pre .1 .0 (c .before .before .loop .h))
+key-of-requires : tie.Need-key-of-requires Inv-loop μ-loop
+key-of-requires c κs =
+    let L = c .before .before .before in
+    (omega (arith, start L .pre .1 .0 (L .loop .h)), omega (arith, c .choice-of .ensures))
 
 mul-if1 : tie.Need-mul-if1 Inv-loop μ-loop
-mul-if1 c = let w = within (c .before) in omega arith
+mul-if1 c = let w = within (c .before .before .before) in omega arith
 
 slice-read-if1 : tie.Need-slice-read-if1 Inv-loop μ-loop
-slice-read-if1 c = let w = within (c .before .before) in omega (arith, c .before .before .before .loop .inv .same-length)
+slice-read-if1 c =
+    let I = c .before .before .before .before in
+    let w = within I in
+    omega (arith, I .before .loop .inv .same-length)
 
 mul-keys : tie.Need-mul-keys Inv-loop μ-loop
-mul-keys c = let w = within (c .before .before .before) in omega arith
+mul-keys c = let w = within (c .before .before .before .before .before) in omega arith
 
 slice-write-keys : tie.Need-slice-write-keys Inv-loop μ-loop
-slice-write-keys c = let w = within (c .before .before .before) in omega (arith, c .before .before .before .before .loop .inv .same-length)
+slice-write-keys c =
+    let I = c .before .before .before .before .before in
+    let w = within I in
+    omega (arith, I .before .loop .inv .same-length)
 
 add-h : tie.Need-add-h Inv-loop μ-loop
-add-h c = let w = within (c .before .before .before) in omega arith
+add-h c = let w = within (inside c) in omega arith
 
 loop-less : tie.Need-loop-less Inv-loop μ-loop
-loop-less c = let w = within (c .before .before .before) in omega arith
+loop-less c = let w = within (inside c) in omega arith
 
 loop-again : tie.Need-loop-again Inv-loop μ-loop
 loop-again c =
-    let w = within (c .before .before .before) in
-    let L = c .before .before .before .before .loop in
+    let w = within (inside c) in
+    let L = inside c .before .loop in
     let u = L .inv in
-    let near = c .before .before .before .loop-test .taken in
-    let fits : L .h * c .before .before .before .before .before .args .d < length (L .keys) = omega (arith, u .same-length) in
+    let near = inside c .loop-test .taken in
+    let fits : L .h * start (inside c .before) .args .d < length (L .keys) = omega (arith, u .same-length) in
+    let k = c .before .before .key-of .ensures in
+    let x = c .before .before .before .choice-of .ensures .0 in
     ⊎-elim
-    (λ x. rw (x .1) (upto-set _ _ _ _ _ _ (L .keys) (L .h) u (w .1) near fits (omega (arith, x .0 .taken))))
-    (λ x. rw (x .1) (upto-kept _ _ _ _ _ _ (L .keys) (L .h) u (w .1) (omega (arith, x .0 .left))))
+    (λ y. rw (y .1, k, x) (upto-set _ _ _ _ _ _ (L .keys) (L .h) u (w .1) near fits (omega (arith, y .0 .taken, k, x))))
+    (λ y. rw (y .1) (upto-kept _ _ _ _ _ _ (L .keys) (L .h) u (w .1) (omega (arith, y .0 .left, k, x))))
     (c .if1 .came)
 
 same-length : tie.Need-same-length Inv-loop μ-loop
@@ -105,13 +117,11 @@ offer-spec =
     sub-loop
     mul-loop
     mul-c
-    mul-k
-    shared-slice-read-k
-    add-k
-    mul-k-2
-    mul-k-3
-    add-k-2
-    add-k-3
+    mul-key-of
+    shared-slice-read-key-of
+    add-key-of
+    choice-of-requires
+    key-of-requires
     mul-if1
     slice-read-if1
     mul-keys

@@ -7,40 +7,46 @@ use Rattle.solver.proofs.keys.plain_row.Statement.{statement}
 use Rattle.solver.proofs.keys.plain_row.Tie as tie
 
 abbrev Inv-loop : tie.InvT-loop
-Inv-loop costs numbers i n own from keys₀ q d₀ keys d = (d ≤ 1025) × Put (OfPlain costs numbers i own) from d keys₀ keys
+Inv-loop costs choices numbers i n own from keys₀ q plain d₀ keys d = (d ≤ 1025) × Put (OfPlain costs choices numbers i own) from d keys₀ keys
 
 abbrev μ-loop : tie.MeasureT-loop
-μ-loop costs numbers i n own from keys₀ q d₀ keys d = 1025 - d
+μ-loop costs choices numbers i n own from keys₀ q plain d₀ keys d = 1025 - d
+
+-- The function's start, from the loop's head.
+abbrev start : tie.At-loop Inv-loop μ-loop → tie.Start Inv-loop μ-loop
+start c = c .before .before .before .before .before .before .before
 
 add-q : tie.Need-add-q Inv-loop μ-loop
-add-q c = omega (arith, c .before .before .before .pre .0 .short, c .before .before .before .good)
+add-q c = omega (arith, c .before .before .before .before .pre .0 .0 .short, c .before .before .before .before .good)
 
 mul-q : tie.Need-mul-q Inv-loop μ-loop
-mul-q c = omega (arith, c .before .before .before .pre .0 .short)
+mul-q c = omega (arith, c .before .before .before .before .pre .0 .0 .short)
 
 shared-slice-read-q : tie.Need-shared-slice-read-q Inv-loop μ-loop
-shared-slice-read-q c = omega (arith, c .before .before .before .before .pre .0 .short)
+shared-slice-read-q c = omega (arith, c .before .before .before .before .before .pre .0 .0 .short)
+
+key-of-requires : tie.Need-key-of-requires Inv-loop μ-loop
+key-of-requires c κs = (omega arith, omega arith)
 
 loop-holds : tie.Need-loop-holds Inv-loop μ-loop
 loop-holds c = (omega arith, put-none _ _ _)
 
-add-read : tie.Need-add-read Inv-loop μ-loop
-add-read c = omega arith
+add-rest-key : tie.Need-add-rest-key Inv-loop μ-loop
+add-rest-key c = omega arith
 
-read-requires : tie.Need-read-requires Inv-loop μ-loop
-read-requires c κs =
-    let S = c .before .before .before .before .before .before in
+rest-key-requires : tie.Need-rest-key-requires Inv-loop μ-loop
+rest-key-requires c κs =
+    let S = start (c .before) in
+    let i = S .args .i in
+    let d = c .before .loop .d in
     let late = c .before .loop .inv .1 .late in
-    falling-read (S .args .i + 1) (S .args .i + c .before .loop .d) (omega arith) (omega arith) (S .pre .0)
+    (falling-read (i + 1) (i + d) (omega arith) (omega arith) (S .pre .0 .0), falling-read (i + 1) (i + d) (omega arith) (omega arith) (S .pre .0 .1))
 
 add-keys : tie.Need-add-keys Inv-loop μ-loop
-add-keys c = omega arith
+add-keys c = omega (arith, c .before .before .before .key-of .ensures, c .rest-key .ensures)
 
 mul-keys : tie.Need-mul-keys Inv-loop μ-loop
 mul-keys c = omega arith
-
-mul-keys-2 : tie.Need-mul-keys-2 Inv-loop μ-loop
-mul-keys-2 c = omega arith
 
 slice-write-keys : tie.Need-slice-write-keys Inv-loop μ-loop
 slice-write-keys c = omega (arith, c .before .before .loop .inv .1 .same-length)
@@ -54,13 +60,15 @@ loop-less c = omega arith
 loop-again : tie.Need-loop-again Inv-loop μ-loop
 loop-again c =
     let L = c .before .before .loop in
-    (omega arith, put-more _ _ _ _ _ (L .inv .1) _ (omega arith) (omega arith, omega (arith, c .read .ensures .0)))
+    let plain = c .before .before .before .key-of .ensures in
+    let rest = c .rest-key .ensures in
+    (omega arith, put-more _ _ _ _ _ (L .inv .1) _ (omega arith) (omega (arith, plain, rest), omega (arith, plain, rest)))
 
 same-length : tie.Need-same-length Inv-loop μ-loop
 same-length c = c .before .loop .inv .1 .same-length
 
 returns : tie.Need-returns Inv-loop μ-loop
-returns c = let S = c .before .before .before .before .before .before in plainly-all _ _ _ _ _ _ _ _ _ (S .pre .1 .0 .2) (omega arith) (c .before .loop .inv .1)
+returns c = plainly-all _ _ _ _ _ _ _ _ _ _ (start (c .before) .pre .1 .0 .2) (omega arith) (c .before .loop .inv .1)
 
 pub plain-row-spec : {M : Type 1} → statement M
 plain-row-spec =
@@ -71,12 +79,12 @@ plain-row-spec =
     add-q
     mul-q
     shared-slice-read-q
+    key-of-requires
     loop-holds
-    add-read
-    read-requires
+    add-rest-key
+    rest-key-requires
     add-keys
     mul-keys
-    mul-keys-2
     slice-write-keys
     add-d
     loop-less

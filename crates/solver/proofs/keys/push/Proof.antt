@@ -9,40 +9,44 @@ use Rattle.solver.proofs.keys.push.Statement.{statement}
 use Rattle.solver.proofs.keys.push.Tie as tie
 
 abbrev Inv-loop : tie.InvT-loop
-Inv-loop costs numbers i n c k from keys₀ q d₀ keys d = (d ≤ 1025) × Put (OfPush costs numbers i n c k keys₀) from d keys₀ keys
+Inv-loop costs choices numbers i n c k from keys₀ q d₀ keys d =
+    (d ≤ 1025) × Put (OfPush costs choices numbers i n c k keys₀) from d keys₀ keys
 
 abbrev μ-loop : tie.MeasureT-loop
-μ-loop costs numbers i n c k from keys₀ q d₀ keys d = 1025 - d
+μ-loop costs choices numbers i n c k from keys₀ q d₀ keys d = 1025 - d
+
+-- The function's start, from the loop's head.
+abbrev start : tie.At-loop Inv-loop μ-loop → tie.Start Inv-loop μ-loop
+start c = c .before .before .before .before .before .before
 
 add-q : tie.Need-add-q Inv-loop μ-loop
-add-q c = omega (arith, c .before .before .before .pre .0 .short, c .before .before .before .good)
+add-q c = omega (arith, c .before .before .before .before .pre .0 .0 .short, c .before .before .before .before .good)
 
 mul-q : tie.Need-mul-q Inv-loop μ-loop
-mul-q c = omega (arith, c .before .before .before .pre .0 .short)
+mul-q c = omega (arith, c .before .before .before .before .pre .0 .0 .short)
 
 shared-slice-read-q : tie.Need-shared-slice-read-q Inv-loop μ-loop
-shared-slice-read-q c = omega (arith, c .before .before .before .before .pre .0 .short)
+shared-slice-read-q c = omega (arith, c .before .before .before .before .before .pre .0 .0 .short)
 
 loop-holds : tie.Need-loop-holds Inv-loop μ-loop
 loop-holds c = (omega arith, put-none _ _ _)
 
-add-read : tie.Need-add-read Inv-loop μ-loop
-add-read c = omega arith
+add-rest-key : tie.Need-add-rest-key Inv-loop μ-loop
+add-rest-key c = omega arith
 
-read-requires : tie.Need-read-requires Inv-loop μ-loop
-read-requires c κs =
-    let S = c .before .before .before .before .before .before in
+rest-key-requires : tie.Need-rest-key-requires Inv-loop μ-loop
+rest-key-requires c κs =
+    let S = start (c .before) in
+    let j = S .args .i + S .args .c in
+    let e = S .args .i + c .before .loop .d in
     let late = c .before .loop .inv .1 .late in
-    falling-read (S .args .i + S .args .c) (S .args .i + c .before .loop .d) (omega arith) (omega arith) (S .pre .0)
+    (falling-read j e (omega arith) (omega arith) (S .pre .0 .0), falling-read j e (omega arith) (omega arith) (S .pre .0 .1))
+
+add-lesser : tie.Need-add-lesser Inv-loop μ-loop
+add-lesser c = omega (arith, c .rest-key .ensures)
 
 mul-lesser : tie.Need-mul-lesser Inv-loop μ-loop
 mul-lesser c = omega arith
-
-add-lesser : tie.Need-add-lesser Inv-loop μ-loop
-add-lesser c = omega arith
-
-mul-lesser-2 : tie.Need-mul-lesser-2 Inv-loop μ-loop
-mul-lesser-2 c = omega arith
 
 slice-read-lesser : tie.Need-slice-read-lesser Inv-loop μ-loop
 slice-read-lesser c = omega (arith, c .before .before .before .loop .inv .1 .same-length)
@@ -65,16 +69,19 @@ loop-less c = omega arith
 loop-again : tie.Need-loop-again Inv-loop μ-loop
 loop-again c =
     let L = c .before .before .before .before .loop in
-    let cost = c .before .before .read .ensures .0 in
+    let rest = c .before .before .rest-key .ensures .0 in
     let old = L .inv .1 .kept (L .d) (inr (omega arith)) in
-    let r = c .lesser .ensures in
-    (omega arith, put-more _ _ _ _ _ (L .inv .1) _ (omega arith) (omega arith, omega arith, omega arith, ⊎-elim (λ e. inl (omega arith)) (λ e. inr (omega arith)) (r .2)))
+    let r = c .lesser .ensures in (
+      omega arith,
+      put-more _ _ _ _ _ (L .inv .1) _ (omega arith)
+          (omega arith, omega arith, omega arith, ⊎-elim (λ e. inl (omega arith)) (λ e. inr (omega arith)) (r .2)),
+    )
 
 same-length : tie.Need-same-length Inv-loop μ-loop
 same-length c = c .before .loop .inv .1 .same-length
 
 returns : tie.Need-returns Inv-loop μ-loop
-returns c = let S = c .before .before .before .before .before .before in pushing-all _ _ _ _ _ _ _ _ _ _ (omega arith) (c .before .loop .inv .1)
+returns c = let S = start (c .before) in pushing-all _ _ _ _ _ _ _ _ _ _ _ (omega arith) (c .before .loop .inv .1)
 
 pub push-spec : {M : Type 1} → statement M
 push-spec =
@@ -86,11 +93,10 @@ push-spec =
     mul-q
     shared-slice-read-q
     loop-holds
-    add-read
-    read-requires
-    mul-lesser
+    add-rest-key
+    rest-key-requires
     add-lesser
-    mul-lesser-2
+    mul-lesser
     slice-read-lesser
     lesser-requires
     mul-keys

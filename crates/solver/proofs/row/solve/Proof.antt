@@ -9,11 +9,18 @@ use Rattle.solver.proofs.row.solve.Statement.{statement}
 use Rattle.solver.proofs.row.solve.Tie as tie
 
 abbrev Inv-loop : tie.InvT-loop
-Inv-loop costs numbers i m limit prices matches span keys₀ top d₀ keys d =
-    (1 ≤ d) × (d ≤ top + 1) × Advanced costs numbers i m limit prices matches span (d - 1) keys₀ keys
+Inv-loop costs choices numbers i m limit prices matches span keys₀ top d₀ keys d =
+    (1 ≤ d) × (d ≤ top + 1) × Advanced costs choices numbers i m limit prices matches span (d - 1) keys₀ keys
 
 abbrev μ-loop : tie.MeasureT-loop
-μ-loop costs numbers i m limit prices matches span keys₀ top d₀ keys d = top + 1 - d
+μ-loop costs choices numbers i m limit prices matches span keys₀ top d₀ keys d = top + 1 - d
+
+-- From the loop's head: how far it goes, and the function's start.
+abbrev top : tie.At-loop Inv-loop μ-loop → tie.After-smaller Inv-loop μ-loop
+top c = c .before
+
+abbrev start : tie.At-loop Inv-loop μ-loop → tie.Start Inv-loop μ-loop
+start c = top c .before .before .before .before .before .before .before
 
 mul-smaller : tie.Need-mul-smaller Inv-loop μ-loop
 mul-smaller c = omega arith
@@ -25,34 +32,37 @@ smaller-requires : tie.Need-smaller-requires Inv-loop μ-loop
 smaller-requires c κs = tt
 
 loop-holds : tie.Need-loop-holds Inv-loop μ-loop
-loop-holds c = (omega arith, omega arith, advanced-none (c .before .before .before .before .before .before .pre .1 .0 .0))
+loop-holds c =
+    (omega arith, omega arith, advanced-none (c .before .before .before .before .before .before .before .pre .1 .0 .0))
 
 mul-settle : tie.Need-mul-settle Inv-loop μ-loop
-mul-settle c = omega (arith, c .before .before .smaller .ensures)
+mul-settle c = omega (arith, top (c .before) .smaller .ensures)
 
 shared-slice-read-settle : tie.Need-shared-slice-read-settle Inv-loop μ-loop
-shared-slice-read-settle c = omega (arith, c .before .before .before .smaller .ensures)
+shared-slice-read-settle c = omega (arith, top (c .before .before) .smaller .ensures)
 
 settle-requires : tie.Need-settle-requires Inv-loop μ-loop
 settle-requires c κs =
-    let p = c .before .before .before .before .before .before .before .before .before .before .pre in
-    let few = c .before .before .before .before .smaller .ensures in
-    let L = c .before .before .before .loop in (
+    let H = c .before .before .before in
+    let p = start H .pre in
+    let few = top H .smaller .ensures in
+    let L = H .loop in (
       p .0,
       ((L .inv .2 .ready, p .1 .0 .1, p .1 .0 .2), (omega arith, omega arith, p .1 .1 .1 .1 (L .d) (omega arith) (omega arith), omega arith)),
     )
 
 add-d : tie.Need-add-d Inv-loop μ-loop
-add-d c = omega (arith, c .before .before .before .before .before .before .before .smaller .ensures)
+add-d c = omega (arith, top (c .before .before .before .before .before .before) .smaller .ensures)
 
 loop-less : tie.Need-loop-less Inv-loop μ-loop
 loop-less c = omega arith
 
 loop-again : tie.Need-loop-again Inv-loop μ-loop
 loop-again c =
-    let L = c .before .before .before .before .before .before .loop in
+    let H = c .before .before .before .before .before .before in
+    let L = H .loop in
     let s = c .before .before .settle .ensures in
-    let few = c .before .before .before .before .before .before .before .smaller .ensures in
+    let few = top H .smaller .ensures in
     let e : L .d + 1 - 1 ≡ L .d = omega arith in (
       omega arith,
       omega arith,
@@ -61,13 +71,13 @@ loop-again c =
 
 returns : tie.Need-returns Inv-loop μ-loop
 returns c =
-    let S = c .before .before .before .before .before .before .before .before in
-    let top = c .before .before .smaller in
-    let e : c .before .loop .d - 1 ≡ top .result = omega arith in
-    advanced-past (top .result) (S .args .m - S .args .i) _ (S .pre .1 .1 .1 .0) (top .ensures .2) (rw e at (c .before .loop .inv .2))
+    let S = start (c .before) in
+    let t = top (c .before) .smaller in
+    let e : c .before .loop .d - 1 ≡ t .result = omega arith in
+    advanced-past (t .result) (S .args .m - S .args .i) _ (S .pre .1 .1 .1 .0) (t .ensures .2) (rw e at (c .before .loop .inv .2))
 
 same-length : tie.Need-same-length Inv-loop μ-loop
-same-length c = c .before .loop .inv .2 .ready .long ∙ sym (c .before .before .before .before .before .before .before .before .pre .1 .0 .0 .long)
+same-length c = c .before .loop .inv .2 .ready .long ∙ sym (start (c .before) .pre .1 .0 .0 .long)
 
 pub solve-spec : {M : Type 1} → statement M
 solve-spec =

@@ -10,6 +10,16 @@ use Rattle.solver.proofs.Putting.{one-ready, started}
 use Rattle.solver.proofs.row.start_row.Statement.{statement}
 use Rattle.solver.proofs.row.start_row.Tie as tie
 
+-- From where the branch joins: the key of the one sibling, the keys copied, and the function's start.
+abbrev one : tie.Joined1 → tie.After-key-of
+one c = c .before
+
+abbrev copied : tie.Joined1 → tie.After-copy-row
+copied c = one c .before .before .before
+
+abbrev start : tie.Joined1 → tie.Start
+start c = copied c .before .before .before .before .before .before
+
 add-copy-row : tie.Need-add-copy-row
 add-copy-row c = search needs
 
@@ -20,8 +30,8 @@ copy-row-requires c κs =
       (S .pre .1 .0 .long, omega arith, S .pre .1 .0 .low),
     )
 
-mul-keys : tie.Need-mul-keys
-mul-keys c = search needs
+key-of-requires : tie.Need-key-of-requires
+key-of-requires c κs = (omega arith, omega arith)
 
 slice-write-keys : tie.Need-slice-write-keys
 slice-write-keys c = search needs
@@ -34,7 +44,7 @@ sub-plain-row c = search needs
 
 -- The first number above both 1 and `span`.
 first-is : (c : tie.Joined1)
-    → (2 ≤ c .if1 .from) × (c .before .before .before .before .before .before .before .before .before .args .span < c .if1 .from) × ((e : ℕ) → 1 < e → c .before .before .before .before .before .before .before .before .before .args .span < e → c .if1 .from ≤ e)
+    → (2 ≤ c .if1 .from) × (start c .args .span < c .if1 .from) × ((e : ℕ) → 1 < e → start c .args .span < e → c .if1 .from ≤ e)
 first-is c =
     ⊎-elim
     (λ x. (omega (arith, x .1), omega (arith, x .1), λ e l m. omega (arith, x .1)))
@@ -43,10 +53,11 @@ first-is c =
 
 plain-row-requires : tie.Need-plain-row-requires
 plain-row-requires c κs =
-    let S = c .before .before .before .before .before .before .before .before .before .before in
-    let k = one-ready (S .args .own) (S .pre .1 .0 .long) (omega arith) (c .before .before .before .before .copy-row .ensures) in
-    let f = first-is (c .before) in (
-      falling-less _ (omega arith) (S .pre .0 .0),
+    let J = c .before in
+    let S = start J in
+    let k = one-ready (one J .key-of .ensures) (S .pre .1 .0 .long) (omega arith) (copied J .copy-row .ensures) in
+    let f = first-is J in (
+      (falling-less _ (omega arith) (S .pre .0 .0), falling-less _ (omega arith) (S .pre .0 .1)),
       (
         (k .long, omega arith, k .low),
         (omega arith, f .0, f .2 1025 (omega arith) (omega arith), omega arith),
@@ -54,13 +65,16 @@ plain-row-requires c κs =
     )
 
 same-length : tie.Need-same-length
-same-length c = c .before .before .plain-row .ensures .long ∙ simp length-set (c .before .before .before .before .before .before .before .copy-row .ensures .long)
+same-length c =
+    let J = c .before .before .before .before in
+    c .before .before .plain-row .ensures .long ∙ simp length-set (copied J .copy-row .ensures .long)
 
 returns : tie.Need-returns
 returns c =
-    let S = c .before .before .before .before .before .before .before .before .before .before .before .before .before in
-    let f = first-is (c .before .before .before .before) in
-    started _ _ _ _ _ _ _ _ _ _ _ _ (S .pre .1 .0 .long) (f .0) (f .1) (f .2) (c .before .before .before .before .before .before .before .copy-row .ensures) (c .before .before .plain-row .ensures)
+    let J = c .before .before .before .before in
+    let f = first-is J in
+    started _ _ _ _ _ _ _ _ _ _ _ _ _ (one J .key-of .ensures) (start J .pre .1 .0 .long) (f .0) (f .1) (f .2) (copied J .copy-row .ensures)
+    (c .before .before .plain-row .ensures)
 
 pub start-row-spec : {M : Type 1} → statement M
 start-row-spec =
@@ -68,7 +82,7 @@ start-row-spec =
     (tie.spec
     add-copy-row
     copy-row-requires
-    mul-keys
+    key-of-requires
     slice-write-keys
     add-from
     sub-plain-row
