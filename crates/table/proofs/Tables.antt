@@ -248,10 +248,6 @@ kept-alike b n b′ n′ xs ys apart k =
 
 module _ (A : Allowed) (P : Prices) (b : ℕ) (t : Forest) (b′ n′ : ℕ) (cs ks cs′ ks′ : List ℕ) (r : Run A t)
     (apart : (b′ + n′ ≤ b) ⊎ (b + nodes t ≤ b′)) (kc : Kept b′ n′ cs cs′) (kk : Kept b′ n′ ks ks′) where
-  pub entered-kept : (i : ℕ) → Entered A P b t i cs ks → Entered A P b t i cs′ ks′
-  entered-kept i =
-      entered-alike A P cs ks cs′ ks′ b t i r (kept-alike b (nodes t) b′ n′ cs cs′ apart kc) (kept-alike b (nodes t) b′ n′ ks ks′ apart kk)
-
   pub below-kept : Below A P b t cs ks → Below A P b t cs′ ks′
   below-kept =
       below-alike A P cs ks cs′ ks′ b t r (kept-alike b (nodes t) b′ n′ cs cs′ apart kc) (kept-alike b (nodes t) b′ n′ ks ks′ apart kk)
