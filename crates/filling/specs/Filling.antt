@@ -1,4 +1,4 @@
--- What filling the table rests on: the prices, one sequence with its siblings listed, and the lent arrays that it is worked in.
+-- What filling the table rests on: the prices, one sequence, and the lent arrays that it is worked in.
 use mathlib.Core.Path.{_≡_}
 use mathlib.Core.List.{List}
 use Prim.Native.Nat.{ℕ, _+_, _-_, _<_, _≤_}
@@ -6,10 +6,10 @@ use lib.ListN.{length, getD}
 use Rattle.format.specs.Limits.{Prices, of-repeat}
 use Rattle.format.specs.Forest.{Allowed, siblings, nodes}
 use Rattle.format.specs.Tree.{tree-of}
-use Rattle.optimum.specs.Cheapest.{back, node, best-cost}
+use Rattle.optimum.specs.Cheapest.{node, best-cost}
 use Rattle.table.specs.Table.{Below, cells}
-use Rattle.table.specs.Listing.{Spelled, Placed, Numbered}
-use Rattle.solver.specs.Rows.{Matches, KeysReady, top-price}
+use Rattle.table.specs.Listing.{Spelled}
+use Rattle.solver.specs.Rows.{KeysReady, top-price}
 
 -- The prices that a table of labels and a list of repeat prices give.
 abbrev pub prices-of : (table prices : List ℕ) → Prices
@@ -40,17 +40,6 @@ pub record LevelReady (s : List ℕ) (b limit : ℕ) (table prices costs choices
 pub record Single (s table costs numbers : List ℕ) (i r : ℕ) : Type 0 where
   pub costs-it : (A : Allowed) (P : Prices) (choices : List ℕ) → ((l : ℕ) → P .of-step l ≡ getD table l 0) → ((l : ℕ) → P .of-group l ≡ getD table l 0)
       → Below A P (getD numbers (siblings (tree-of s)) 0) (tree-of s) costs choices → r ≡ best-cost A P (node i (tree-of s))
-
--- The siblings of the sequence are listed, and the matches from sibling i on are known.
-pub record RowGround (s offsets numbers : List ℕ) (i m : ℕ) (matches : List ℕ) : Type 0 where
-  pub long-offsets : length offsets ≡ 1025
-  pub placed : Placed s offsets
-  pub long-numbers : length numbers ≡ 1025
-  pub numbered : Numbered (getD numbers m 0) (tree-of s) numbers
-  pub count : siblings (tree-of s) ≡ m
-  pub some : i < m
-  pub long-matches : length matches ≡ 1025
-  pub matched : Matches (back i (tree-of s)) matches
 
 -- The lent arrays that every sequence is worked in, one after the other.
 pub record Scratch (offsets numbers kinds matches keys : List ℕ) : Type 0 where

@@ -2,4 +2,5 @@
 mod level;
 mod own;
 
+pub use level::Level;
 pub use level::enter_tree;

@@ -1,4 +1,5 @@
 // An accepted run: its table is filled, the fold is measured and written by it, and the table is cleared.
+use filling::Level;
 use filling::enter_tree;
 use format::Folded;
 use table::Lists;
@@ -64,10 +65,9 @@ fn fill(
     let mut keys = [0u64; Lists::LENGTH];
     enter_tree(
         run,
-        0,
+        Level { behind: 0, limit },
         table,
         prices,
-        limit,
         &mut offsets,
         &mut numbers,
         &mut kinds,

@@ -7,6 +7,7 @@ use native.Mathlib.Decide.{decLe, decLt}
 use native.Mathlib.Omega.{arith}
 use lib.ListN.{length, getD, set, length-set}
 use lib.Seq.{getD-set-same, getD-set-other}
+use Rattle.solver.specs.declared.row.Row.{Row}
 use Rattle.solver.specs.Rows.{Copied, Plainly, Pushing, Started, KeysReady, top-key, cost-base}
 use Rattle.table.specs.Keys.{key}
 use Rattle.table.specs.Table.{key-at, rest-key}
@@ -58,12 +59,12 @@ copied-all costs choices numbers j n d before now low past p =
     }
 
 -- Those of the plain node with what follows it.
-abbrev pub OfPlain : (costs choices numbers : List ℕ) (i own : ℕ) → ℕ → ℕ → Type 0
-OfPlain costs choices numbers i own c x = (x ≤ top-key) × (x ≡ key own 0 + rest-key costs choices numbers (i + 1) (i + c))
+abbrev pub OfPlain : (costs choices numbers : List ℕ) (row : Row) → ℕ → ℕ → Type 0
+OfPlain costs choices numbers row c x = (x ≤ top-key) × (x ≡ key (row .own) 0 + rest-key costs choices numbers (row .at + 1) (row .at + c))
 
-pub plainly-all : (costs choices numbers : List ℕ) (i n own from d : ℕ) (before now : List ℕ) → ((c : ℕ) → getD before c 0 ≤ top-key) → n < d
-    → Put (OfPlain costs choices numbers i own) from d before now → Plainly costs choices numbers i n own from before now
-plainly-all costs choices numbers i n own from d before now low past p =
+pub plainly-all : (costs choices numbers : List ℕ) (row : Row) (from d : ℕ) (before now : List ℕ) → ((c : ℕ) → getD before c 0 ≤ top-key)
+    → row .end < row .at + d → Put (OfPlain costs choices numbers row) from d before now → Plainly costs choices numbers row from before now
+plainly-all costs choices numbers row from d before now low past p =
     record {
       long = p .same-length;
       low = put-all _ _ _ _ _ p (λ c x. x ≤ top-key) low (λ c x l q. q .0);
@@ -72,44 +73,47 @@ plainly-all costs choices numbers i n own from d before now low past p =
     }
 
 -- The lesser of what was there and what is pushed.
-abbrev pub push-key : (costs choices numbers : List ℕ) (i c k : ℕ) → ℕ → ℕ
-push-key costs choices numbers i c k d = k + rest-key costs choices numbers (i + c) (i + d)
+abbrev pub push-key : (costs choices numbers : List ℕ) (row : Row) (c k : ℕ) → ℕ → ℕ
+push-key costs choices numbers row c k d = k + rest-key costs choices numbers (row .at + c) (row .at + d)
 
-abbrev pub OfPush : (costs choices numbers : List ℕ) (i n c k : ℕ) (before : List ℕ) → ℕ → ℕ → Type 0
-OfPush costs choices numbers i n c k before d x =
-    (d ≤ n) × (x ≤ push-key costs choices numbers i c k d) × (x ≤ getD before d 0) × ((x ≡ push-key costs choices numbers i c k d) ⊎ (x ≡ getD before d 0))
+abbrev pub OfPush : (costs choices numbers : List ℕ) (row : Row) (c k : ℕ) (before : List ℕ) → ℕ → ℕ → Type 0
+OfPush costs choices numbers row c k before d x =
+    (row .at + d ≤ row .end)
+    × (x ≤ push-key costs choices numbers row c k d)
+    × (x ≤ getD before d 0)
+    × ((x ≡ push-key costs choices numbers row c k d) ⊎ (x ≡ getD before d 0))
 
-pub pushing-all : (costs choices numbers : List ℕ) (i n c k from d : ℕ) (before now : List ℕ) → n < d
-    → Put (OfPush costs choices numbers i n c k before) from d before now → Pushing costs choices numbers i n c k from before now
-pushing-all costs choices numbers i n c k from d before now past p =
+pub pushing-all : (costs choices numbers : List ℕ) (row : Row) (c k from d : ℕ) (before now : List ℕ) → row .end < row .at + d
+    → Put (OfPush costs choices numbers row c k before) from d before now → Pushing costs choices numbers row c k from before now
+pushing-all costs choices numbers row c k from d before now past p =
     record {
       same-length = p .same-length;
       lower = put-all _ _ _ _ _ p (λ e x. x ≤ getD before e 0) (λ e. omega arith) (λ e x l q. q .2);
       pushed = λ e l m. p .put e l (omega arith) .1;
       came = put-all _ _ _ _ _ p
-          (λ e x. (x ≡ getD before e 0) ⊎ ((from ≤ e) × (e ≤ n) × (x ≡ push-key costs choices numbers i c k e)))
+          (λ e x. (x ≡ getD before e 0) ⊎ ((from ≤ e) × (row .at + e ≤ row .end) × (x ≡ push-key costs choices numbers row c k e)))
           (λ e. inl refl)
           (λ e x l q. ⊎-elim (λ z. inr (l, q .0, z)) (λ z. inl z) (q .3));
     }
 
 -- After a copy, the key of the one sibling may be put in.
-pub one-ready : {costs choices numbers : List ℕ} {j n own k : ℕ} {start between : List ℕ} → k ≡ key own 0 → length start ≡ 1025 → own < cost-base
+pub one-ready : {costs choices numbers : List ℕ} {j n own k : ℕ} {start between : List ℕ} → k ≡ key own 0 → KeysReady start → own < cost-base
     → Copied costs choices numbers j n start between → KeysReady (set between 1 k)
-one-ready {k = k} {between = between} e long small copied =
+one-ready {k = k} {between = between} e ready small copied =
     record {
-      long = length-set between 1 k ∙ copied .long ∙ long;
-      low = entry-all (λ x. x ≤ top-key) between 1 k (omega (arith, copied .long)) (copied .low) (omega arith);
+      long = length-set between 1 k ∙ copied .long ∙ ready .long;
+      low = entry-all (λ x. x ≤ top-key) between 1 k (omega (arith, copied .long, ready .long)) (copied .low) (omega arith);
     }
 
 -- The three parts of a row's first keys: those copied, that of the one sibling, and those of the plain node past both.
-pub started : (costs choices numbers : List ℕ) (i n own w span from k : ℕ) (start between keys : List ℕ) → k ≡ key own 0 → length start ≡ 1025
-    → 2 ≤ from → span < from → ((c : ℕ) → 1 < c → span < c → from ≤ c) → Copied costs choices numbers (i + w) span start between
-    → Plainly costs choices numbers i n own from (set between 1 k) keys → Started costs choices numbers i n own w span keys
-started costs choices numbers i n own w span from k start between keys e long twice past first copied plainly =
+pub started : (costs choices numbers : List ℕ) (row : Row) (from k : ℕ) (start between keys : List ℕ) → k ≡ key (row .own) 0 → KeysReady start
+    → 1 < from → row .span < from → ((c : ℕ) → 1 < c → row .span < c → from ≤ c)
+    → Copied costs choices numbers (row .at + row .shift) (row .span) start between → Plainly costs choices numbers row from (set between 1 k) keys
+    → Started costs choices numbers row keys
+started costs choices numbers row from k start between keys e ready twice past first copied plainly =
     record {
-      long = plainly .long ∙ length-set between 1 k ∙ copied .long ∙ long;
-      low = plainly .low;
-      one = plainly .kept 1 (omega arith) ∙ getD-set-same between 1 k 0 (omega (arith, copied .long)) ∙ e;
+      ready = record { long = plainly .long ∙ length-set between 1 k ∙ copied .long ∙ ready .long; low = plainly .low };
+      one = plainly .kept 1 (omega arith) ∙ getD-set-same between 1 k 0 (omega (arith, copied .long, ready .long)) ∙ e;
       copied = λ c l m. plainly .kept c (omega arith)
           ∙ getD-set-other between 1 c k 0 (λ q. omega arith)
           ∙ copied .copied c (omega arith) m;

@@ -15,8 +15,9 @@ use Rattle.optimum.proofs.Powers.{front-less, reach}
 use Rattle.optimum.proofs.Rank.{rank-usual}
 use Rattle.optimum.proofs.Least.{least-unique}
 use Rattle.table.specs.Keys.{cost-digit, choice-digits, cover}
-use Rattle.table.specs.Table.{Entry, stretch, entry-at, rest-key}
-use Rattle.solver.specs.Rows.{RowReady, Rowed, RowSolved, KeysReady, Advanced, Started, Settled, Pushed, push, pass, Widened, offer, too-wide, unlike, Matched, BestKey, Keyed, Came, pair-key, offer-key, cost-base}
+use Rattle.table.specs.Table.{Entry, Stored, stretch, entry-at, rest-key}
+use Rattle.solver.specs.declared.row.Row.{Row}
+use Rattle.solver.specs.Rows.{RowReady, RowFits, Shifted, Rowed, RowEntered, KeysReady, Advanced, Started, Settled, Pushed, push, pass, Widened, offer, too-wide, unlike, Matched, BestKey, Keyed, Came, pair-key, offer-key, cost-base}
 use Rattle.solver.proofs.Offers.{copy-more, near-power, power-near}
 use Rattle.solver.proofs.Stretches.{Modest, fitting, entry-best, best-entry, best-covers, best-low, cost-low, whole-price, whole-candidate, whole-power, first-candidate, first-price, first-key, best-is, keyed-best, best-keyed, best-one, keyed-plain}
 
@@ -27,22 +28,31 @@ record Pair (A : Allowed) (P : Prices) (x : Forest) (k : ℕ) : Type 0 where
   candidate : Candidate A x count width
   is-key : k ≡ pair-key A P x count width
 
-module _ {costs choices numbers : List ℕ} {i m own limit : ℕ} {prices same : List ℕ} (z : RowReady costs choices numbers i m own limit prices same) where
+module _ {costs choices numbers : List ℕ} {row : Row} {prices same : List ℕ} (z : RowReady costs choices numbers row prices same) where
+  abbrev i : ℕ
+  i = row .at
+
+  abbrev m : ℕ
+  m = row .end
+
+  abbrev span : ℕ
+  span = row .span
+
   modest : Modest (z .allowed) (z .prices-are) (z .tree)
   modest = record { run = z .run; few = z .total; step-low = z .step-low; group-low = z .group-low }
 
   from-here : i + siblings (back i (z .tree)) ≡ m
-  from-here = omega (arith, siblings-back i (z .tree) (z .run .plain) (omega (arith, z .some, z .count)), z .count)
+  from-here = omega (arith, siblings-back i (z .tree) (z .run .plain) (omega (arith, z .some, z .all)), z .all)
 
   pub few : m ≤ 1024
-  few = omega (arith, siblings-le-nodes (z .tree) (z .run .plain), z .total, z .count)
+  few = omega (arith, siblings-le-nodes (z .tree) (z .run .plain), z .total, z .all)
 
   -- The table's entries of the rows further on.
   entered : (j n : ℕ) → i < j → 0 < n → j + n ≤ m
       → Entry (z .allowed) (z .prices-are) (stretch (z .tree) j n) (entry-at costs numbers j (j + n)) (entry-at choices numbers j (j + n))
   entered j n l p h =
-      rw (z .numbers-are .numbered j (omega (arith, z .count)), z .numbers-are .numbered (j + n) (omega (arith, z .count)))
-      (z .rows-below .entry j n (omega arith) p (omega (arith, z .count)))
+      rw (z .numbers-are .numbered j (omega (arith, z .all)), z .numbers-are .numbered (j + n) (omega (arith, z .all)))
+      (z .rows-below .entry j n (omega arith) p (omega (arith, z .all)))
 
   -- The cost of what follows the first c of n siblings.
   rest-cost : (c r n : ℕ) → 0 < c → 0 < r → c + r ≡ n → i + n ≤ m
@@ -58,48 +68,58 @@ module _ {costs choices numbers : List ℕ} {i m own limit : ℕ} {prices same :
   pub match-low : (w : ℕ) → 0 < w → i + w ≤ m → i + w + getD same w 0 ≤ m
   match-low w p h = let d = matched w p h in omega (arith, from-here)
 
-  -- What the row starts from: where its siblings are those of sibling i + w, the key is that row's.
-  module _ (w : ℕ) (pos : 0 < w) (near : i + w ≤ m) (keys : List ℕ) (s : Started costs choices numbers i (m - i) own w (getD same w 0) keys) where
-    started-one : BestKey (z .allowed) (z .prices-are) (stretch (z .tree) i 1) (getD keys 1 0)
-    started-one = best-one modest i (getD keys 1 0) (omega (arith, z .some, z .count)) (s .one ∙ rw (z .own-cost))
+  pub own-low : row .own < cost-base
+  own-low = omega (arith, z .own-cost, cost-low modest i 1)
 
-    started-final : (n : ℕ) → 0 < n → n ≤ getD same w 0 → BestKey (z .allowed) (z .prices-are) (stretch (z .tree) i n) (getD keys n 0)
+  pub row-fits : Shifted row same → RowFits row
+  row-fits f =
+      record { few = few; some = z .some; low = own-low; reach = omega (arith, f .spans, match-low (row .shift) (f .some) (f .near)) }
+
+  -- What the row starts from: where its siblings are those `shift` further on, the key is that row's.
+  module _ (f : Shifted row same) (keys : List ℕ) (s : Started costs choices numbers row keys) where
+    started-one : BestKey (z .allowed) (z .prices-are) (stretch (z .tree) i 1) (getD keys 1 0)
+    started-one = best-one modest i (getD keys 1 0) (omega (arith, z .some, z .all)) (s .one ∙ rw (z .own-cost))
+
+    shifted : Matched (back i (z .tree)) (row .shift) span
+    shifted = rw (f .spans) (matched (row .shift) (f .some) (f .near))
+
+    started-final : (n : ℕ) → 0 < n → n ≤ span → BestKey (z .allowed) (z .prices-are) (stretch (z .tree) i n) (getD keys n 0)
     started-final n p h = by-place (decLt 1 n)
       where
-        same-stretch : stretch (z .tree) i n ≡ stretch (z .tree) (i + w) n
+        same-stretch : stretch (z .tree) i n ≡ stretch (z .tree) (i + row .shift) n
         same-stretch =
-            let d = matched w pos near in
-            front-less n (getD same w 0 - n) (getD same w 0) (back i (z .tree)) (back w (back i (z .tree))) (omega arith) (d .shift)
-            ∙ ap (front n) (back-back i w (i + w) (z .tree) refl)
+            let d = shifted in
+            front-less n (span - n) (span) (back i (z .tree)) (back (row .shift) (back i (z .tree))) (omega arith) (d .shift)
+            ∙ ap (front n) (back-back i (row .shift) (i + row .shift) (z .tree) refl)
 
         by-place : Dec (1 < n) → BestKey (z .allowed) (z .prices-are) (stretch (z .tree) i n) (getD keys n 0)
         by-place (yes l) =
-            let d = matched w pos near in
+            let d = shifted in
             rw (s .copied n l h, same-stretch)
-            (entry-best _ _ _ _ _ (entered (i + w) n (omega arith) p (omega (arith, d .bound, from-here))))
+            (entry-best _ _ _ _ _ (entered (i + row .shift) n (omega arith) p (omega (arith, d .bound, from-here))))
         by-place (no l) = let e : n ≡ 1 = omega arith in rw e started-one
 
     started-keyed : (n : ℕ) → 0 < n → i + n ≤ m → Keyed (z .allowed) (z .prices-are) (z .tree) i 0 n (getD keys n 0)
-    started-keyed n p h = by-place (decLt 1 n) (decLt (getD same w 0) n)
+    started-keyed n p h = by-place (decLt 1 n) (decLt (span) n)
       where
-        by-place : Dec (1 < n) → Dec (getD same w 0 < n) → Keyed (z .allowed) (z .prices-are) (z .tree) i 0 n (getD keys n 0)
+        by-place : Dec (1 < n) → Dec (span < n) → Keyed (z .allowed) (z .prices-are) (z .tree) i 0 n (getD keys n 0)
         by-place d (no l) = best-keyed modest i 0 n (getD keys n 0) (started-final n p (omega arith))
         by-place (no d) (yes l) = let e : n ≡ 1 = omega arith in rw e (best-keyed modest i 0 1 (getD keys 1 0) started-one)
         by-place (yes d) (yes l) =
             keyed-plain modest i (n - 1) n (getD keys n 0) (omega arith)
             (s .plain n d l (omega arith) ∙ rw (z .own-cost, rest-cost 1 (n - 1) n (omega arith) (omega arith) (omega arith) h))
 
-    pub started-rowed : Rowed z (getD same w 0) 0 keys
+    pub started-rowed : Rowed z 0 keys
     started-rowed = record { final = started-final; keyed = started-keyed }
 
   -- One solved stretch more, of d siblings.
-  module _ (span e d : ℕ) (before after : List ℕ) (next : suc e ≡ d) (more : i + d ≤ m) (r : Rowed z span e before)
-      (s : Settled costs choices numbers i (m - i) limit prices d (getD same d 0) span before after) where
+  module _ (e d : ℕ) (before after : List ℕ) (next : suc e ≡ d) (more : i + d ≤ m) (r : Rowed z e before)
+      (s : Settled costs choices numbers row prices d (getD same d 0) before after) where
     abbrev k : ℕ
     k = getD before d 0
 
     best : BestKey (z .allowed) (z .prices-are) (stretch (z .tree) i d) (getD before d 0)
-    best = keyed-best modest i e d k (omega arith) (omega arith) (omega (arith, z .count)) (r .keyed d (omega arith) more)
+    best = keyed-best modest i e d k (omega arith) (omega arith) (omega (arith, z .all)) (r .keyed d (omega arith) more)
 
     covers : cover (getD before d 0) ≡ best .count * best .width
     covers = best-covers modest i d k best
@@ -129,11 +149,11 @@ module _ {costs choices numbers : List ℕ} {i m own limit : ℕ} {prices same :
           (first-key modest i (i + d) d (n - d) n g v refl (omega arith) (omega arith) f l)
 
     -- No key rises.
-    push-lower : Pushed costs choices numbers i (m - i) d span (getD before d 0) before (s .between) → (n : ℕ) → getD (s .between) n 0 ≤ getD before n 0
+    push-lower : Pushed costs choices numbers row d (getD before d 0) before (s .between) → (n : ℕ) → getD (s .between) n 0 ≤ getD before n 0
     push-lower (push from a b c f p) n = p .lower n
     push-lower (pass f x) n = rw x (omega arith)
 
-    widen-lower : Widened limit prices (cost-digit (getD before d 0)) d (getD same d 0) span (s .between) after → (n : ℕ) → getD after n 0 ≤ getD (s .between) n 0
+    widen-lower : Widened row prices (cost-digit (getD before d 0)) d (getD same d 0) (s .between) after → (n : ℕ) → getD after n 0 ≤ getD (s .between) n 0
     widen-lower (offer from a b c f p) n = p .lower n
     widen-lower (too-wide f x) n = rw x (omega arith)
     widen-lower (unlike f x) n = rw x (omega arith)
@@ -142,11 +162,11 @@ module _ {costs choices numbers : List ℕ} {i m own limit : ℕ} {prices same :
     lower n = omega (arith, push-lower (s .pushed) n, widen-lower (s .widened) n)
 
     -- Those of up to `span` siblings stay.
-    push-same : (n : ℕ) → n ≤ span → Pushed costs choices numbers i (m - i) d span (getD before d 0) before (s .between) → getD (s .between) n 0 ≡ getD before n 0
+    push-same : (n : ℕ) → n ≤ span → Pushed costs choices numbers row d (getD before d 0) before (s .between) → getD (s .between) n 0 ≡ getD before n 0
     push-same n l (push from a b c f p) = ⊎-elim (λ x. x) (λ x. absurd (omega arith)) (p .came n)
     push-same n l (pass f x) = rw x
 
-    widen-same : (n : ℕ) → n ≤ span → Widened limit prices (cost-digit (getD before d 0)) d (getD same d 0) span (s .between) after
+    widen-same : (n : ℕ) → n ≤ span → Widened row prices (cost-digit (getD before d 0)) d (getD same d 0) (s .between) after
         → getD after n 0 ≡ getD (s .between) n 0
     widen-same n l (offer from a b c f p) =
         ⊎-elim (λ x. x) (λ x. absurd (omega (arith, mul-le-mul-right d (x .late), x .covers))) (p .came n)
@@ -163,7 +183,7 @@ module _ {costs choices numbers : List ℕ} {i m own limit : ℕ} {prices same :
           let x = r .keyed n pos fits in
           record { count = x .count; width = x .width; candidate = x .candidate; is-key = x .is-key }
 
-      pair-between : Pushed costs choices numbers i (m - i) d span (getD before d 0) before (s .between) → Pair (z .allowed) (z .prices-are) (stretch (z .tree) i n) (getD (s .between) n 0)
+      pair-between : Pushed costs choices numbers row d (getD before d 0) before (s .between) → Pair (z .allowed) (z .prices-are) (stretch (z .tree) i n) (getD (s .between) n 0)
       pair-between (push from a b c f p) = ⊎-elim
           (λ x. rw x pair-before)
           (λ x.
@@ -180,7 +200,7 @@ module _ {costs choices numbers : List ℕ} {i m own limit : ℕ} {prices same :
           (p .came n)
       pair-between (pass f x) = rw x pair-before
 
-      pair-after : Widened limit prices (cost-digit (getD before d 0)) d (getD same d 0) span (s .between) after → Pair (z .allowed) (z .prices-are) (stretch (z .tree) i n) (getD after n 0)
+      pair-after : Widened row prices (cost-digit (getD before d 0)) d (getD same d 0) (s .between) after → Pair (z .allowed) (z .prices-are) (stretch (z .tree) i n) (getD after n 0)
       pair-after (offer from a b c f p) = ⊎-elim
           (λ x. rw x (pair-between (s .pushed)))
           (λ (x : Came prices (cost-digit (getD before d 0)) d (getD same d 0) from n (getD after n 0)).
@@ -203,7 +223,7 @@ module _ {costs choices numbers : List ℕ} {i m own limit : ℕ} {prices same :
       -- and bounded by those that came with d.
       module _ (far : span < n) where
         whole-now : (h w : ℕ) → Power (z .allowed) (back i (z .tree)) h w → h * w ≡ n → w ≡ d
-            → Widened limit prices (cost-digit (getD before d 0)) d (getD same d 0) span (s .between) after
+            → Widened row prices (cost-digit (getD before d 0)) d (getD same d 0) (s .between) after
             → getD after n 0 ≤ rank usual (of-repeat (z .prices-are) h + best-cost (z .allowed) (z .prices-are) (stretch (z .tree) i d)) h d
         whole-now h w q f x (offer from a b c l p) =
             let y = reach q in
@@ -219,7 +239,7 @@ module _ {costs choices numbers : List ℕ} {i m own limit : ℕ} {prices same :
             absurd (omega (arith, mul-le-mul-right d u))
 
         first-now : (g v : ℕ) → d < n → g * v ≡ d → Least (z .allowed) (z .prices-are) usual (best-cost (z .allowed) (z .prices-are)) (stretch (z .tree) i d) g v
-            → Pushed costs choices numbers i (m - i) d span (getD before d 0) before (s .between)
+            → Pushed costs choices numbers row d (getD before d 0) before (s .between)
             → getD after n 0 ≤ rank usual (best-cost (z .allowed) (z .prices-are) (stretch (z .tree) i d) + best-cost (z .allowed) (z .prices-are) (front (n - d) (back (i + d) (z .tree)))) g v
         first-now g v some f l (push from a b c u p) =
             omega (arith, widen-lower (s .widened) n, p .pushed n (c n some far) (omega arith), follows n some fits g v f l)
@@ -251,12 +271,12 @@ module _ {costs choices numbers : List ℕ} {i m own limit : ℕ} {prices same :
             ];
           }
 
-    pub settled-rowed : Rowed z span d after
+    pub settled-rowed : Rowed z d after
     settled-rowed = record { final = final; keyed = λ n p h. keyed n p h (decLt span n) }
 
   -- Where no more than `span` siblings match at any width, no repeat covers more than twice as many; so longer stretches have
   -- nothing to offer.
-  module _ (span top : ℕ) (most : (w : ℕ) → 0 < w → i + w ≤ m → getD same w 0 ≤ span) (high : (c : ℕ) → c ≤ 2 * span → c ≤ m - i → c ≤ top) where
+  module _ (f : Shifted row same) (top : ℕ) (high : (c : ℕ) → c ≤ 2 * span → c ≤ m - i → c ≤ top) where
     within : (h w : ℕ) → Power (z .allowed) (back i (z .tree)) h w → h * w ≤ top
     within h w q =
         let y = reach q in
@@ -265,9 +285,9 @@ module _ {costs choices numbers : List ℕ} {i m own limit : ℕ} {prices same :
         let near = power-near h w (getD same w 0) (run-back i (z .run)) (matched w (y .some) fits) q in
         let u : 1 ≤ h - 1 = omega arith in
         let more = copy-more (h - 1) h w (omega arith) in
-        high (h * w) (omega (arith, mul-le-mul-right w u, most w (y .some) fits)) (omega (arith, from-here))
+        high (h * w) (omega (arith, mul-le-mul-right w u, f .most w (y .some) fits)) (omega (arith, from-here))
 
-    pub rowed-past : (s : ℕ) (keys : List ℕ) → Rowed z span top keys → Rowed z span s keys
+    pub rowed-past : (s : ℕ) (keys : List ℕ) → Rowed z top keys → Rowed z s keys
     rowed-past s keys r =
         record {
           final = r .final;
@@ -285,51 +305,60 @@ module _ {costs choices numbers : List ℕ} {i m own limit : ℕ} {prices same :
               };
         }
 
-  -- All stretches done.
-  pub row-solved : (span : ℕ) (keys : List ℕ) → Rowed z span (m - i) keys → RowSolved z keys
-  row-solved span keys r =
-      record {
-        solved = λ n p h. keyed-best modest i (m - i) n (getD keys n 0) p (omega arith) (omega (arith, z .count)) (r .keyed n p h);
-      }
+  -- All stretches done: what the row enters in the table, and that it fits.
+  module _ (keys : List ℕ) (r : Rowed z (m - i) keys) (n : ℕ) (pos : 0 < n) (fits : i + n ≤ m) where
+    solved : BestKey (z .allowed) (z .prices-are) (stretch (z .tree) i n) (getD keys n 0)
+    solved = keyed-best modest i (m - i) n (getD keys n 0) pos (omega arith) (omega (arith, z .all)) (r .keyed n pos fits)
 
-  -- What a solved row enters in the table, and that it fits.
-  module _ (keys : List ℕ) (r : RowSolved z keys) (n : ℕ) (pos : 0 < n) (fits : i + n ≤ m) where
-    pub solved-entry : Entry (z .allowed) (z .prices-are) (stretch (z .tree) i n) (cost-digit (getD keys n 0)) (choice-digits (getD keys n 0))
-    solved-entry = best-entry modest i n (getD keys n 0) (r .solved n pos fits)
+    solved-entry : Entry (z .allowed) (z .prices-are) (stretch (z .tree) i n) (cost-digit (getD keys n 0)) (choice-digits (getD keys n 0))
+    solved-entry = best-entry modest i n (getD keys n 0) solved
 
     pub solved-low : cost-digit (getD keys n 0) < cost-base
-    solved-low = best-low modest i n (getD keys n 0) (r .solved n pos fits)
-
-  pub own-low : own < cost-base
-  own-low = omega (arith, z .own-cost, cost-low modest i 1)
+    solved-low = best-low modest i n (getD keys n 0) solved
 
 -- The loop of a row.
-module _ {costs choices numbers : List ℕ} {i m limit : ℕ} {prices same : List ℕ} {span : ℕ} {before : List ℕ} where
-  pub advanced-none : KeysReady before → Advanced costs choices numbers i m limit prices same span 0 before before
-  advanced-none k = record { ready = k; rowed = λ own z r. r }
+module _ {costs choices numbers : List ℕ} {row : Row} {prices same before : List ℕ} where
+  pub advanced-none : KeysReady before → Advanced costs choices numbers row prices same 0 before before
+  advanced-none k = record { ready = k; rowed = λ z r. r }
 
-  pub advanced-past : (top s : ℕ) (now : List ℕ) → ((w : ℕ) → 0 < w → i + w ≤ m → getD same w 0 ≤ span)
-      → ((c : ℕ) → c ≤ 2 * span → c ≤ m - i → c ≤ top) → Advanced costs choices numbers i m limit prices same span top before now
-      → Advanced costs choices numbers i m limit prices same span s before now
-  advanced-past top s now most high a =
-      record { ready = a .ready; rowed = λ own z r. rowed-past z span top most high s now (a .rowed own z r) }
+  pub advanced-past : (top s : ℕ) (now : List ℕ) → Shifted row same → ((c : ℕ) → c ≤ 2 * row .span → c ≤ row .end - row .at → c ≤ top)
+      → Advanced costs choices numbers row prices same top before now → Advanced costs choices numbers row prices same s before now
+  advanced-past top s now f high a = record { ready = a .ready; rowed = λ z r. rowed-past z f top high s now (a .rowed z r) }
 
-  pub advanced-more : (e d : ℕ) (now after : List ℕ) → suc e ≡ d → i + d ≤ m → Advanced costs choices numbers i m limit prices same span e before now → KeysReady after
-      → Settled costs choices numbers i (m - i) limit prices d (getD same d 0) span now after → Advanced costs choices numbers i m limit prices same span d before after
+  pub advanced-more : (e d : ℕ) (now after : List ℕ) → suc e ≡ d → row .at + d ≤ row .end → Advanced costs choices numbers row prices same e before now
+      → KeysReady after → Settled costs choices numbers row prices d (getD same d 0) now after
+      → Advanced costs choices numbers row prices same d before after
   advanced-more e d now after next more a k s =
-      record { ready = k; rowed = λ own z r. settled-rowed z span e d now after next more (a .rowed own z r) s }
+      record { ready = k; rowed = λ z r. settled-rowed z e d now after next more (a .rowed z r) s }
+
+  -- Solved from its first keys on, and stored.
+  module _ (f : Shifted row same) (s : Started costs choices numbers row before) (keys : List ℕ)
+      (a : Advanced costs choices numbers row prices same (row .end - row .at) before keys) where
+    pub row-rowed : (z : RowReady costs choices numbers row prices same) → Rowed z (row .end - row .at) keys
+    row-rowed z = a .rowed z (started-rowed z f before s)
+
+    pub row-entered : {costs′ choices′ : List ℕ}
+        → Stored numbers (row .at) (row .end - row .at) (λ d. cost-digit (getD keys d 0)) costs costs′
+        → Stored numbers (row .at) (row .end - row .at) (λ d. choice-digits (getD keys d 0)) choices choices′
+        → RowEntered costs choices numbers row prices same costs′ choices′
+    row-entered c k =
+        record {
+          entry = λ z d p h. rw (c .entered d p (omega arith), k .entered d p (omega arith)) (solved-entry z keys (row-rowed z) d p h);
+          costs-kept = record { same-length = c .same-length; entered = λ d p h. refl; others = c .others };
+          choices-kept = record { same-length = k .same-length; entered = λ d p h. refl; others = k .others };
+        }
 
 -- The keys stay as they may be worked on.
 ready-lower : {before after : List ℕ} → KeysReady before → length after ≡ length before → ((c : ℕ) → getD after c 0 ≤ getD before c 0) → KeysReady after
 ready-lower k e l = record { long = e ∙ k .long; low = λ c. omega (arith, l c, k .low c) }
 
-pub pushed-ready : {costs choices numbers : List ℕ} {i n d span k : ℕ} {before after : List ℕ} → KeysReady before → Pushed costs choices numbers i n d span k before after
-    → KeysReady after
+pub pushed-ready : {costs choices numbers : List ℕ} {row : Row} {d k : ℕ} {before after : List ℕ} → KeysReady before
+    → Pushed costs choices numbers row d k before after → KeysReady after
 pushed-ready r (push from a b c f p) = ready-lower r (p .same-length) (p .lower)
 pushed-ready r (pass f x) = rw x r
 
-pub widened-ready : {limit : ℕ} {prices : List ℕ} {cost d match span : ℕ} {before after : List ℕ} → KeysReady before
-    → Widened limit prices cost d match span before after → KeysReady after
+pub widened-ready : {row : Row} {prices : List ℕ} {cost d match : ℕ} {before after : List ℕ} → KeysReady before
+    → Widened row prices cost d match before after → KeysReady after
 widened-ready r (offer from a b c f p) = ready-lower r (p .same-length) (p .lower)
 widened-ready r (too-wide f x) = rw x r
 widened-ready r (unlike f x) = rw x r

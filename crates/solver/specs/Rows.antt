@@ -8,8 +8,9 @@ use Rattle.format.specs.Limits.{Prices, of-repeat}
 use Rattle.format.specs.Forest.{Forest, Allowed, siblings, nodes}
 use Rattle.optimum.specs.Cheapest.{Run, front, back, node, rank, usual, price, Candidate, Power, Least, best-cost}
 use Rattle.table.specs.Keys.{packed, key, cost-digit, cover}
-use Rattle.table.specs.Table.{Entered, key-at, rest-key, stretch}
+use Rattle.table.specs.Table.{Entry, Entered, Stored, entry-at, key-at, rest-key, stretch}
 use Rattle.table.specs.Listing.{Numbered, Classed}
+use Rattle.solver.specs.declared.row.Row.{Row}
 
 -- The bounds of the numbers of a row. Costs have 32 bits; no price of a count is higher than 65,535 times 16 bits; and a key is at most
 -- that of two costs together.
@@ -22,11 +23,26 @@ top-price = 65535 * 65535
 abbrev pub top-key : ℕ
 top-key = key (2 * cost-base) 0
 
+-- A row's numbers fit the lists: it has a stretch, and the row that it takes keys from is as long.
+pub record RowFits (row : Row) : Type 0 where
+  pub few : row .end ≤ 1024
+  pub some : row .at < row .end
+  pub low : row .own < cost-base
+  pub reach : row .at + row .shift + row .span ≤ row .end
+
+-- The keys and the prices as they may be worked on.
+pub record KeysReady (keys : List ℕ) : Type 0 where
+  pub long : length keys ≡ 1025
+  pub low : (c : ℕ) → getD keys c 0 ≤ top-key
+
+pub record PricesReady (prices : List ℕ) : Type 0 where
+  pub long : length prices ≡ 1025
+  pub low : (h : ℕ) → getD prices h 0 ≤ top-price
+
 -- The price of each count, as a list.
 pub record Priced (P : Prices) (prices : List ℕ) : Type 0 where
-  pub long : length prices ≡ 1025
+  pub ready : PricesReady prices
   pub price-of : (h : ℕ) → 2 ≤ h → h ≤ 1024 → getD prices h 0 ≡ of-repeat P h
-  pub small : (h : ℕ) → getD prices h 0 ≤ top-price
 
 -- k siblings from the first on equal the one w further, and no more.
 pub record Matched (T : Forest) (w k : ℕ) : Type 0 where
@@ -37,6 +53,14 @@ pub record Matched (T : Forest) (w k : ℕ) : Type 0 where
 -- The matches at every width.
 pub record Matches (T : Forest) (same : List ℕ) : Type 0 where
   pub matched : (w : ℕ) → 0 < w → w ≤ siblings T → Matched T w (getD same w 0)
+
+-- The row takes its keys from where the most siblings match.
+pub record Shifted (row : Row) (same : List ℕ) : Type 0 where
+  pub long : length same ≡ 1025
+  pub some : 0 < row .shift
+  pub near : row .at + row .shift ≤ row .end
+  pub spans : row .span ≡ getD same (row .shift) 0
+  pub most : (w : ℕ) → 0 < w → row .at + w ≤ row .end → getD same w 0 ≤ row .span
 
 -- The key of a pair that may stand first in the stretch x: its rank at the least costs of the parts.
 abbrev pub pair-key : Allowed → Prices → Forest → (h w : ℕ) → ℕ
@@ -80,22 +104,23 @@ pub record Offering (prices : List ℕ) (cost d span from : ℕ) (before after :
   pub offered : (g : ℕ) → from ≤ g → (g - 1) * d ≤ span → getD after (g * d) 0 ≤ offer-key prices cost d g
   pub came : (c : ℕ) → (getD after c 0 ≡ getD before c 0) ⊎ Came prices cost d span from c (getD after c 0)
 
--- What a repeat that covers c siblings at the key k does to the keys of `from` to n siblings, the rest's cost added.
-pub record Pushing (costs choices numbers : List ℕ) (i n c k from : ℕ) (before after : List ℕ) : Type 0 where
+-- What a repeat that covers c siblings at the key k does to the keys of `from` and more siblings, the rest's cost added.
+pub record Pushing (costs choices numbers : List ℕ) (row : Row) (c k from : ℕ) (before after : List ℕ) : Type 0 where
   pub same-length : length after ≡ length before
   pub lower : (d : ℕ) → getD after d 0 ≤ getD before d 0
-  pub pushed : (d : ℕ) → from ≤ d → d ≤ n → getD after d 0 ≤ k + rest-key costs choices numbers (i + c) (i + d)
+  pub pushed : (d : ℕ) → from ≤ d → row .at + d ≤ row .end → getD after d 0 ≤ k + rest-key costs choices numbers (row .at + c) (row .at + d)
   pub came : (d : ℕ) → (getD after d 0 ≡ getD before d 0)
-      ⊎ ((from ≤ d) × (d ≤ n) × (getD after d 0 ≡ k + rest-key costs choices numbers (i + c) (i + d)))
+      ⊎ ((from ≤ d) × (row .at + d ≤ row .end) × (getD after d 0 ≡ k + rest-key costs choices numbers (row .at + c) (row .at + d)))
 
--- The keys of a row before any repeat is offered: those of the row of sibling i + w as far as the two are the same, and those of
--- the plain node with the rest.
-pub record Started (costs choices numbers : List ℕ) (i n own w span : ℕ) (keys : List ℕ) : Type 0 where
-  pub long : length keys ≡ 1025
-  pub low : (c : ℕ) → getD keys c 0 ≤ top-key
-  pub one : getD keys 1 0 ≡ key own 0
-  pub copied : (c : ℕ) → 1 < c → c ≤ span → getD keys c 0 ≡ key-at costs choices numbers (i + w) (i + w + c)
-  pub plain : (c : ℕ) → 1 < c → span < c → c ≤ n → getD keys c 0 ≡ key own 0 + rest-key costs choices numbers (i + 1) (i + c)
+-- The keys of a row before any repeat is offered: those of the row `shift` further on as far as the two are the same, and those of the
+-- plain node with the rest.
+pub record Started (costs choices numbers : List ℕ) (row : Row) (keys : List ℕ) : Type 0 where
+  pub ready : KeysReady keys
+  pub one : getD keys 1 0 ≡ key (row .own) 0
+  pub copied : (c : ℕ) → 1 < c → c ≤ row .span
+      → getD keys c 0 ≡ key-at costs choices numbers (row .at + row .shift) (row .at + row .shift + c)
+  pub plain : (c : ℕ) → 1 < c → row .span < c → row .at + c ≤ row .end
+      → getD keys c 0 ≡ key (row .own) 0 + rest-key costs choices numbers (row .at + 1) (row .at + c)
 
 -- The first n keys are those of another row.
 pub record Copied (costs choices numbers : List ℕ) (j n : ℕ) (before after : List ℕ) : Type 0 where
@@ -103,71 +128,70 @@ pub record Copied (costs choices numbers : List ℕ) (j n : ℕ) (before after :
   pub low : (c : ℕ) → getD after c 0 ≤ top-key
   pub copied : (c : ℕ) → 0 < c → c ≤ n → getD after c 0 ≡ key-at costs choices numbers j (j + c)
 
--- The entries from `from` to n are those of the plain node with the rest, the ones before as they were.
-pub record Plainly (costs choices numbers : List ℕ) (i n own from : ℕ) (before after : List ℕ) : Type 0 where
+-- The keys of `from` and more siblings are those of the plain node with the rest, the ones before as they were.
+pub record Plainly (costs choices numbers : List ℕ) (row : Row) (from : ℕ) (before after : List ℕ) : Type 0 where
   pub long : length after ≡ length before
   pub low : (c : ℕ) → getD after c 0 ≤ top-key
   pub kept : (c : ℕ) → c < from → getD after c 0 ≡ getD before c 0
-  pub plain : (c : ℕ) → from ≤ c → c ≤ n → getD after c 0 ≡ key own 0 + rest-key costs choices numbers (i + 1) (i + c)
+  pub plain : (c : ℕ) → from ≤ c → row .at + c ≤ row .end
+      → getD after c 0 ≡ key (row .own) 0 + rest-key costs choices numbers (row .at + 1) (row .at + c)
 
 -- What a solved stretch of d siblings does to the keys of longer ones. It is followed by what is left where its key is that of a
 -- repeat that covers it,
-pub data Pushed (costs choices numbers : List ℕ) (i n d span k : ℕ) (before after : List ℕ) : Type 0 where
-  push : (from : ℕ) → d < from → span < from → ((c : ℕ) → d < c → span < c → from ≤ c) → cover k ≡ d
-      → Pushing costs choices numbers i n d k from before after → Pushed costs choices numbers i n d span k before after
-  pass : (cover k ≡ d → ⊥) → after ≡ before → Pushed costs choices numbers i n d span k before after
+pub data Pushed (costs choices numbers : List ℕ) (row : Row) (d k : ℕ) (before after : List ℕ) : Type 0 where
+  push : (from : ℕ) → d < from → row .span < from → ((c : ℕ) → d < c → row .span < c → from ≤ c) → cover k ≡ d
+      → Pushing costs choices numbers row d k from before after → Pushed costs choices numbers row d k before after
+  pass : (cover k ≡ d → ⊥) → after ≡ before → Pushed costs choices numbers row d k before after
 
 -- and repeated where that is allowed and siblings match.
-pub data Widened (limit : ℕ) (prices : List ℕ) (cost d match span : ℕ) (before after : List ℕ) : Type 0 where
-  offer : (from : ℕ) → 2 ≤ from → span < from * d → ((g : ℕ) → 2 ≤ g → g < from → g * d ≤ span) → d ≤ limit
-      → Offering prices cost d match from before after → Widened limit prices cost d match span before after
-  too-wide : limit < d → after ≡ before → Widened limit prices cost d match span before after
-  unlike : match < d → after ≡ before → Widened limit prices cost d match span before after
+pub data Widened (row : Row) (prices : List ℕ) (cost d match : ℕ) (before after : List ℕ) : Type 0 where
+  offer : (from : ℕ) → 2 ≤ from → row .span < from * d → ((g : ℕ) → 2 ≤ g → g < from → g * d ≤ row .span) → d ≤ row .limit
+      → Offering prices cost d match from before after → Widened row prices cost d match before after
+  too-wide : row .limit < d → after ≡ before → Widened row prices cost d match before after
+  unlike : match < d → after ≡ before → Widened row prices cost d match before after
 
-pub record Settled (costs choices numbers : List ℕ) (i n limit : ℕ) (prices : List ℕ) (d match span : ℕ) (before after : List ℕ) : Type 0 where
+pub record Settled (costs choices numbers : List ℕ) (row : Row) (prices : List ℕ) (d match : ℕ) (before after : List ℕ) : Type 0 where
   pub between : List ℕ
-  pub pushed : Pushed costs choices numbers i n d span (getD before d 0) before between
-  pub widened : Widened limit prices (cost-digit (getD before d 0)) d match span between after
+  pub pushed : Pushed costs choices numbers row d (getD before d 0) before between
+  pub widened : Widened row prices (cost-digit (getD before d 0)) d match between after
 
--- All that the search of the row of sibling i rests on.
-pub record RowReady (costs choices numbers : List ℕ) (i m own limit : ℕ) (prices same : List ℕ) : Type 0 where
+-- All that the search of a row rests on.
+pub record RowReady (costs choices numbers : List ℕ) (row : Row) (prices same : List ℕ) : Type 0 where
   pub tree : Forest
   pub allowed : Allowed
   pub prices-are : Prices
   pub base : ℕ
   pub run : Run allowed tree
-  pub count : siblings tree ≡ m
+  pub all : siblings tree ≡ row .end
   pub total : nodes tree ≤ 1024
-  pub some : i < m
-  pub limited : allowed .widest ≡ limit
+  pub some : row .at < row .end
+  pub limited : allowed .widest ≡ row .limit
   pub priced : Priced prices-are prices
   pub step-low : (l : ℕ) → prices-are .of-step l < 65536
   pub group-low : (l : ℕ) → prices-are .of-group l < 65536
   pub numbers-are : Numbered base tree numbers
-  pub rows-below : Entered allowed prices-are base tree (i + 1) costs choices
-  pub own-cost : own ≡ best-cost allowed prices-are (node i tree)
-  pub matches : Matches (back i tree) same
+  pub rows-below : Entered allowed prices-are base tree (row .at + 1) costs choices
+  pub own-cost : row .own ≡ best-cost allowed prices-are (node (row .at) tree)
+  pub matches : Matches (back (row .at) tree) same
 
 -- The keys of a row after the stretches of up to s siblings: those of up to `span` siblings are final.
-pub record Rowed {costs choices numbers : List ℕ} {i m own limit : ℕ} {prices same : List ℕ} (z : RowReady costs choices numbers i m own limit prices same)
-    (span s : ℕ) (keys : List ℕ) : Type 0 where
-  pub final : (n : ℕ) → 0 < n → n ≤ span → BestKey (z .allowed) (z .prices-are) (stretch (z .tree) i n) (getD keys n 0)
-  pub keyed : (n : ℕ) → 0 < n → i + n ≤ m → Keyed (z .allowed) (z .prices-are) (z .tree) i s n (getD keys n 0)
-
--- The keys as they may be worked on.
-pub record KeysReady (keys : List ℕ) : Type 0 where
-  pub long : length keys ≡ 1025
-  pub low : (c : ℕ) → getD keys c 0 ≤ top-key
+pub record Rowed {costs choices numbers : List ℕ} {row : Row} {prices same : List ℕ} (z : RowReady costs choices numbers row prices same) (s : ℕ)
+    (keys : List ℕ) : Type 0 where
+  pub final : (n : ℕ) → 0 < n → n ≤ row .span → BestKey (z .allowed) (z .prices-are) (stretch (z .tree) (row .at) n) (getD keys n 0)
+  pub keyed : (n : ℕ) → 0 < n → row .at + n ≤ row .end → Keyed (z .allowed) (z .prices-are) (z .tree) (row .at) s n (getD keys n 0)
 
 -- The stretches of up to s siblings have done their part, whatever tree and prices the row was asked for.
-pub record Advanced (costs choices numbers : List ℕ) (i m limit : ℕ) (prices same : List ℕ) (span s : ℕ) (before after : List ℕ) : Type 0 where
+pub record Advanced (costs choices numbers : List ℕ) (row : Row) (prices same : List ℕ) (s : ℕ) (before after : List ℕ) : Type 0 where
   pub ready : KeysReady after
-  pub rowed : (own : ℕ) (z : RowReady costs choices numbers i m own limit prices same) → Rowed z span 0 before → Rowed z span s after
+  pub rowed : (z : RowReady costs choices numbers row prices same) → Rowed z 0 before → Rowed z s after
 
--- The row is solved.
-pub record RowSolved {costs choices numbers : List ℕ} {i m own limit : ℕ} {prices same : List ℕ} (z : RowReady costs choices numbers i m own limit prices same)
-    (keys : List ℕ) : Type 0 where
-  pub solved : (n : ℕ) → 0 < n → i + n ≤ m → BestKey (z .allowed) (z .prices-are) (stretch (z .tree) i n) (getD keys n 0)
+-- The row is entered: its stretches have their entries, whatever tree and prices it was asked for, and no others have changed.
+pub record RowEntered (costs choices numbers : List ℕ) (row : Row) (prices same costs′ choices′ : List ℕ) : Type 0 where
+  pub entry : (z : RowReady costs choices numbers row prices same) → (d : ℕ) → 0 < d → row .at + d ≤ row .end
+      → Entry (z .allowed) (z .prices-are) (stretch (z .tree) (row .at) d) (entry-at costs′ numbers (row .at) (row .at + d))
+      (entry-at choices′ numbers (row .at) (row .at + d))
+  pub costs-kept : Stored numbers (row .at) (row .end - row .at) (λ d. entry-at costs′ numbers (row .at) (row .at + d)) costs costs′
+  pub choices-kept : Stored numbers (row .at) (row .end - row .at) (λ d. entry-at choices′ numbers (row .at) (row .at + d)) choices choices′
 
 -- What growing the matches from sibling i + 1 to sibling i does.
 pub record Growing (kinds : List ℕ) (i m : ℕ) (before after : List ℕ) : Type 0 where

@@ -1,29 +1,25 @@
 // The keys of one row: where they come from before any repeat is offered, and what a solved stretch does to those of longer ones.
+use crate::row::Row;
 use table::choice_of;
 use table::key_at;
 use table::key_of;
 use table::rest_key;
 ghost use mathlib.Core.Path.{_≡_};
 ghost use mathlib.Core.Logic.{_⊎_};
-ghost use Prim.Native.Nat.{ℕ, _+_, _<_, _≤_};
-ghost use lib.ListN.{length, getD};
+ghost use Prim.Native.Nat.{_+_, _<_, _≤_};
+ghost use lib.ListN.{length};
 ghost use Rattle.table.specs.Table.{Falling};
 ghost use Rattle.table.specs.Keys.{cost-digit};
-ghost use Rattle.solver.specs.Rows.{top-key, top-price, cost-base, Copied, Plainly, Offering, Pushing};
+ghost use Rattle.solver.specs.Rows.{top-key, RowFits, KeysReady, PricesReady, Copied, Plainly, Offering, Pushing};
 
-// Takes over the keys of the stretches of 1 to n siblings from sibling j on.
-pub fn copy_row(
-    costs: &[u32],
-    choices: &[u32],
-    numbers: &[usize],
-    j: usize,
-    n: usize,
-    keys: &mut [u64],
-)
-    requires { ⌜ Falling (now numbers) (j + n) (length (now costs)) × Falling (now numbers) (j + n) (length (now choices)) ⌝ }
-    requires { ⌜ (length (now keys) ≡ 1025) × (n ≤ 1024) × ((c : ℕ) → getD (now keys) c 0 ≤ top-key) ⌝ }
-    ensures { λ _. ⌜ Copied (now (costs .entry)) (now (choices .entry)) (now (numbers .entry)) j n (now (keys .entry)) (now (keys .exit)) ⌝ }
+// Takes over the keys of the row that serves as far as siblings match.
+pub fn copy_row(costs: &[u32], choices: &[u32], numbers: &[usize], row: Row, keys: &mut [u64])
+    requires { ⌜ Falling (now numbers) (row .end) (length (now costs)) × Falling (now numbers) (row .end) (length (now choices)) ⌝ }
+    requires { ⌜ RowFits row × KeysReady (now keys) ⌝ }
+    ensures { λ _. ⌜ Copied (now (costs .entry)) (now (choices .entry)) (now (numbers .entry)) (row .at + row .shift) (row .span) (now (keys .entry)) (now (keys .exit)) ⌝ }
 {
+    let j = row.at + row.shift;
+    let n = row.span;
     let q = numbers[j];
     let mut d = 1;
     while d <= n {
@@ -32,27 +28,25 @@ pub fn copy_row(
     }
 }
 
-// The plain node, which costs `own`, with what follows it, for the stretches of `from` to n siblings.
+// The plain node with what follows it, for the stretches of `from` and more siblings.
 pub fn plain_row(
     costs: &[u32],
     choices: &[u32],
     numbers: &[usize],
-    i: usize,
-    n: usize,
-    own: u64,
+    row: Row,
     from: usize,
     keys: &mut [u64],
 )
-    requires { ⌜ Falling (now numbers) (i + n) (length (now costs)) × Falling (now numbers) (i + n) (length (now choices)) ⌝ }
-    requires { ⌜ (length (now keys) ≡ 1025) × (n ≤ 1024) × ((c : ℕ) → getD (now keys) c 0 ≤ top-key) ⌝ }
-    requires { ⌜ (own < cost-base) × (2 ≤ from) × (from ≤ 1025) × (0 < n) ⌝ }
-    ensures { λ _. ⌜ Plainly (now (costs .entry)) (now (choices .entry)) (now (numbers .entry)) i n own from (now (keys .entry)) (now (keys .exit)) ⌝ }
+    requires { ⌜ Falling (now numbers) (row .end) (length (now costs)) × Falling (now numbers) (row .end) (length (now choices)) ⌝ }
+    requires { ⌜ RowFits row × KeysReady (now keys) × (2 ≤ from) × (from ≤ 1025) ⌝ }
+    ensures { λ _. ⌜ Plainly (now (costs .entry)) (now (choices .entry)) (now (numbers .entry)) row from (now (keys .entry)) (now (keys .exit)) ⌝ }
 {
-    let q = numbers[i + 1];
-    let plain = key_of(own, 0);
+    let n = row.end - row.at;
+    let q = numbers[row.at + 1];
+    let plain = key_of(row.own, 0);
     let mut d = from;
     while d <= n {
-        keys[d] = plain + rest_key(costs, choices, numbers, q, i + d);
+        keys[d] = plain + rest_key(costs, choices, numbers, q, row.at + d);
         d += 1;
     }
 }
@@ -66,26 +60,29 @@ pub fn lesser(a: u64, b: u64) -> u64
     b
 }
 
-// Offers the repeat that covers c siblings at the key k, what follows it added, to the stretches of `from` to n siblings.
+// Offers the repeat that covers c siblings at the key k, what follows it added, to the stretches of `from` and more siblings.
 pub fn push(
     costs: &[u32],
     choices: &[u32],
     numbers: &[usize],
-    i: usize,
-    n: usize,
+    row: Row,
     c: usize,
     k: u64,
     from: usize,
     keys: &mut [u64],
 )
-    requires { ⌜ Falling (now numbers) (i + n) (length (now costs)) × Falling (now numbers) (i + n) (length (now choices)) ⌝ }
-    requires { ⌜ (length (now keys) ≡ 1025) × (n ≤ 1024) × (c < from) × (from ≤ 1025) × (k ≤ top-key) × (c ≤ n) ⌝ }
-    ensures { λ _. ⌜ Pushing (now (costs .entry)) (now (choices .entry)) (now (numbers .entry)) i n c k from (now (keys .entry)) (now (keys .exit)) ⌝ }
+    requires { ⌜ Falling (now numbers) (row .end) (length (now costs)) × Falling (now numbers) (row .end) (length (now choices)) ⌝ }
+    requires { ⌜ RowFits row × KeysReady (now keys) × (row .at + c ≤ row .end) × (k ≤ top-key) × (c < from) × (from ≤ 1025) ⌝ }
+    ensures { λ _. ⌜ Pushing (now (costs .entry)) (now (choices .entry)) (now (numbers .entry)) row c k from (now (keys .entry)) (now (keys .exit)) ⌝ }
 {
-    let q = numbers[i + c];
+    let n = row.end - row.at;
+    let q = numbers[row.at + c];
     let mut d = from;
     while d <= n {
-        keys[d] = lesser(k + rest_key(costs, choices, numbers, q, i + d), keys[d]);
+        keys[d] = lesser(
+            k + rest_key(costs, choices, numbers, q, row.at + d),
+            keys[d],
+        );
         d += 1;
     }
 }
@@ -93,8 +90,7 @@ pub fn push(
 // Offers the repeats of width d, of which `span` siblings match the one d further, at the covers that they have, from the count
 // `from` on.
 pub fn offer(prices: &[u64], cost: u64, d: usize, span: usize, from: usize, keys: &mut [u64])
-    requires { ⌜ (length (now prices) ≡ 1025) × (length (now keys) ≡ 1025) ⌝ }
-    requires { ⌜ ((h : ℕ) → getD (now prices) h 0 ≤ top-price) ⌝ }
+    requires { ⌜ PricesReady (now prices) × KeysReady (now keys) ⌝ }
     requires { ⌜ (cost ≤ cost-digit top-key) × (0 < d) × (span + d ≤ 1024) × (2 ≤ from) × (from ≤ 1025) ⌝ }
     ensures { λ _. ⌜ Offering (now (prices .entry)) cost d span from (now (keys .entry)) (now (keys .exit)) ⌝ }
 {

@@ -2,6 +2,6 @@
 mod keys;
 mod row;
 
+pub use row::Row;
+pub use row::enter_row;
 pub use row::grow;
-pub use row::solve;
-pub use row::start_row;

@@ -6,12 +6,23 @@ use crate::keys::push;
 use table::cost_digit;
 use table::covered;
 use table::key_of;
+use table::store_row;
 ghost use mathlib.Core.Path.{_≡_};
 ghost use Prim.Native.Nat.{ℕ, _+_, _-_, _*_, _<_, _≤_};
 ghost use lib.ListN.{length, getD};
-ghost use Rattle.format.specs.Forest.{siblings};
-ghost use Rattle.solver.specs.Rows.{top-price, cost-base, Growing, KeysReady, Started, Settled, Advanced};
+ghost use Rattle.solver.specs.Rows.{Growing, KeysReady, PricesReady, RowFits, Shifted, RowReady, Started, Settled, Advanced, RowEntered};
 ghost use Rattle.table.specs.Table.{Falling};
+
+// A row: the stretches that begin at sibling `at` of the `end` siblings of a sequence, in which no repeat is wider than `limit`. The
+// sibling costs `own` by itself. The first `span` siblings are those from `shift` further on, and at no width do more match.
+pub struct Row {
+    pub at: usize,
+    pub end: usize,
+    pub limit: usize,
+    pub own: u64,
+    pub shift: usize,
+    pub span: usize,
+}
 
 // One more than k where two siblings are equal, else none.
 fn longer(a: usize, b: usize, k: usize) -> usize
@@ -50,31 +61,15 @@ pub fn grow(kinds: &[usize], i: usize, m: usize, matches: &mut [usize]) -> usize
     most
 }
 
-// The keys of the row of sibling i before any repeat is offered. Its first `span` siblings are those of sibling i + w, so the keys
-// of that row serve that far.
-pub fn start_row(
-    costs: &[u32],
-    choices: &[u32],
-    numbers: &[usize],
-    i: usize,
-    m: usize,
-    own: u64,
-    w: usize,
-    span: usize,
-    keys: &mut [u64],
-)
-    requires { ⌜ Falling (now numbers) m (length (now costs)) × Falling (now numbers) m (length (now choices)) ⌝ }
-    requires { ⌜ KeysReady (now keys) ⌝ }
-    requires { ⌜ (m ≤ 1024) × (own < cost-base) × (i + w + span ≤ m) × (i < m) ⌝ }
-    ensures { λ _. ⌜ Started (now (costs .entry)) (now (choices .entry)) (now (numbers .entry)) i (m - i) own w span (now (keys .exit)) ⌝ }
+// The keys of a row before any repeat is offered.
+fn start_row(costs: &[u32], choices: &[u32], numbers: &[usize], row: Row, keys: &mut [u64])
+    requires { ⌜ Falling (now numbers) (row .end) (length (now costs)) × Falling (now numbers) (row .end) (length (now choices)) ⌝ }
+    requires { ⌜ RowFits row × KeysReady (now keys) ⌝ }
+    ensures { λ _. ⌜ Started (now (costs .entry)) (now (choices .entry)) (now (numbers .entry)) row (now (keys .exit)) ⌝ }
 {
-    copy_row(costs, choices, numbers, i + w, span, keys);
-    keys[1] = key_of(own, 0);
-    let mut from = span + 1;
-    if span == 0 {
-        from = 2;
-    }
-    plain_row(costs, choices, numbers, i, m - i, own, from, keys);
+    copy_row(costs, choices, numbers, row, keys);
+    keys[1] = key_of(row.own, 0);
+    plain_row(costs, choices, numbers, row, past(1, row.span), keys);
 }
 
 // The first number above both.
@@ -115,20 +110,16 @@ fn settle(
     costs: &[u32],
     choices: &[u32],
     numbers: &[usize],
-    i: usize,
-    m: usize,
-    limit: usize,
+    row: Row,
     prices: &[u64],
     d: usize,
     matched: usize,
-    span: usize,
     keys: &mut [u64],
 )
-    requires { ⌜ Falling (now numbers) m (length (now costs)) × Falling (now numbers) m (length (now choices)) ⌝ }
-    requires { ⌜ KeysReady (now keys) × (length (now prices) ≡ 1025) × ((h : ℕ) → getD (now prices) h 0 ≤ top-price) ⌝ }
-    requires { ⌜ (m ≤ 1024) × (0 < d) × (i + d + matched ≤ m) × (span ≤ 1024) ⌝ }
+    requires { ⌜ Falling (now numbers) (row .end) (length (now costs)) × Falling (now numbers) (row .end) (length (now choices)) ⌝ }
+    requires { ⌜ RowFits row × KeysReady (now keys) × PricesReady (now prices) × (0 < d) × (row .at + d + matched ≤ row .end) ⌝ }
     ensures low { λ _. ⌜ KeysReady (now (keys .exit)) ⌝ }
-    ensures settled { λ _. ⌜ Settled (now (costs .entry)) (now (choices .entry)) (now (numbers .entry)) i (m - i) limit (now (prices .entry)) d matched span (now (keys .entry)) (now (keys .exit)) ⌝ }
+    ensures settled { λ _. ⌜ Settled (now (costs .entry)) (now (choices .entry)) (now (numbers .entry)) row (now (prices .entry)) d matched (now (keys .entry)) (now (keys .exit)) ⌝ }
 {
     let key = keys[d];
     if covered(key) == d {
@@ -136,21 +127,20 @@ fn settle(
             costs,
             choices,
             numbers,
-            i,
-            m - i,
+            row,
             d,
             key,
-            past(d, span),
+            past(d, row.span),
             keys,
         );
     }
-    if d <= matched_within(d, limit, matched) {
+    if d <= matched_within(d, row.limit, matched) {
         offer(
             prices,
             cost_digit(key),
             d,
             matched,
-            count_past(d, span),
+            count_past(d, row.span),
             keys,
         );
     }
@@ -165,43 +155,47 @@ fn smaller(a: usize, b: usize) -> usize
     b
 }
 
-// Solves the row of sibling i, stretch by stretch. At no width do more than `span` siblings match, so no repeat covers more than
-// twice as many, and longer stretches have nothing to offer.
-pub fn solve(
+// Solves a row, stretch by stretch. At no width do more than `span` siblings match, so no repeat covers more than twice as many, and
+// longer stretches have nothing to offer.
+fn solve(
     costs: &[u32],
     choices: &[u32],
     numbers: &[usize],
-    i: usize,
-    m: usize,
-    limit: usize,
+    row: Row,
     prices: &[u64],
     matches: &[usize],
-    span: usize,
     keys: &mut [u64],
 )
-    requires { ⌜ Falling (now numbers) m (length (now costs)) × Falling (now numbers) m (length (now choices)) ⌝ }
-    requires { ⌜ KeysReady (now keys) × (length (now prices) ≡ 1025) × ((h : ℕ) → getD (now prices) h 0 ≤ top-price) ⌝ }
-    requires { ⌜ (m ≤ 1024) × (i < m) × (length (now matches) ≡ 1025) × (span ≤ 1024) ⌝ }
-    requires { ⌜ ((w : ℕ) → 0 < w → i + w ≤ m → getD (now matches) w 0 ≤ span) ⌝ }
-    requires { ⌜ ((w : ℕ) → 0 < w → i + w ≤ m → i + w + getD (now matches) w 0 ≤ m) ⌝ }
-    ensures { λ _. ⌜ Advanced (now (costs .entry)) (now (choices .entry)) (now (numbers .entry)) i m limit (now (prices .entry)) (now (matches .entry)) span (m - i) (now (keys .entry)) (now (keys .exit)) ⌝ }
+    requires { ⌜ Falling (now numbers) (row .end) (length (now costs)) × Falling (now numbers) (row .end) (length (now choices)) ⌝ }
+    requires { ⌜ RowFits row × KeysReady (now keys) × PricesReady (now prices) × Shifted row (now matches) ⌝ }
+    requires { ⌜ ((w : ℕ) → 0 < w → row .at + w ≤ row .end → row .at + w + getD (now matches) w 0 ≤ row .end) ⌝ }
+    ensures { λ _. ⌜ Advanced (now (costs .entry)) (now (choices .entry)) (now (numbers .entry)) row (now (prices .entry)) (now (matches .entry)) (row .end - row .at) (now (keys .entry)) (now (keys .exit)) ⌝ }
 {
-    let top = smaller(2 * span, m - i);
+    let top = smaller(2 * row.span, row.end - row.at);
     let mut d = 1;
     while d <= top {
-        settle(
-            costs,
-            choices,
-            numbers,
-            i,
-            m,
-            limit,
-            prices,
-            d,
-            matches[d],
-            span,
-            keys,
-        );
+        settle(costs, choices, numbers, row, prices, d, matches[d], keys);
         d += 1;
     }
+}
+
+// Solves a row and enters it in the table.
+pub fn enter_row(
+    costs: &mut [u32],
+    choices: &mut [u32],
+    numbers: &[usize],
+    row: Row,
+    prices: &[u64],
+    matches: &[usize],
+    keys: &mut [u64],
+)
+    requires { ⌜ Falling (now numbers) (row .end) (length (now costs)) × Falling (now numbers) (row .end) (length (now choices)) ⌝ }
+    requires { ⌜ KeysReady (now keys) × Shifted row (now matches) ⌝ }
+    requires { ⌜ RowReady (now costs) (now choices) (now numbers) row (now prices) (now matches) ⌝ }
+    ensures keys { λ _. ⌜ KeysReady (now (keys .exit)) ⌝ }
+    ensures entered { λ _. ⌜ RowEntered (now (costs .entry)) (now (choices .entry)) (now (numbers .entry)) row (now (prices .entry)) (now (matches .entry)) (now (costs .exit)) (now (choices .exit)) ⌝ }
+{
+    start_row(costs, choices, numbers, row, keys);
+    solve(costs, choices, numbers, row, prices, matches, keys);
+    store_row(costs, choices, numbers, row.at, row.end - row.at, keys);
 }

@@ -6,9 +6,9 @@ use native.Mathlib.Omega.{arith}
 use lib.ListN.{length}
 use borrow.Fn.Kinds.{In}
 use borrow.Fn.PlainCycle.{Measures, is, falls, and}
-use Rattle.filling.proofs.level.enter_tree.Reads as enter-tree
-use Rattle.filling.proofs.level.enter_tree.Kinds as enter-tree-kinds
-use Rattle.filling.proofs.level.+enter_tree.Lts-enter_tree as enter-tree-lts
+use Rattle.filling.proofs.level.enter_tree.Reads as reads
+use Rattle.filling.proofs.level.enter_tree.Kinds as kinds
+use Rattle.filling.proofs.level.+enter_tree.Lts-enter_tree as lts
 use Rattle.filling.proofs.level.enter_level.Reads as enter-level-reads
 use Rattle.table.proofs.count_nodes.Reads as count-nodes-reads
 use Rattle.reader.proofs.node_at.Reads as node-at-reads
@@ -20,184 +20,233 @@ use Rattle.filling.proofs.Recursion.{Through, Passing, Opening, through
 use Rattle.filling.proofs.level.+enter_tree.{statement}
 use Rattle.filling.proofs.level.+enter_tree.Tie.{close}
 
-abbrev μ-enter-tree : Measures 10 enter-tree-kinds.ps ℕ
-μ-enter-tree κs a = length (a .0 .now)
+abbrev μ-tree : Measures 10 kinds.ps ℕ
+μ-tree κs a = length (a .0 .now)
 
-abbrev enter-tree-at : ℕ → In 10 enter-tree-kinds.ps
-enter-tree-at t =
-    and 10 enter-tree-kinds.ps (is 10 enter-tree-kinds.ps μ-enter-tree t) enter-tree.Pre
+abbrev asked : ℕ → In 10 kinds.ps
+asked t = and 10 kinds.ps (is 10 kinds.ps μ-tree t) reads.Pre
 
-abbrev enter-tree-below : ℕ → In 10 enter-tree-kinds.ps
-enter-tree-below t =
-    and 10 enter-tree-kinds.ps (falls 10 enter-tree-kinds.ps _<_ μ-enter-tree t) enter-tree.Pre
+abbrev asked-below : ℕ → In 10 kinds.ps
+asked-below t = and 10 kinds.ps (falls 10 kinds.ps _<_ μ-tree t) reads.Pre
 
-abbrev calls : ℕ → enter-tree-lts.Claims
-calls t =
-    (count-nodes-reads.Asked, count-nodes-reads.Learnt, node-at-reads.Asked, node-at-reads.Learnt, enter-tree-below t, enter-tree.Post, enter-level-reads.Asked, enter-level-reads.Learnt)
+abbrev calls : ℕ → lts.Claims
+calls t = (
+  count-nodes-reads.Asked,
+  count-nodes-reads.Learnt,
+  node-at-reads.Asked,
+  node-at-reads.Learnt,
+  asked-below t,
+  reads.Post,
+  enter-level-reads.Asked,
+  enter-level-reads.Learnt,
+)
 
-abbrev enter-tree-Inv-loop : enter-tree-lts.InvT-loop
-enter-tree-Inv-loop s b table prices limit offsets₀ numbers₀ kinds₀ matches₀ keys₀ costs₀ choices₀ at₀ n₀ offsets numbers kinds matches keys costs choices at n =
-    Through (at-most limit) (prices-of table prices) s b costs₀ choices₀ costs choices at n × Scratch offsets numbers kinds matches keys
+abbrev Inv-loop : lts.InvT-loop
+Inv-loop s level table prices offsets₀ numbers₀ kinds₀ matches₀ keys₀ costs₀ choices₀ at₀ n₀ offsets numbers kinds matches keys costs choices at n =
+    Through (at-most (level .limit)) (prices-of table prices) s (level .behind) costs₀ choices₀ costs choices at n
+    × Scratch offsets numbers kinds matches keys
 
-abbrev enter-tree-μ-loop : enter-tree-lts.MeasureT-loop
-enter-tree-μ-loop s b table prices limit offsets₀ numbers₀ kinds₀ matches₀ keys₀ costs₀ choices₀ at₀ n₀ offsets numbers kinds matches keys costs choices at n =
+abbrev μ-loop : lts.MeasureT-loop
+μ-loop s level table prices offsets₀ numbers₀ kinds₀ matches₀ keys₀ costs₀ choices₀ at₀ n₀ offsets numbers kinds matches keys costs choices at n =
     length s - at
 
-enter-tree-count-nodes-requires : (t : ℕ) → enter-tree-lts.Need-count-nodes-requires (calls t) (enter-tree-at t) enter-tree.Post enter-tree-Inv-loop enter-tree-μ-loop
-enter-tree-count-nodes-requires t c κs = tt
+module _ (t : ℕ) where
+  -- The function's start, from the loop's head; the next sibling's part, from the branch that asks whether it is a group, either way.
+  abbrev start : lts.At-loop (calls t) (asked t) reads.Post Inv-loop μ-loop → lts.Start (calls t) (asked t) reads.Post Inv-loop μ-loop
+  start c = c .before .before .before .before .before .before .before .before .before .before .before .before .before
 
-enter-tree-add-n : (t : ℕ) → enter-tree-lts.Need-add-n (calls t) (enter-tree-at t) enter-tree.Post enter-tree-Inv-loop enter-tree-μ-loop
-enter-tree-add-n t c =
-    let l = c .before .before .before .before .before .before .before .before .before .before .before .pre .1 .0 in
-    omega (arith, c .count-nodes .ensures, spelled-count _ (l .spelled), l .total)
+  abbrev part : lts.After-count-nodes2 (calls t) (asked t) reads.Post Inv-loop μ-loop → lts.After-node-at (calls t) (asked t) reads.Post Inv-loop μ-loop
+  part c = c .before
 
-enter-tree-loop-holds : (t : ℕ) → enter-tree-lts.Need-loop-holds (calls t) (enter-tree-at t) enter-tree.Post enter-tree-Inv-loop enter-tree-μ-loop
-enter-tree-loop-holds t c =
-    let S = c .before .before .before .before .before .before .before .before .before .before .before in
-    let a = S .args in (
-      through-none (at-most (a .limit)) (prices-of (a .table .now) (a .prices .now)) (a .s .now) (S .pre .1 .0 .spelled) (a .b) (a .costs .now) (a .choices .now) _
-          (c .count-nodes .ensures .0),
-      S .pre .1 .1,
-    )
+  abbrev counted : lts.Then1 (calls t) (asked t) reads.Post Inv-loop μ-loop → lts.After-count-nodes2 (calls t) (asked t) reads.Post Inv-loop μ-loop
+  counted c = c .before .before
 
--- Where the part of the next sibling is known, and inside the branch for a group.
-passes : (t : ℕ) (c : enter-tree-lts.After-node-at (calls t) (enter-tree-at t) enter-tree.Post enter-tree-Inv-loop enter-tree-μ-loop)
-    → Passing (c .before .before .before .before .before .before .before .before .before .before .before .before .before .before .args .s .now) (c .before .before .loop .at) (c .before .before .loop .n) (c .node-at .result .now)
-passes t c =
-    passing (c .before .before .before .before .before .before .before .before .before .before .before .before .before .before .pre .1 .0) (c .before .before .loop .inv .0) (c .before .loop-test .taken) (c .node-at .result .now) (c .node-at .ensures)
+  -- From where a call is over: the branch that it was made in; and from where the level is entered: the end of the loop.
+  abbrev called : lts.After-enter-tree (calls t) (asked t) reads.Post Inv-loop μ-loop → lts.Then1 (calls t) (asked t) reads.Post Inv-loop μ-loop
+  called c = c .before .before .before .before .before .before .before .before .before
 
-opens : (t : ℕ) (c : enter-tree-lts.Then1 (calls t) (enter-tree-at t) enter-tree.Post enter-tree-Inv-loop enter-tree-μ-loop)
-    → (let S = c .before .before .before .before .before .before .before .before .before .before .before .before .before .before .before .before .before in
-    let L = c .before .before .before .before .before .loop in
-    Opening (S .args .s .now) (L .at) (L .n - c .before .before .count-nodes2 .result) (c .before .before .before .node-at .result .now) (S .args .limit) (S .args .table .now) (S .args .prices .now) (L .costs) (L .choices))
-opens t c =
-    let d = c .before .before .before in
-    opening (d .before .before .before .before .before .before .before .before .before .before .before .before .before .before .pre .1 .0) (d .before .before .loop .inv .0) (d .before .loop-test .taken) (d .node-at .result .now) (d .node-at .ensures) (c .if1 .taken) _
-    (c .before .before .count-nodes2 .ensures .0)
+  abbrev through : lts.After-enter-level (calls t) (asked t) reads.Post Inv-loop μ-loop → lts.After-loop (calls t) (asked t) reads.Post Inv-loop μ-loop
+  through c = c .before .before .before .before .before .before .before .before
 
-enter-tree-node-at-requires : (t : ℕ) → enter-tree-lts.Need-node-at-requires (calls t) (enter-tree-at t) enter-tree.Post enter-tree-Inv-loop enter-tree-μ-loop
-enter-tree-node-at-requires t c κs = tt
+  count-nodes-requires : lts.Need-count-nodes-requires (calls t) (asked t) reads.Post Inv-loop μ-loop
+  count-nodes-requires c κs = tt
 
-enter-tree-add-end : (t : ℕ) → enter-tree-lts.Need-add-end (calls t) (enter-tree-at t) enter-tree.Post enter-tree-Inv-loop enter-tree-μ-loop
-enter-tree-add-end t c = omega (arith, passes t c)
+  add-n : lts.Need-add-n (calls t) (asked t) reads.Post Inv-loop μ-loop
+  add-n c =
+      let l = c .before .before .before .before .before .before .before .before .before .before .before .before .pre .1 .0 in
+      omega (arith, c .before .count-nodes .ensures, spelled-count _ (l .spelled), l .total)
 
-enter-tree-count-nodes-requires-2 : (t : ℕ) → enter-tree-lts.Need-count-nodes-requires-2 (calls t) (enter-tree-at t) enter-tree.Post enter-tree-Inv-loop enter-tree-μ-loop
-enter-tree-count-nodes-requires-2 t c κs = tt
+  loop-holds : lts.Need-loop-holds (calls t) (asked t) reads.Post Inv-loop μ-loop
+  loop-holds c =
+      let S = c .before .before .before .before .before .before .before .before .before .before .before .before in
+      let a = S .args in
+      let A = at-most (a .level .limit) in
+      let P = prices-of (a .table .now) (a .prices .now) in (
+        through-none A P (a .s .now) (S .pre .1 .0 .spelled) (a .level .behind) (a .costs .now) (a .choices .now) _ (c .before .count-nodes .ensures .0),
+        S .pre .1 .1,
+      )
 
-enter-tree-sub-n : (t : ℕ) → enter-tree-lts.Need-sub-n (calls t) (enter-tree-at t) enter-tree.Post enter-tree-Inv-loop enter-tree-μ-loop
-enter-tree-sub-n t c = omega (arith, passes t (c .before), c .count-nodes2 .ensures)
+  -- Where the part of the next sibling is known, and inside the branch for a group.
+  passes : (c : lts.After-node-at (calls t) (asked t) reads.Post Inv-loop μ-loop)
+      → (let L = c .before .before in
+      Passing (start L .args .s .now) (L .loop .at) (L .loop .n) (c .node-at .result .now))
+  passes c =
+      let L = c .before .before in
+      passing (start L .pre .1 .0) (L .loop .inv .0) (c .before .loop-test .taken) (c .node-at .result .now) (c .node-at .ensures)
 
-enter-tree-shared-slice-read-if1 : (t : ℕ) → enter-tree-lts.Need-shared-slice-read-if1 (calls t) (enter-tree-at t) enter-tree.Post enter-tree-Inv-loop enter-tree-μ-loop
-enter-tree-shared-slice-read-if1 t c = omega arith
+  opens : (c : lts.Then1 (calls t) (asked t) reads.Post Inv-loop μ-loop)
+      → (let N = counted c in
+      let L = part N .before .before in
+      let a = start L .args in
+      Opening (a .s .now) (L .loop .at) (L .loop .n - N .count-nodes2 .result) (part N .node-at .result .now) (a .level .limit) (a .table .now)
+      (a .prices .now) (L .loop .costs) (L .loop .choices))
+  opens c =
+      let N = counted c in
+      let p = part N in
+      let L = p .before .before in
+      opening (start L .pre .1 .0) (L .loop .inv .0) (p .before .loop-test .taken) (p .node-at .result .now) (p .node-at .ensures) (c .if1 .taken) _
+      (N .count-nodes2 .ensures .0)
 
-enter-tree-add-enter-tree : (t : ℕ) → enter-tree-lts.Need-add-enter-tree (calls t) (enter-tree-at t) enter-tree.Post enter-tree-Inv-loop enter-tree-μ-loop
-enter-tree-add-enter-tree t c = omega (arith, passes t (c .before .before .before))
+  node-at-requires : lts.Need-node-at-requires (calls t) (asked t) reads.Post Inv-loop μ-loop
+  node-at-requires c κs = tt
 
-enter-tree-sub-enter-tree : (t : ℕ) → enter-tree-lts.Need-sub-enter-tree (calls t) (enter-tree-at t) enter-tree.Post enter-tree-Inv-loop enter-tree-μ-loop
-enter-tree-sub-enter-tree t c = omega (arith, passes t (c .before .before .before))
+  add-end : lts.Need-add-end (calls t) (asked t) reads.Post Inv-loop μ-loop
+  add-end c = omega (arith, passes c)
 
-enter-tree-sub-enter-tree-2 : (t : ℕ) → enter-tree-lts.Need-sub-enter-tree-2 (calls t) (enter-tree-at t) enter-tree.Post enter-tree-Inv-loop enter-tree-μ-loop
-enter-tree-sub-enter-tree-2 t c = omega (arith, opens t c .long)
+  count-nodes-requires-2 : lts.Need-count-nodes-requires-2 (calls t) (asked t) reads.Post Inv-loop μ-loop
+  count-nodes-requires-2 c κs = tt
 
-enter-tree-part-enter-tree-start : (t : ℕ) → enter-tree-lts.Need-part-enter-tree-start (calls t) (enter-tree-at t) enter-tree.Post enter-tree-Inv-loop enter-tree-μ-loop
-enter-tree-part-enter-tree-start t c = omega (arith, opens t c .long)
+  sub-n : lts.Need-sub-n (calls t) (asked t) reads.Post Inv-loop μ-loop
+  sub-n c = omega (arith, passes (part c), c .count-nodes2 .ensures)
 
-enter-tree-part-enter-tree-end : (t : ℕ) → enter-tree-lts.Need-part-enter-tree-end (calls t) (enter-tree-at t) enter-tree.Post enter-tree-Inv-loop enter-tree-μ-loop
-enter-tree-part-enter-tree-end t c = omega (arith, passes t (c .before .before .before))
+  shared-slice-read-if1 : lts.Need-shared-slice-read-if1 (calls t) (asked t) reads.Post Inv-loop μ-loop
+  shared-slice-read-if1 c = omega arith
 
-enter-tree-enter-tree-requires : (t : ℕ) → enter-tree-lts.Need-enter-tree-requires (calls t) (enter-tree-at t) enter-tree.Post enter-tree-Inv-loop enter-tree-μ-loop
-enter-tree-enter-tree-requires t c κs =
-    let g = c .before .before .before .before .before .before .before .before in
-    let o = opens t g in
-    (omega (arith, o .shorter, g .before .before .before .before .before .before .before .before .before .before .before .before .before .before .before .before .before .pre .0), (o .ready, g .before .before .before .before .before .loop .inv .1))
+  add-enter-tree : lts.Need-add-enter-tree (calls t) (asked t) reads.Post Inv-loop μ-loop
+  add-enter-tree c = omega (arith, passes (part (counted c)))
 
-enter-tree-loop-less : (t : ℕ) → enter-tree-lts.Need-loop-less (calls t) (enter-tree-at t) enter-tree.Post enter-tree-Inv-loop enter-tree-μ-loop
-enter-tree-loop-less t c = omega (arith, passes t (c .before .before .before .before .before .before .before .before .before .before .before .before .before .before .before .before .before .before .before .before .before .before .before .before .before .before))
+  sub-enter-tree : lts.Need-sub-enter-tree (calls t) (asked t) reads.Post Inv-loop μ-loop
+  sub-enter-tree c = omega (arith, passes (part (counted c)))
 
-enter-tree-loop-again : (t : ℕ) → enter-tree-lts.Need-loop-again (calls t) (enter-tree-at t) enter-tree.Post enter-tree-Inv-loop enter-tree-μ-loop
-enter-tree-loop-again t c =
-    let g = c .before .before .before .before .before .before .before .before .before .before .before .before .before .before .before .before .before .before .before .before .before .before .before in
-    let d = g .before .before .before in
-    let e = c .before .before .before .before .before .before .before .before .before .before .before .before .before .before .enter-tree .ensures in (
-      through-group (d .before .before .before .before .before .before .before .before .before .before .before .before .before .before .pre .1 .0) (d .before .before .loop .inv .0) (d .before .loop-test .taken) (d .node-at .result .now) (d .node-at .ensures) (g .if1 .taken) _ _ _
-          (g .before .before .count-nodes2 .ensures .0) (e .1 .0) (e .1 .1 .0) (e .1 .1 .1),
-      e .0,
-    )
+  sub-enter-tree-2 : lts.Need-sub-enter-tree-2 (calls t) (asked t) reads.Post Inv-loop μ-loop
+  sub-enter-tree-2 c = omega (arith, opens c .long)
 
-enter-tree-loop-less-2 : (t : ℕ) → enter-tree-lts.Need-loop-less-2 (calls t) (enter-tree-at t) enter-tree.Post enter-tree-Inv-loop enter-tree-μ-loop
-enter-tree-loop-less-2 t c = omega (arith, passes t (c .before .before .before))
+  part-enter-tree-start : lts.Need-part-enter-tree-start (calls t) (asked t) reads.Post Inv-loop μ-loop
+  part-enter-tree-start c = omega (arith, opens c .long)
 
-enter-tree-loop-again-2 : (t : ℕ) → enter-tree-lts.Need-loop-again-2 (calls t) (enter-tree-at t) enter-tree.Post enter-tree-Inv-loop enter-tree-μ-loop
-enter-tree-loop-again-2 t c =
-    let d = c .before .before .before in (
-      through-step (d .before .before .before .before .before .before .before .before .before .before .before .before .before .before .pre .1 .0) (d .before .before .loop .inv .0) (d .before .loop-test .taken) (d .node-at .result .now) (d .node-at .ensures) (c .if1 .left) _
-          (c .before .before .count-nodes2 .ensures .0),
-      d .before .before .loop .inv .1,
-    )
+  part-enter-tree-end : lts.Need-part-enter-tree-end (calls t) (asked t) reads.Post Inv-loop μ-loop
+  part-enter-tree-end c = omega (arith, passes (part (counted c)))
 
-enter-tree-enter-level-requires : (t : ℕ) → enter-tree-lts.Need-enter-level-requires (calls t) (enter-tree-at t) enter-tree.Post enter-tree-Inv-loop enter-tree-μ-loop
-enter-tree-enter-level-requires t c κs =
-    let w = c .before .before .before .before .before .before .before .before .loop .inv in
-    let l = c .before .before .before .before .before .before .before .before .before .before .before .before .before .before .before .before .before .before .before .before .pre .1 .0 in
-    (through-ready l (w .0), (through-all l (w .0) (c .before .before .before .before .before .before .before .loop-test .left), w .1))
+  enter-tree-requires : lts.Need-enter-tree-requires (calls t) (asked t) reads.Post Inv-loop μ-loop
+  enter-tree-requires c κs =
+      let g = c .before .before .before .before .before .before .before .before in
+      let o = opens g in
+      let L = part (counted g) .before .before in
+      (omega (arith, o .shorter, start L .pre .0), (o .ready, L .loop .inv .1))
 
-enter-tree-returns : (t : ℕ) → enter-tree-lts.Need-returns (calls t) (enter-tree-at t) enter-tree.Post enter-tree-Inv-loop enter-tree-μ-loop
-enter-tree-returns t c =
-    let e = c .before .before .before .before .before .before .before .before .before .before .before .before .before .before .enter-level .ensures in
-    let w = c .before .before .before .before .before .before .before .before .before .before .before .before .before .before .before .before .before .before .before .before .before .before .before .loop .inv .0 in
-    (e .0, (e .1 .0, (kept-then _ _ _ _ _ (w .kept-costs) (e .1 .1 .0), kept-then _ _ _ _ _ (w .kept-choices) (e .1 .1 .1))))
+  loop-less : lts.Need-loop-less (calls t) (asked t) reads.Post Inv-loop μ-loop
+  loop-less c =
+      let E = c .before .before .before .before .before .before .before .before .before .before .before .before .before .before in
+      omega (arith, passes (part (counted (called E))))
 
-enter-tree-same-length : (t : ℕ) → enter-tree-lts.Need-same-length (calls t) (enter-tree-at t) enter-tree.Post enter-tree-Inv-loop enter-tree-μ-loop
-enter-tree-same-length t c = enter-tree-returns t c .0 .long-offsets ∙ sym (c .before .before .before .before .before .before .before .before .before .before .before .before .before .before .before .before .before .before .before .before .before .before .before .before .before .before .before .before .before .before .before .before .before .before .before .pre .1 .1 .long-offsets)
+  loop-again : lts.Need-loop-again (calls t) (asked t) reads.Post Inv-loop μ-loop
+  loop-again c =
+      let E = c .before .before .before .before .before .before .before .before .before .before .before .before .before .before in
+      let e = E .enter-tree .ensures in
+      let g = called E in
+      let N = counted g in
+      let p = part N in
+      let L = p .before .before in (
+        through-group (start L .pre .1 .0) (L .loop .inv .0) (p .before .loop-test .taken) (p .node-at .result .now) (p .node-at .ensures) (g .if1 .taken)
+            _ _ _ (N .count-nodes2 .ensures .0) (e .1 .0) (e .1 .1 .0) (e .1 .1 .1),
+        e .0,
+      )
 
-enter-tree-same-length-2 : (t : ℕ) → enter-tree-lts.Need-same-length-2 (calls t) (enter-tree-at t) enter-tree.Post enter-tree-Inv-loop enter-tree-μ-loop
-enter-tree-same-length-2 t c = enter-tree-returns t c .0 .long-numbers ∙ sym (c .before .before .before .before .before .before .before .before .before .before .before .before .before .before .before .before .before .before .before .before .before .before .before .before .before .before .before .before .before .before .before .before .before .before .before .pre .1 .1 .long-numbers)
+  loop-less-2 : lts.Need-loop-less-2 (calls t) (asked t) reads.Post Inv-loop μ-loop
+  loop-less-2 c = omega (arith, passes (part (c .before .before)))
 
-enter-tree-same-length-3 : (t : ℕ) → enter-tree-lts.Need-same-length-3 (calls t) (enter-tree-at t) enter-tree.Post enter-tree-Inv-loop enter-tree-μ-loop
-enter-tree-same-length-3 t c = enter-tree-returns t c .0 .long-kinds ∙ sym (c .before .before .before .before .before .before .before .before .before .before .before .before .before .before .before .before .before .before .before .before .before .before .before .before .before .before .before .before .before .before .before .before .before .before .before .pre .1 .1 .long-kinds)
+  loop-again-2 : lts.Need-loop-again-2 (calls t) (asked t) reads.Post Inv-loop μ-loop
+  loop-again-2 c =
+      let N = c .before .before in
+      let p = part N in
+      let L = p .before .before in (
+        through-step (start L .pre .1 .0) (L .loop .inv .0) (p .before .loop-test .taken) (p .node-at .result .now) (p .node-at .ensures) (c .if1 .left)
+            _ (N .count-nodes2 .ensures .0),
+        L .loop .inv .1,
+      )
 
-enter-tree-same-length-4 : (t : ℕ) → enter-tree-lts.Need-same-length-4 (calls t) (enter-tree-at t) enter-tree.Post enter-tree-Inv-loop enter-tree-μ-loop
-enter-tree-same-length-4 t c = enter-tree-returns t c .0 .long-matches ∙ sym (c .before .before .before .before .before .before .before .before .before .before .before .before .before .before .before .before .before .before .before .before .before .before .before .before .before .before .before .before .before .before .before .before .before .before .before .pre .1 .1 .long-matches)
+  enter-level-requires : lts.Need-enter-level-requires (calls t) (asked t) reads.Post Inv-loop μ-loop
+  enter-level-requires c κs =
+      let R = c .before .before .before .before .before .before .before in
+      let w = R .before .loop .inv in
+      let l = start (R .before) .pre .1 .0 in
+      (through-ready l (w .0), (through-all l (w .0) (R .loop-test .left), w .1))
 
-enter-tree-same-length-5 : (t : ℕ) → enter-tree-lts.Need-same-length-5 (calls t) (enter-tree-at t) enter-tree.Post enter-tree-Inv-loop enter-tree-μ-loop
-enter-tree-same-length-5 t c = enter-tree-returns t c .0 .keys-ready .long ∙ sym (c .before .before .before .before .before .before .before .before .before .before .before .before .before .before .before .before .before .before .before .before .before .before .before .before .before .before .before .before .before .before .before .before .before .before .before .pre .1 .1 .keys-ready .long)
+  -- The level entered, from where the function returns.
+  abbrev entered : lts.After-slice-known21 (calls t) (asked t) reads.Post Inv-loop μ-loop → lts.After-enter-level (calls t) (asked t) reads.Post Inv-loop μ-loop
+  entered c = c .before .before .before .before .before .before .before .before .before .before .before .before .before .before
 
-enter-tree-same-length-6 : (t : ℕ) → enter-tree-lts.Need-same-length-6 (calls t) (enter-tree-at t) enter-tree.Post enter-tree-Inv-loop enter-tree-μ-loop
-enter-tree-same-length-6 t c = enter-tree-returns t c .1 .1 .0 .same-length
+  returns : lts.Need-returns (calls t) (asked t) reads.Post Inv-loop μ-loop
+  returns c =
+      let e = entered c .enter-level .ensures in
+      let w = through (entered c) .before .loop .inv .0 in
+      (e .0, (e .1 .0, (kept-then _ _ _ _ _ (w .kept-costs) (e .1 .1 .0), kept-then _ _ _ _ _ (w .kept-choices) (e .1 .1 .1))))
 
-enter-tree-same-length-7 : (t : ℕ) → enter-tree-lts.Need-same-length-7 (calls t) (enter-tree-at t) enter-tree.Post enter-tree-Inv-loop enter-tree-μ-loop
-enter-tree-same-length-7 t c = enter-tree-returns t c .1 .1 .1 .same-length
+  -- The lent arrays at the start.
+  abbrev lent : lts.After-slice-known21 (calls t) (asked t) reads.Post Inv-loop μ-loop → lts.Start (calls t) (asked t) reads.Post Inv-loop μ-loop
+  lent c = start (through (entered c) .before)
+
+  same-length : lts.Need-same-length (calls t) (asked t) reads.Post Inv-loop μ-loop
+  same-length c = returns c .0 .long-offsets ∙ sym (lent c .pre .1 .1 .long-offsets)
+
+  same-length-2 : lts.Need-same-length-2 (calls t) (asked t) reads.Post Inv-loop μ-loop
+  same-length-2 c = returns c .0 .long-numbers ∙ sym (lent c .pre .1 .1 .long-numbers)
+
+  same-length-3 : lts.Need-same-length-3 (calls t) (asked t) reads.Post Inv-loop μ-loop
+  same-length-3 c = returns c .0 .long-kinds ∙ sym (lent c .pre .1 .1 .long-kinds)
+
+  same-length-4 : lts.Need-same-length-4 (calls t) (asked t) reads.Post Inv-loop μ-loop
+  same-length-4 c = returns c .0 .long-matches ∙ sym (lent c .pre .1 .1 .long-matches)
+
+  same-length-5 : lts.Need-same-length-5 (calls t) (asked t) reads.Post Inv-loop μ-loop
+  same-length-5 c = returns c .0 .keys-ready .long ∙ sym (lent c .pre .1 .1 .keys-ready .long)
+
+  same-length-6 : lts.Need-same-length-6 (calls t) (asked t) reads.Post Inv-loop μ-loop
+  same-length-6 c = returns c .1 .1 .0 .same-length
+
+  same-length-7 : lts.Need-same-length-7 (calls t) (asked t) reads.Post Inv-loop μ-loop
+  same-length-7 c = returns c .1 .1 .1 .same-length
 
 pub +enter-tree-spec : {M : Type 1} → statement M
-+enter-tree-spec = close μ-enter-tree λ t. enter-tree-lts.spec (calls t)
-    (enter-tree-at t)
-    enter-tree.Post
-    enter-tree-Inv-loop
-    enter-tree-μ-loop
-    (enter-tree-count-nodes-requires t)
-    (enter-tree-add-n t)
-    (enter-tree-loop-holds t)
-    (enter-tree-node-at-requires t)
-    (enter-tree-add-end t)
-    (enter-tree-count-nodes-requires-2 t)
-    (enter-tree-sub-n t)
-    (enter-tree-shared-slice-read-if1 t)
-    (enter-tree-add-enter-tree t)
-    (enter-tree-sub-enter-tree t)
-    (enter-tree-sub-enter-tree-2 t)
-    (enter-tree-part-enter-tree-start t)
-    (enter-tree-part-enter-tree-end t)
-    (enter-tree-enter-tree-requires t)
-    (enter-tree-loop-less t)
-    (enter-tree-loop-again t)
-    (enter-tree-loop-less-2 t)
-    (enter-tree-loop-again-2 t)
-    (enter-tree-enter-level-requires t)
-    (enter-tree-same-length t)
-    (enter-tree-same-length-2 t)
-    (enter-tree-same-length-3 t)
-    (enter-tree-same-length-4 t)
-    (enter-tree-same-length-5 t)
-    (enter-tree-same-length-6 t)
-    (enter-tree-same-length-7 t)
-    (enter-tree-returns t)
++enter-tree-spec = close μ-tree λ t. lts.spec (calls t)
+    (asked t)
+    reads.Post
+    Inv-loop
+    μ-loop
+    (count-nodes-requires t)
+    (add-n t)
+    (loop-holds t)
+    (node-at-requires t)
+    (add-end t)
+    (count-nodes-requires-2 t)
+    (sub-n t)
+    (shared-slice-read-if1 t)
+    (add-enter-tree t)
+    (sub-enter-tree t)
+    (sub-enter-tree-2 t)
+    (part-enter-tree-start t)
+    (part-enter-tree-end t)
+    (enter-tree-requires t)
+    (loop-less t)
+    (loop-again t)
+    (loop-less-2 t)
+    (loop-again-2 t)
+    (enter-level-requires t)
+    (same-length t)
+    (same-length-2 t)
+    (same-length-3 t)
+    (same-length-4 t)
+    (same-length-5 t)
+    (same-length-6 t)
+    (same-length-7 t)
+    (returns t)

@@ -4,27 +4,37 @@ use mathlib.Core.Path.{_≡_, sym, _∙_}
 use Prim.Native.Nat.{_+_, _-_, _≤_}
 use native.Mathlib.Omega.{arith}
 use Rattle.solver.specs.Rows.{KeysReady}
-use Rattle.filling.proofs.Levels.{Descended, siblings-few, descended-none, row-asks, descended-more, level-filled, level-kept}
+use Rattle.filling.proofs.Levels.{Descended, siblings-few, descended-none, own-asks, row-asks, descended-more, level-filled, level-kept}
 use Rattle.filling.proofs.level.enter_level.Statement.{statement}
 use Rattle.filling.proofs.level.enter_level.Tie as tie
 
 abbrev Inv-loop : tie.InvT-loop
-Inv-loop s b table prices limit offsets numbers kinds matches₀ keys₀ costs₀ choices₀ m i₀ matches keys costs choices i =
-    (i ≤ m) × Descended s b limit table prices costs₀ choices₀ i costs choices matches × KeysReady keys
+Inv-loop s level table prices offsets numbers kinds matches₀ keys₀ costs₀ choices₀ m i₀ matches keys costs choices i =
+    (i ≤ m) × Descended s (level .behind) (level .limit) table prices costs₀ choices₀ i costs choices matches × KeysReady keys
 
 abbrev μ-loop : tie.MeasureT-loop
-μ-loop s b table prices limit offsets numbers kinds matches₀ keys₀ costs₀ choices₀ m i₀ matches keys costs choices i =
-    i
+μ-loop s level table prices offsets numbers kinds matches₀ keys₀ costs₀ choices₀ m i₀ matches keys costs choices i = i
 
--- From inside the loop: the function's start, and where its siblings were listed and classified.
-abbrev start : tie.In-loop Inv-loop μ-loop → tie.Start Inv-loop μ-loop
-start c = c .before .before .before .before .before .before .before .before .before .before .before .before .before .before .before .before .before .before .before .before .before .before .before .before
+-- From the loop's head: where the siblings were classified and listed, and the function's start.
+abbrev classed : tie.At-loop Inv-loop μ-loop → tie.After-classify Inv-loop μ-loop
+classed c = c .before .before .before
 
-abbrev listed : tie.In-loop Inv-loop μ-loop → tie.After-list-siblings Inv-loop μ-loop
-listed c = c .before .before .before .before .before .before .before .before .before .before .before
+abbrev listed : tie.At-loop Inv-loop μ-loop → tie.After-list-siblings Inv-loop μ-loop
+listed c = classed c .before .before .before .before .before .before .before
 
-abbrev classed : tie.In-loop Inv-loop μ-loop → tie.After-classify Inv-loop μ-loop
-classed c = c .before .before .before .before
+abbrev start : tie.At-loop Inv-loop μ-loop → tie.Start Inv-loop μ-loop
+start c = listed c .before .before .before .before .before .before .before .before .before .before .before .before .before
+
+-- From where the cost of the sibling is known: the width at which the most match, and the inside of the loop.
+abbrev grown : tie.After-own-cost Inv-loop μ-loop → tie.After-grow Inv-loop μ-loop
+grown c = c .before .before .before .before .before .before
+
+abbrev inside : tie.After-grow Inv-loop μ-loop → tie.In-loop Inv-loop μ-loop
+inside c = c .before .before .before
+
+-- The sibling is the one before those entered.
+next : (c : tie.In-loop Inv-loop μ-loop) → c .before .loop .i - 1 + 1 ≡ c .before .loop .i
+next c = omega (arith, c .loop-test .taken)
 
 list-siblings-requires : tie.Need-list-siblings-requires Inv-loop μ-loop
 list-siblings-requires c κs =
@@ -33,16 +43,16 @@ list-siblings-requires c κs =
 
 classify-requires : tie.Need-classify-requires Inv-loop μ-loop
 classify-requires c κs =
-    let p = c .before .before .before .before .before .before .before .before .before .before .before .before .before .before .before .before .before .before .before .pre in
-    let l = c .before .before .before .before .before .before .list-siblings .ensures in
-    let few = siblings-few (p .0) in
-    (p .0 .spelled, (l .1 .0, (sym (l .0), omega (arith, l .0), p .1 .1 .long-kinds)))
+    let A = c .before .before .before .before .before .before in
+    let p = A .before .before .before .before .before .before .before .before .before .before .before .before .before .pre in
+    let l = A .list-siblings .ensures in
+    (p .0 .spelled, (l .1 .0, (sym (l .0), omega (arith, l .0, siblings-few (p .0)), p .1 .1 .long-kinds)))
 
 loop-holds : tie.Need-loop-holds Inv-loop μ-loop
 loop-holds c =
-    let counted = c .before .before .before .before .before .before .before .before .before .list-siblings .ensures .0 in
-    let p = c .before .before .before .before .before .before .before .before .before .before .before .before .before .before .before .before .before .before .before .before .before .before .pre in
-    (omega arith, descended-none (p .0) _ _ counted (p .1 .1 .long-matches), p .1 .1 .keys-ready)
+    let A = c .before .before .before .before .before .before .before .before .before in
+    let p = A .before .before .before .before .before .before .before .before .before .before .before .before .before .pre in
+    (omega arith, descended-none (p .0) _ _ (A .list-siblings .ensures .0) (p .1 .1 .long-matches), p .1 .1 .keys-ready)
 
 sub-i : tie.Need-sub-i Inv-loop μ-loop
 sub-i c = c .loop-test .taken
@@ -50,78 +60,102 @@ sub-i c = c .loop-test .taken
 grow-requires : tie.Need-grow-requires Inv-loop μ-loop
 grow-requires c κs =
     let I = c .before .before in
-    let L = I .before .loop in
-    let few = siblings-few (start I .pre .0) in
-    let counted = listed I .list-siblings .ensures .0 in
+    let H = I .before in
+    let few = siblings-few (start H .pre .0) in
+    let counted = listed H .list-siblings .ensures .0 in
     let more = I .loop-test .taken in
-    let near = L .inv .0 in (
-      (classed I .classify .ensures .0, L .inv .1 .long-matches, omega arith, omega arith),
-      λ w l h. omega (arith, L .inv .1 .low w l (omega arith)),
+    let near = H .loop .inv .0 in (
+      (classed H .classify .ensures .0, H .loop .inv .1 .long-matches, omega arith, omega arith),
+      λ w l h. omega (arith, H .loop .inv .1 .low w l (omega arith)),
     )
+
+own-cost-requires : tie.Need-own-cost-requires Inv-loop μ-loop
+own-cost-requires c κs =
+    let I = inside (c .before .before .before .before .before) in
+    let H = I .before in
+    let l = listed H .list-siblings .ensures in
+    own-asks (start H .pre .0) (H .loop .i - 1) (sym (l .0)) (next I) (H .loop .inv .0) (l .1 .1 .0) (l .1 .1 .1) (H .loop .inv .1) (l .1 .0)
+
+-- The width at which the most siblings match is one of the list's.
+in-list : (c : tie.After-grow Inv-loop μ-loop) → c .grow .result ≤ 1024
+in-list c =
+    let H = inside c .before in
+    omega (arith, c .grow .ensures .1 .0, listed H .list-siblings .ensures .0, siblings-few (start H .pre .0))
+
+mul-span : tie.Need-mul-span Inv-loop μ-loop
+mul-span c = omega (arith, in-list (grown c))
+
+slice-read-span : tie.Need-slice-read-span Inv-loop μ-loop
+slice-read-span c = let G = grown (c .before) in omega (arith, in-list G, G .grow .ensures .0 .long)
 
 enter-row-requires : tie.Need-enter-row-requires Inv-loop μ-loop
 enter-row-requires c κs =
-    let G = c .before .before .before .before .before .before .before .before in
-    let I = G .before .before .before in
-    let p = start I .pre in
-    let l = listed I .list-siblings .ensures in
-    let L = I .before .loop in
-    let next : L .i - 1 + 1 ≡ L .i = omega (arith, I .loop-test .taken) in
-    row-asks (p .0) (sym (l .0)) next (L .inv .0) (l .1 .1 .1) (L .inv .1) (classed I .classify .ensures .1) (G .grow .ensures .0) (l .1 .0) (l .1 .1 .0)
-    (L .inv .2) (G .grow .ensures .1 .0) (G .grow .ensures .1 .1) (p .1 .0)
+    let O = c .before .before .before .before .before .before in
+    let G = grown O in
+    let I = inside G in
+    let H = I .before in
+    let p = start H .pre in
+    let l = listed H .list-siblings .ensures in
+    let g = G .grow .ensures in
+    row-asks (p .0) (H .loop .i - 1) (sym (l .0)) (next I) (H .loop .inv .0) (l .1 .1 .0) (l .1 .1 .1) (H .loop .inv .1)
+    (G .grow .result) (O .own-cost .ensures) (p .1 .0) (classed H .classify .ensures .1) (g .0) (H .loop .inv .2) (g .1 .0) (g .1 .1)
 
 loop-less : tie.Need-loop-less Inv-loop μ-loop
-loop-less c = let more = c .before .before .before .before .before .before .before .before .before .before .before .before .before .before .before .before .before .before .loop-test .taken in omega arith
+loop-less c =
+    let O = c .before .before .before .before .before .before .before .before .before .before .before .before .before in
+    let more = inside (grown O) .loop-test .taken in
+    omega arith
 
 loop-again : tie.Need-loop-again Inv-loop μ-loop
 loop-again c =
-    let G = c .before .before .before .before .before .before .before .before .before .before .before .before .before .before .before in
-    let I = G .before .before .before in
-    let p = start I .pre in
-    let l = listed I .list-siblings .ensures in
-    let L = I .before .loop in
-    let E = c .before .before .before .before .before .before .enter-row in
-    let r = E .ensures in
-    let near = L .inv .0 in
-    let next : L .i - 1 + 1 ≡ L .i = omega (arith, I .loop-test .taken) in (
+    let E = c .before .before .before .before .before .before in
+    let O = E .before .before .before .before .before .before .before in
+    let G = grown O in
+    let I = inside G in
+    let H = I .before in
+    let p = start H .pre in
+    let l = listed H .list-siblings .ensures in
+    let near = H .loop .inv .0 in (
       omega arith,
-      descended-more (p .0) (sym (l .0)) next near (l .1 .1 .1) (L .inv .1) (classed I .classify .ensures .1) (G .grow .ensures .0)
-          {costs′ = E .last .1 .1 .1 .1 .1 .1 .1 .1 .1 .1 .1 .0}
-          {choices′ = E .last .1 .1 .1 .1 .1 .1 .1 .1 .1 .1 .1 .1 .0}
-          (r .1 .0) (r .1 .1 .0) (r .1 .1 .1),
-      r .0,
+      descended-more (p .0) (H .loop .i - 1) (sym (l .0)) (next I) near (l .1 .1 .0) (l .1 .1 .1) (H .loop .inv .1)
+          (G .grow .result) (O .own-cost .ensures) (p .1 .0) (classed H .classify .ensures .1) (G .grow .ensures .0)
+          {costs′ = E .enter-row .last .0}
+          {choices′ = E .enter-row .last .1 .0}
+          (E .enter-row .ensures .1),
+      E .enter-row .ensures .0,
     )
 
 returns : tie.Need-returns Inv-loop μ-loop
 returns c =
-    let p = c .before .before .before .before .before .before .before .before .before .before .before .before .before .before .before .before .before .before .before .before .before .before .before .before .pre in
-    let l = c .before .before .before .before .before .before .before .before .before .before .before .list-siblings .ensures in
-    let done : c .before .loop .i ≡ 0 = omega (arith, c .loop-test .left) in
-    let d = rw done at (c .before .loop .inv .1) in (
+    let H = c .before in
+    let p = start H .pre in
+    let l = listed H .list-siblings .ensures in
+    let done : H .loop .i ≡ 0 = omega (arith, c .loop-test .left) in
+    let d = rw done at (H .loop .inv .1) in (
       record {
         long-offsets = l .1 .0 .0;
         long-numbers = l .1 .1 .0;
-        long-kinds = c .before .before .before .before .classify .ensures .0;
+        long-kinds = classed H .classify .ensures .0;
         long-matches = d .long-matches;
-        keys-ready = c .before .loop .inv .2;
+        keys-ready = H .loop .inv .2;
       },
       (level-filled (p .0) d (p .1 .0), level-kept (p .0) d),
     )
 
 same-length : tie.Need-same-length Inv-loop μ-loop
-same-length c = returns c .0 .long-offsets ∙ sym (c .before .before .before .before .before .before .before .before .before .before .before .before .before .before .before .before .before .before .before .before .before .before .before .before .pre .1 .1 .long-offsets)
+same-length c = returns c .0 .long-offsets ∙ sym (start (c .before) .pre .1 .1 .long-offsets)
 
 same-length-2 : tie.Need-same-length-2 Inv-loop μ-loop
-same-length-2 c = returns c .0 .long-numbers ∙ sym (c .before .before .before .before .before .before .before .before .before .before .before .before .before .before .before .before .before .before .before .before .before .before .before .before .pre .1 .1 .long-numbers)
+same-length-2 c = returns c .0 .long-numbers ∙ sym (start (c .before) .pre .1 .1 .long-numbers)
 
 same-length-3 : tie.Need-same-length-3 Inv-loop μ-loop
-same-length-3 c = returns c .0 .long-kinds ∙ sym (c .before .before .before .before .before .before .before .before .before .before .before .before .before .before .before .before .before .before .before .before .before .before .before .before .pre .1 .1 .long-kinds)
+same-length-3 c = returns c .0 .long-kinds ∙ sym (start (c .before) .pre .1 .1 .long-kinds)
 
 same-length-4 : tie.Need-same-length-4 Inv-loop μ-loop
-same-length-4 c = returns c .0 .long-matches ∙ sym (c .before .before .before .before .before .before .before .before .before .before .before .before .before .before .before .before .before .before .before .before .before .before .before .before .pre .1 .1 .long-matches)
+same-length-4 c = returns c .0 .long-matches ∙ sym (start (c .before) .pre .1 .1 .long-matches)
 
 same-length-5 : tie.Need-same-length-5 Inv-loop μ-loop
-same-length-5 c = returns c .0 .keys-ready .long ∙ sym (c .before .before .before .before .before .before .before .before .before .before .before .before .before .before .before .before .before .before .before .before .before .before .before .before .pre .1 .1 .keys-ready .long)
+same-length-5 c = returns c .0 .keys-ready .long ∙ sym (start (c .before) .pre .1 .1 .keys-ready .long)
 
 same-length-6 : tie.Need-same-length-6 Inv-loop μ-loop
 same-length-6 c = c .before .loop .inv .1 .kept-costs .same-length
@@ -140,6 +174,9 @@ enter-level-spec =
     loop-holds
     sub-i
     grow-requires
+    own-cost-requires
+    mul-span
+    slice-read-span
     enter-row-requires
     loop-less
     loop-again

@@ -26,7 +26,7 @@ inside c = c .before .before .before .before .before
 within : (c : tie.In-loop Inv-loop μ-loop) → (c .before .loop .h * start (c .before) .args .d ≤ 1024) × (c .before .loop .h ≤ 1024)
 within c =
     let S = start (c .before) in
-    let p = S .pre .1 .1 in
+    let p = S .pre .1 in
     let h = c .before .loop .h in
     in-reach (h - 1) h (S .args .d) (S .args .span) (omega arith) (p .1) (p .2) (c .loop-test .taken)
 
@@ -53,7 +53,7 @@ shared-slice-read-key-of : tie.Need-shared-slice-read-key-of Inv-loop μ-loop
 shared-slice-read-key-of c = let w = within (c .before) in omega arith
 
 add-key-of : tie.Need-add-key-of Inv-loop μ-loop
-add-key-of c = omega (arith, start (c .before .before) .pre .1 .0 (c .before .before .loop .h))
+add-key-of c = omega (arith, start (c .before .before) .pre .0 .0 .low (c .before .before .loop .h))
 
 choice-of-requires : tie.Need-choice-of-requires Inv-loop μ-loop
 choice-of-requires c κs = let w = within (c .before) in (w .1, omega arith)
@@ -61,7 +61,7 @@ choice-of-requires c κs = let w = within (c .before) in (w .1, omega arith)
 key-of-requires : tie.Need-key-of-requires Inv-loop μ-loop
 key-of-requires c κs =
     let L = c .before .before .before in
-    (omega (arith, start L .pre .1 .0 (L .loop .h)), omega (arith, c .choice-of .ensures))
+    (omega (arith, start L .pre .0 .0 .low (L .loop .h)), omega (arith, c .choice-of .ensures))
 
 mul-if1 : tie.Need-mul-if1 Inv-loop μ-loop
 mul-if1 c = let w = within (c .before .before .before) in omega arith

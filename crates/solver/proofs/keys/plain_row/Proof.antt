@@ -1,55 +1,66 @@
 -- `solver::keys::plain_row` meets its contract. The loop's invariant: the places from `from` up to below d have the keys of the plain node.
 use native.Mathlib.Omega.{arith}
-use Prim.Native.Nat.{_+_, _-_, _≤_}
+use Prim.Native.Nat.{_-_, _≤_}
 use Rattle.table.proofs.Tables.{falling-read}
 use Rattle.solver.proofs.Putting.{Put, OfPlain, put-none, put-more, plainly-all}
 use Rattle.solver.proofs.keys.plain_row.Statement.{statement}
 use Rattle.solver.proofs.keys.plain_row.Tie as tie
 
 abbrev Inv-loop : tie.InvT-loop
-Inv-loop costs choices numbers i n own from keys₀ q plain d₀ keys d = (d ≤ 1025) × Put (OfPlain costs choices numbers i own) from d keys₀ keys
+Inv-loop costs choices numbers row from keys₀ n q plain d₀ keys d = (d ≤ 1025) × Put (OfPlain costs choices numbers row) from d keys₀ keys
 
 abbrev μ-loop : tie.MeasureT-loop
-μ-loop costs choices numbers i n own from keys₀ q plain d₀ keys d = 1025 - d
+μ-loop costs choices numbers row from keys₀ n q plain d₀ keys d = 1025 - d
 
 -- The function's start, from the loop's head.
 abbrev start : tie.At-loop Inv-loop μ-loop → tie.Start Inv-loop μ-loop
-start c = c .before .before .before .before .before .before .before
+start c = c .before .before .before .before .before .before .before .before .before
+
+sub-n : tie.Need-sub-n Inv-loop μ-loop
+sub-n c = omega (arith, c .before .before .before .before .before .pre .1 .0 .some)
 
 add-q : tie.Need-add-q Inv-loop μ-loop
-add-q c = omega (arith, c .before .before .before .before .pre .0 .0 .short, c .before .before .before .before .good)
+add-q c = let f = c .before .before .before .before .before .before .pre .1 .0 in omega (arith, f .few, f .some)
 
 mul-q : tie.Need-mul-q Inv-loop μ-loop
-mul-q c = omega (arith, c .before .before .before .before .pre .0 .0 .short)
+mul-q c = let f = c .before .before .before .before .before .before .pre .1 .0 in omega (arith, f .few, f .some)
 
 shared-slice-read-q : tie.Need-shared-slice-read-q Inv-loop μ-loop
-shared-slice-read-q c = omega (arith, c .before .before .before .before .before .pre .0 .0 .short)
+shared-slice-read-q c =
+    let p = c .before .before .before .before .before .before .before .pre in
+    omega (arith, p .0 .0 .short, p .1 .0 .some)
 
 key-of-requires : tie.Need-key-of-requires Inv-loop μ-loop
-key-of-requires c κs = (omega arith, omega arith)
+key-of-requires c κs =
+    (omega (arith, c .before .before .before .before .before .before .before .pre .1 .0 .low), omega arith)
 
 loop-holds : tie.Need-loop-holds Inv-loop μ-loop
 loop-holds c = (omega arith, put-none _ _ _)
 
 add-rest-key : tie.Need-add-rest-key Inv-loop μ-loop
-add-rest-key c = omega arith
+add-rest-key c = let f = start (c .before .before) .pre .1 .0 in omega (arith, f .few, f .some)
 
 rest-key-requires : tie.Need-rest-key-requires Inv-loop μ-loop
 rest-key-requires c κs =
-    let S = start (c .before) in
-    let i = S .args .i in
-    let d = c .before .loop .d in
-    let late = c .before .loop .inv .1 .late in
-    (falling-read (i + 1) (i + d) (omega arith) (omega arith) (S .pre .0 .0), falling-read (i + 1) (i + d) (omega arith) (omega arith) (S .pre .0 .1))
+    let L = c .before .before in
+    let p = start L .pre in
+    let late = L .loop .inv .1 .late in
+    let some = p .1 .0 .some in
+    (falling-read _ _ (omega arith) (omega arith) (p .0 .0), falling-read _ _ (omega arith) (omega arith) (p .0 .1))
 
 add-keys : tie.Need-add-keys Inv-loop μ-loop
-add-keys c = omega (arith, c .before .before .before .key-of .ensures, c .rest-key .ensures)
+add-keys c =
+    let L = c .before .before .before in
+    omega (arith, L .before .key-of .ensures, c .rest-key .ensures, start L .pre .1 .0 .low)
 
 mul-keys : tie.Need-mul-keys Inv-loop μ-loop
 mul-keys c = omega arith
 
 slice-write-keys : tie.Need-slice-write-keys Inv-loop μ-loop
-slice-write-keys c = omega (arith, c .before .before .loop .inv .1 .same-length)
+slice-write-keys c =
+    let L = c .before .before .before in
+    let p = start L .pre .1 in
+    omega (arith, L .loop .inv .1 .same-length, p .1 .long, p .0 .few, p .0 .some)
 
 add-d : tie.Need-add-d Inv-loop μ-loop
 add-d c = omega arith
@@ -59,16 +70,22 @@ loop-less c = omega arith
 
 loop-again : tie.Need-loop-again Inv-loop μ-loop
 loop-again c =
-    let L = c .before .before .loop in
-    let plain = c .before .before .before .key-of .ensures in
+    let L = c .before .before .before in
+    let p = start L .pre .1 in
+    let plain = L .before .key-of .ensures in
     let rest = c .rest-key .ensures in
-    (omega arith, put-more _ _ _ _ _ (L .inv .1) _ (omega arith) (omega (arith, plain, rest), omega (arith, plain, rest)))
+    let f = p .0 in (
+      omega (arith, f .few, f .some),
+      put-more _ _ _ _ _ (L .loop .inv .1) _ (omega (arith, p .1 .long, f .few, f .some)) (omega (arith, plain, rest, f .low), omega (arith, plain, rest)),
+    )
 
 same-length : tie.Need-same-length Inv-loop μ-loop
 same-length c = c .before .loop .inv .1 .same-length
 
 returns : tie.Need-returns Inv-loop μ-loop
-returns c = plainly-all _ _ _ _ _ _ _ _ _ _ (start (c .before) .pre .1 .0 .2) (omega arith) (c .before .loop .inv .1)
+returns c =
+    let p = start (c .before) .pre .1 in
+    plainly-all _ _ _ _ _ _ _ _ (p .1 .low) (omega (arith, p .0 .some)) (c .before .loop .inv .1)
 
 pub plain-row-spec : {M : Type 1} → statement M
 plain-row-spec =
@@ -76,6 +93,7 @@ plain-row-spec =
     (tie.spec
     Inv-loop
     μ-loop
+    sub-n
     add-q
     mul-q
     shared-slice-read-q

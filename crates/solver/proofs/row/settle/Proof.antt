@@ -1,14 +1,13 @@
 -- `solver::row::settle` meets its contract: what the two branches did is what the contract names.
 use mathlib.Core.Path.{_≡_, refl, sym, _∙_}
 use mathlib.Core.Logic.{⊎-elim}
-use Prim.Native.Nat.{_-_, _≤_}
+use Prim.Native.Nat.{_≤_}
 use native.Mathlib.Decide.{decLe}
 use native.Mathlib.Omega.{arith}
 use lib.ListN.{getD}
 use borrow.Author.Needs.{needs}
 use Rattle.solver.specs.Rows.{KeysReady, Pushed, push, pass, Widened, offer, too-wide, unlike, Settled}
 use Rattle.table.specs.Keys.{cost-digit}
-use Rattle.table.proofs.Tables.{falling-less}
 use Rattle.solver.proofs.Solving.{pushed-ready, widened-ready}
 use Rattle.solver.proofs.row.settle.Statement.{statement}
 use Rattle.solver.proofs.row.settle.Tie as tie
@@ -23,8 +22,7 @@ joined c = c .before .before
 -- What the first branch did.
 pushed-now : (c : tie.Joined1)
     → (let a = start (c .before) .args in
-    Pushed (a .costs .now) (a .choices .now) (a .numbers .now) (a .i) (a .m - a .i) (a .d) (a .span) (getD (a .keys .now) (a .d) 0) (a .keys .now)
-    (c .if1 .keys))
+    Pushed (a .costs .now) (a .choices .now) (a .numbers .now) (a .row) (a .d) (getD (a .keys .now) (a .d) 0) (a .keys .now) (c .if1 .keys))
 pushed-now c = ⊎-elim
     (λ x.
     let p = x .1 .ensures in
@@ -33,40 +31,34 @@ pushed-now c = ⊎-elim
     (c .if1 .came)
 
 ready-now : (c : tie.Joined1) → KeysReady (c .if1 .keys)
-ready-now c = pushed-ready (start (c .before) .pre .1 .0 .0) (pushed-now c)
+ready-now c = pushed-ready (start (c .before) .pre .1 .1) (pushed-now c)
 
 settled : (c : tie.Joined1)
     → (let a = start (c .before) .args in
     (cost : _) → cost ≡ cost-digit (getD (a .keys .now) (a .d) 0) → (after : _)
-    → Widened (a .limit) (a .prices .now) cost (a .d) (a .matched) (a .span) (c .if1 .keys) after
+    → Widened (a .row) (a .prices .now) cost (a .d) (a .matched) (c .if1 .keys) after
     → KeysReady after
-    × Settled (a .costs .now) (a .choices .now) (a .numbers .now) (a .i) (a .m - a .i) (a .limit) (a .prices .now) (a .d) (a .matched) (a .span)
-    (a .keys .now) after)
+    × Settled (a .costs .now) (a .choices .now) (a .numbers .now) (a .row) (a .prices .now) (a .d) (a .matched) (a .keys .now) after)
 settled c cost e after w = (widened-ready (ready-now c) w, record { between = c .if1 .keys; pushed = pushed-now c; widened = rw e at w })
 
 mul-key : tie.Need-mul-key
-mul-key c = search needs
+mul-key c = let p = c .before .before .before .before .before .pre .1 in omega (arith, p .0 .few)
 
 slice-read-key : tie.Need-slice-read-key
-slice-read-key c = search needs
+slice-read-key c = let p = c .before .before .before .before .before .before .pre .1 in omega (arith, p .0 .few, p .1 .long)
 
 covered-requires : tie.Need-covered-requires
-covered-requires c κs = search needs
-
-sub-push : tie.Need-sub-push
-sub-push c = search needs
+covered-requires c κs = tt
 
 past-requires : tie.Need-past-requires
-past-requires c κs = search needs
+past-requires c κs = let f = start (c .before) .pre .1 .0 in (omega (arith, f .few), omega (arith, f .few, f .reach))
 
 push-requires : tie.Need-push-requires
 push-requires c κs =
-    let S = c .before .before .before .before .before .before .before .before .before .before in
+    let S = start (c .before .before .before) in
     let p = S .pre in
-    let e = c .before .past .ensures in (
-      (falling-less _ (omega arith) (p .0 .0), falling-less _ (omega arith) (p .0 .1)),
-      (p .1 .0 .0 .long, omega arith, e .0, e .2, p .1 .0 .0 .low (S .args .d), omega arith),
-    )
+    let e = c .before .past .ensures in
+    (p .0, (p .1 .0, p .1 .1, omega arith, p .1 .1 .low (S .args .d), e .0, e .2))
 
 matched-within-requires : tie.Need-matched-within-requires
 matched-within-requires c κs = search needs
@@ -75,23 +67,24 @@ cost-digit-requires : tie.Need-cost-digit-requires
 cost-digit-requires c κs = tt
 
 count-past-requires : tie.Need-count-past-requires
-count-past-requires c κs = search needs
+count-past-requires c κs =
+    let p = start (joined (c .before) .before) .pre .1 in
+    (p .3, omega (arith, p .0 .few), omega (arith, p .0 .few, p .0 .reach))
 
 offer-requires : tie.Need-offer-requires
 offer-requires c κs =
     let J = joined (c .before .before .before) in
-    let p = start (J .before) .pre in
+    let S = start (J .before) in
+    let p = S .pre .1 in
     let k = c .before .count-past .ensures in
-    let cost = c .before .before .cost-digit .ensures in (
-      (p .1 .0 .1, ready-now J .long),
-      (p .1 .0 .2, (omega (arith, cost, p .1 .0 .0 .low (start (J .before) .args .d)), omega arith, omega arith, k .0, k .1)),
-    )
+    let cost = c .before .before .cost-digit .ensures in
+    ((p .2, ready-now J), (omega (arith, cost, p .1 .low (S .args .d)), p .3, omega (arith, p .0 .few), k .0, k .1))
 
 -- Where siblings match for a repeat, the limit allows its width.
-not-too-wide : (c : tie.Then2) → (let a = start (joined c .before) .args in a .d ≤ a .limit)
+not-too-wide : (c : tie.Then2) → (let a = start (joined c .before) .args in a .d ≤ a .row .limit)
 not-too-wide c =
     let a = start (joined c .before) .args in
-    elim (decLe (a .d) (a .limit)) [
+    elim (decLe (a .d) (a .row .limit)) [
       | yes l ↦ l
       | no l ↦ absurd (omega (arith, c .before .matched-within .ensures .1 (omega arith)))
     ]
@@ -108,7 +101,7 @@ returns c =
 same-length : tie.Need-same-length
 same-length c =
     let J = joined (c .before .before .before .before .before .before) in
-    returns c .0 .long ∙ sym (start (J .before) .pre .1 .0 .0 .long)
+    returns c .0 .long ∙ sym (start (J .before) .pre .1 .1 .long)
 
 returns-2 : tie.Need-returns-2
 returns-2 c =
@@ -116,13 +109,13 @@ returns-2 c =
     let a = start (J .before) .args in
     let e = c .before .matched-within .ensures in
     settled J _ refl _
-    (elim (decLe (a .d) (a .limit)) [
+    (elim (decLe (a .d) (a .row .limit)) [
       | yes l ↦ unlike (omega (arith, e .0 l)) refl
       | no l ↦ too-wide (omega arith) refl
     ])
 
 same-length-2 : tie.Need-same-length-2
-same-length-2 c = returns-2 c .0 .long ∙ sym (start (c .before .before .before) .pre .1 .0 .0 .long)
+same-length-2 c = returns-2 c .0 .long ∙ sym (start (c .before .before .before) .pre .1 .1 .long)
 
 pub settle-spec : {M : Type 1} → statement M
 settle-spec =
@@ -131,7 +124,6 @@ settle-spec =
     mul-key
     slice-read-key
     covered-requires
-    sub-push
     past-requires
     push-requires
     matched-within-requires
