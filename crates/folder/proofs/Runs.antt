@@ -15,7 +15,8 @@ use Rattle.format.specs.declared.Folded.{Folded}
 use Rattle.optimum.specs.Cheapest.{back, cheapest, best-cost}
 use Rattle.optimum.proofs.Cut.{front-whole}
 use Rattle.optimum.proofs.Cheapest.{best-cost-end}
-use Rattle.table.specs.Table.{Filled, Kept, cells, cell, number, stretch}
+use Rattle.table.specs.Used.{to-end, itself, UsedFilled}
+use Rattle.table.specs.Table.{Kept, cells, cell, number, stretch}
 use Rattle.filling.specs.Filling.{prices-of, LevelReady}
 use Rattle.writer.specs.Writing.{WriteReady, FoldLength, FoldWritten}
 use Rattle.folder.specs.inner.Run.{RunFilled, RunWritten, RunFolded, room-answer, room-output}
@@ -78,7 +79,7 @@ module _ {s : List ℕ} {n limit : ℕ} {P : limits.Prices} {costs choices : Lis
             none e ∙ (sym (best-cost-end (at-most limit) P) ∙ ap (best-cost (at-most limit) P) (sym z))
         | no e ↦
             let some-siblings : 0 < m = has-siblings t (run .plain) (omega (arith, w .all)) in
-            let x = w .filled .top .entry 0 m (omega arith) some-siblings (omega arith) in
+            let x = w .filled .entry 0 t itself 0 m some-siblings (omega arith) (to-end (omega arith)) in
             let first : number 0 t 0 ≡ n = number-first 0 t ∙ (zero-add (nodes t) ∙ w .all) in
             let last : number 0 t (0 + m) ≡ 0 = ap (number 0 t) (zero-add m) ∙ number-last 0 t (run .plain) in
             let c : getD costs (cell 0 n) 0 ≡ best-cost (at-most limit) P (stretch t 0 m) = rw (first, last) at (x .costs) in
@@ -125,7 +126,7 @@ written-whole len is-length out l c none some out′ r v =
 
 -- The table is filled and the fold written; cleared, it leaves all as the folder says.
 module _ {s : List ℕ} {n limit : ℕ} {table prices costs choices : List ℕ} (ready : LevelReady s 0 limit table prices costs choices) (all : nodes (tree-of s) ≡ n)
-    {costs′ choices′ : List ℕ} (filled : Filled (at-most limit) (prices-of table prices) 0 (tree-of s) costs′ choices′)
+    {costs′ choices′ : List ℕ} (filled : UsedFilled (at-most limit) (prices-of table prices) 0 (tree-of s) costs′ choices′)
     (kept : Kept 0 (nodes (tree-of s)) costs costs′ × Kept 0 (nodes (tree-of s)) choices choices′) where
   pub run-filled : RunFilled s n limit (prices-of table prices) costs′ choices′
   run-filled =

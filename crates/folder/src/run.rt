@@ -15,7 +15,8 @@ ghost use lib.ListN.{length, getD};
 ghost use Rattle.format.specs.Limits.{Prices};
 ghost use Rattle.format.specs.Forest.{nodes, at-most};
 ghost use Rattle.format.specs.Tree.{tree-of};
-ghost use Rattle.table.specs.Table.{Filled, Kept, cells, cell};
+ghost use Rattle.table.specs.Table.{Kept, cells, cell};
+ghost use Rattle.table.specs.Used.{UsedFilled};
 ghost use Rattle.filling.specs.Filling.{prices-of, LevelReady};
 ghost use Rattle.writer.specs.Writing.{WriteReady, FoldWritten};
 ghost use Rattle.folder.specs.Folding.{short-work};
@@ -45,7 +46,7 @@ pub fn short_of(n: usize, costs: usize, choices: usize) -> bool
     choices < needed
 }
 
-// Fills the table of the whole run. The lists that each sequence is worked in are lent to all of them in turn.
+// Fills the table of the whole run, with all stretches that a fold can use. The lists that each sequence is worked in are lent to all of them in turn.
 fn fill(
     run: &[u8],
     limit: usize,
@@ -55,7 +56,7 @@ fn fill(
     choices: &mut [u32],
 )
     requires { ⌜ LevelReady (now run) 0 limit (now table) (now prices) (now costs) (now choices) ⌝ }
-    ensures filled { λ _. ⌜ Filled (at-most limit) (prices-of (now (table .entry)) (now (prices .entry))) 0 (tree-of (now (run .entry))) (now (costs .exit)) (now (choices .exit)) ⌝ }
+    ensures filled { λ _. ⌜ UsedFilled (at-most limit) (prices-of (now (table .entry)) (now (prices .entry))) 0 (tree-of (now (run .entry))) (now (costs .exit)) (now (choices .exit)) ⌝ }
     ensures kept { λ _. ⌜ Kept 0 (nodes (tree-of (now (run .entry)))) (now (costs .entry)) (now (costs .exit)) × Kept 0 (nodes (tree-of (now (run .entry)))) (now (choices .entry)) (now (choices .exit)) ⌝ }
 {
     let mut offsets = [0usize; Lists::LENGTH];

@@ -2,3 +2,4 @@
 pub mod Cells
 pub mod Tables
 pub mod Listings
+pub mod Uses

@@ -2,3 +2,4 @@
 pub mod Keys
 pub mod Table
 pub mod Listing
+pub mod Used

@@ -20,9 +20,11 @@ use Rattle.optimum.proofs.Least.{least-one}
 use Rattle.optimum.proofs.Cheapest.{cheapest-optimal, is-cheapest, least-builds, optimal-end}
 use Rattle.table.specs.Keys.{packed, count-digit, width-digit}
 use Rattle.table.specs.Table.{Entry, cell, number, stretch, Falling, entry-at}
+use Rattle.table.specs.Used.{Used, itself}
 use Rattle.table.specs.Listing.{Placed, Numbered}
 use Rattle.table.proofs.Cells.{cells-mono}
-use Rattle.table.proofs.Tables.{falling-numbered, number-last, number-within, number-after-group, below-at}
+use Rattle.table.proofs.Tables.{falling-numbered, number-last, number-within, number-after-group}
+use Rattle.table.proofs.Uses.{used-body, used-group}
 use Rattle.writer.specs.Writing.{WriteReady, SpanReady, fold-bytes, span-bytes, most-bytes}
 
 -- A sound fold has at most four bytes for each node that it unrolls to, and one of a single node has two: a repeat takes six
@@ -112,6 +114,7 @@ pub record Repeated (A : Allowed) (P : Prices) (t : Forest) (i j h w : ℕ) : Ty
   pub width : w < 1024
   pub covers : i + h * w ≤ j
   pub wide : 2 * w ≤ h * w
+  pub used : Used t i w
   pub spelled : piece A P t i j ≡ 0x20 ∷ two-bytes h (two-bytes w (piece A P t i (i + w) ++ 0x21 ∷ piece A P t (i + h * w) j))
 
 piece-none : (A : Allowed) (P : Prices) (t : Forest) (j : ℕ) → piece A P t j j ≡ []
@@ -156,6 +159,7 @@ module _ (A : Allowed) (P : Prices) (t : Forest) (r : Run A t) (few : siblings t
         width = omega arith;
         covers = omega arith;
         wide = q .width;
+        used = used-body i (j - i) c w r (omega arith) p;
         spelled =
             ap bytes (cheapest-power A P u c w run-piece (omega arith) two l)
             ∙ rw (e, front-front w (j - i - w) (j - i) (back i t) (omega arith), back-piece i (i + c * w) (c * w) (j - (i + c * w)) (j - i) t refl (omega arith));
@@ -213,13 +217,13 @@ module _ {s choices offsets numbers : List ℕ} {i j : ℕ} (z : SpanReady s cho
   pub part-none : (k : ℕ) → part-of z k k ≡ []
   part-none k = piece-none (z .ready .allowed) (z .ready .prices-are) (tree-of s) k
 
-  module _ (k c : ℕ) (h : k < j) (e : c ≡ entry-at choices numbers k j) where
+  module _ (k c : ℕ) (h : k < j) (u : Used (tree-of s) k (j - k)) (e : c ≡ entry-at choices numbers k j) where
     entry-of : (cost : ℕ) × Entry (z .ready .allowed) (z .ready .prices-are) (stretch (tree-of s) k (j - k)) cost c
     entry-of =
         let b = getD numbers (siblings (tree-of s)) 0 in
         let t = tree-of s in
         let last : k + (j - k) ≡ j = omega arith in
-        let at = z .ready .filled .top .entry k (j - k) (omega arith) (omega arith) (omega (arith, z .end)) in (
+        let at = z .ready .filled .entry b t itself k (j - k) (omega arith) (omega (arith, z .end)) u in (
           getD (z .ready .costs) (cell (number b t j) (number b t k)) 0,
           rw (e, z .numbered .numbered k (omega (arith, z .end)), z .numbered .numbered j (z .end)) (rw last at at),
         )
@@ -407,7 +411,7 @@ module _ {s choices offsets numbers : List ℕ} {i : ℕ} (z : SpanReady s choic
               (omega (arith, z .ready .room, cells-mono (getD numbers (i + 1) 0 + nodes g) (b + nodes tree) (omega arith)));
           filled =
               rw (part-tree, n)
-              (below-at A (z .ready .prices-are) (z .ready .costs) choices b tree i l g f (run-any A) e (z .ready .filled .below));
+              (used-group i l g f e (z .ready .filled));
         }
 
     grouped : Grouped z

@@ -12,6 +12,7 @@ use Rattle.format.specs.Tree.{tree-of}
 use Rattle.format.proofs.Lists.{sets-append}
 use Rattle.table.specs.Keys.{count-digit, width-digit, cover}
 use Rattle.table.specs.Table.{entry-at}
+use Rattle.table.specs.Used.{Used}
 use Rattle.writer.specs.Writing.{WriteReady, SpanReady, SpanFits, FoldWritten, SpanWritten, fold-bytes, span-bytes, most-bytes, open-bytes}
 use Rattle.writer.proofs.Spans.{Repeated, part-of, narrow, part-none, ready-few, span-small, span-plain, span-power, Siblings, listed, children, node-start, node-two, node-step, node-group}
 
@@ -116,6 +117,7 @@ pub record Turn (s choices offsets numbers : List ℕ) (i j to : ℕ) (before : 
   pub fits : SpanFits s choices offsets numbers i j to
   pub putting : Putting s choices offsets numbers i j to before k p now
   pub more : k < j
+  pub used : Used (tree-of s) k (j - k)
   pub looked : c ≡ entry-at choices numbers k j
 
 module _ {s choices offsets numbers : List ℕ} {i j to : ℕ} {before : List ℕ} {k p : ℕ} {now : List ℕ} {c : ℕ}
@@ -129,7 +131,7 @@ module _ {s choices offsets numbers : List ℕ} {i j to : ℕ} {before : List �
   -- The plain node.
   module _ (f : c ≡ 0) where
     split : (z : SpanReady s choices offsets numbers i j) → part-of z k j ≡ part-of z k (k + 1) ++ part-of z (k + 1) j
-    split z = span-plain z k c (x .more) (x .looked) f
+    split z = span-plain z k c (x .more) (x .used) (x .looked) f
 
     pub plain-fits : SpanFits s choices offsets numbers k (k + 1) p
     plain-fits =
@@ -156,7 +158,7 @@ module _ {s choices offsets numbers : List ℕ} {i j to : ℕ} {before : List �
 
     pub repeated : (z : SpanReady s choices offsets numbers i j)
         → Repeated (z .ready .allowed) (z .ready .prices-are) (tree-of s) k j (count-digit c) w
-    repeated z = span-power z k c (x .more) (x .looked) f
+    repeated z = span-power z k c (x .more) (x .used) (x .looked) f
 
     pub body-fits : SpanFits s choices offsets numbers k (k + w) (p + 5)
     body-fits =

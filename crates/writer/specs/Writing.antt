@@ -8,7 +8,8 @@ use Rattle.format.specs.Limits.{Prices, limits}
 use Rattle.format.specs.Forest.{Allowed, siblings, nodes, bytes, two-bytes}
 use Rattle.format.specs.Tree.{tree-of}
 use Rattle.optimum.specs.Cheapest.{cheapest}
-use Rattle.table.specs.Table.{Filled, cells, stretch}
+use Rattle.table.specs.Table.{cells, stretch}
+use Rattle.table.specs.Used.{UsedFilled}
 use Rattle.table.specs.Listing.{Spelled, Placed, Numbered}
 
 -- All that the length and the bytes of the cheapest fold rest on.
@@ -19,7 +20,7 @@ pub record WriteReady (s : List ℕ) (b : ℕ) (choices : List ℕ) : Type 0 whe
   pub spelled : Spelled s
   pub total : b + nodes (tree-of s) ≤ 1024
   pub room : cells (b + nodes (tree-of s)) ≤ length choices
-  pub filled : Filled allowed prices-are b (tree-of s) costs choices
+  pub filled : UsedFilled allowed prices-are b (tree-of s) costs choices
 
 -- The same for a span of siblings.
 pub record SpanReady (s choices offsets numbers : List ℕ) (i j : ℕ) : Type 0 where

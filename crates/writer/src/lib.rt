@@ -9,10 +9,12 @@ use table::look;
 use table::width_digit;
 ghost use mathlib.Core.Path.{_≡_};
 ghost use mathlib.Core.List.{[]};
-ghost use Prim.Native.Nat.{_+_, _<_, _≤_};
+ghost use Prim.Native.Nat.{_+_, _-_, _<_, _≤_};
 ghost use lib.ListN.{set};
 ghost use lib.Seq.{sets};
 ghost use Rattle.format.specs.Forest.{two-bytes};
+ghost use Rattle.format.specs.Tree.{tree-of};
+ghost use Rattle.table.specs.Used.{Used};
 ghost use Rattle.writer.specs.Writing.{WriteReady, SpanFits, FoldLength, FoldWritten, SpanWritten, most-bytes, open-bytes};
 
 // The length of the cheapest fold of the sequence s, behind which b nodes of the run follow.
@@ -47,6 +49,7 @@ fn put_span(
     to: usize,
 ) -> usize
     requires { ⌜ SpanFits (now s) (now choices) (now offsets) (now numbers) i j to ⌝ }
+    requires { ⌜ Used (tree-of (now s)) i (j - i) ⌝ }
     ensures { λ r. ⌜ SpanWritten (now (s .entry)) (now (choices .entry)) (now (offsets .entry)) (now (numbers .entry)) i j to (now (out .entry)) (now (out .exit)) r ⌝ }
 {
     let mut k = i;

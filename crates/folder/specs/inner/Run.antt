@@ -11,16 +11,17 @@ use Rattle.format.specs.Tree.{tree-of}
 use Rattle.format.specs.declared.Folded.{Folded}
 use Rattle.optimum.specs.Cheapest.{cheapest, best-cost}
 use Rattle.table.specs.Listing.{Spelled}
-use Rattle.table.specs.Table.{Filled, cells}
+use Rattle.table.specs.Table.{cells}
+use Rattle.table.specs.Used.{UsedFilled}
 
--- The table of an accepted run of n nodes is filled.
+-- The table of an accepted run of n nodes is filled: it has the stretches that a fold can use.
 pub record RunFilled (run : List ℕ) (n limit : ℕ) (P : Prices) (costs choices : List ℕ) : Type 0 where
   pub spelled : Spelled run
   pub all : nodes (tree-of run) ≡ n
   pub few : n ≤ 1024
   pub cost-room : cells n ≤ length costs
   pub choice-room : cells n ≤ length choices
-  pub filled : Filled (at-most limit) P 0 (tree-of run) costs choices
+  pub filled : UsedFilled (at-most limit) P 0 (tree-of run) costs choices
 
 -- The answer and the output where the fold f of cost c is to be written: 14 where there is no room for it.
 abbrev pub room-answer : (room : ℕ) (f : List ℕ) (c : ℕ) → Folded

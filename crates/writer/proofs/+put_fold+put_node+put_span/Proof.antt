@@ -1,6 +1,6 @@
 -- The bytes of the cheapest fold, by the table's choices. Each member falls by the bytes of its sequence; at one sequence the
 -- fold stands above its spans, a span above a narrower one, and those above a node.
-use mathlib.Core.Path.{refl, sym}
+use mathlib.Core.Path.{_≡_, refl, sym}
 use mathlib.Core.List.{List}
 use Prim.Native.Nat.{ℕ, _+_, _-_, _*_, _<_}
 use native.Mathlib.Omega.{arith}
@@ -10,7 +10,10 @@ use borrow.Rule.Slice.PartMut.{putMid}
 use borrow.Fn.Kinds.{PK, In, Out}
 use borrow.Fn.PlainCycle.{Measures, is, falls, and}
 use Rattle.format.specs.Limits.{limits}
-use Rattle.table.specs.Keys.{cover}
+use Rattle.format.specs.Tree.{tree-of}
+use Rattle.table.specs.Keys.{cover, width-digit}
+use Rattle.table.specs.Used.{to-end}
+use Rattle.table.proofs.Uses.{used-from}
 use Rattle.writer.specs.Writing.{most-bytes}
 use Rattle.writer.proofs.Spans.{Grouped, ready-few, span-falling, node-group}
 use Rattle.writer.proofs.Writings.{Putting, Turn, written-kept, putting-none, putting-all, left-fits, plain-fits, putting-plain, repeated, body-fits, putting-power}
@@ -24,9 +27,9 @@ use Rattle.writer.proofs.+put_fold+put_node+put_span.Lts-put_node as no
 use Rattle.writer.proofs.put_span.Reads as put-span
 use Rattle.writer.proofs.put_span.Kinds as put-span-kinds
 use Rattle.writer.proofs.+put_fold+put_node+put_span.Lts-put_span as span
-use Rattle.table.proofs.count_digit.Reads as count-digit
+use Rattle.table.proofs.count_digit.Reads as count-digit-of
 use Rattle.table.proofs.covered.Reads as covered
-use Rattle.table.proofs.width_digit.Reads as width-digit
+use Rattle.table.proofs.width_digit.Reads as width-digit-of
 use Rattle.table.proofs.list_siblings.Reads as list-siblings
 use Rattle.table.proofs.look.Reads as look
 use Rattle.writer.proofs.put_byte.Reads as put-byte
@@ -76,10 +79,10 @@ module _ (t : ℕ) where
     look.Learnt,
     below 5 put-node-kinds.ps μ-node put-node.Pre t,
     put-node.Post,
-    width-digit.Asked,
-    width-digit.Learnt,
-    count-digit.Asked,
-    count-digit.Learnt,
+    width-digit-of.Asked,
+    width-digit-of.Learnt,
+    count-digit-of.Asked,
+    count-digit-of.Learnt,
     put-open.Asked,
     put-open.Learnt,
     below 5 put-span-kinds.ps μ-span put-span.Pre t,
@@ -126,7 +129,7 @@ module _ (t : ℕ) where
       let L = listed .list-siblings in
       let S = fold-start listed in
       let m = fold-fits (L .last .1 .1 .0) (L .last .1 .1 .1 .0) (L .result) (L .ensures) (S .pre .1) in
-      (omega (arith, S .pre .0, ready-few (m .ready), L .ensures .0), m)
+      (omega (arith, S .pre .0, ready-few (m .ready), L .ensures .0), (m, to-end (omega (arith, L .ensures .0))))
 
   fold-same-length : Fold fold.Need-same-length
   fold-same-length c = c .before .before .put-span .kept .1 .1 .1 .1 .1 .1 .0
@@ -302,18 +305,21 @@ module _ (t : ℕ) where
       let l = c .before .before .loop in
       Turn (a .s .now) (a .choices .now) (a .offsets .now) (a .numbers .now) (a .i) (a .j) (a .to) (a .out .now) (l .k) (l .p) (l .out) (c .look .result))
   turn c =
+      let S = span-start (c .before .before) in
+      let l = c .before .before .loop in
       record {
-        fits = span-start (c .before .before) .pre .1;
-        putting = c .before .before .loop .inv;
+        fits = S .pre .1 .0;
+        putting = l .inv;
         more = c .before .loop-test .taken;
+        used = used-from (tree-of (S .args .s .now)) (S .args .i) (S .args .j) (l .k) (l .inv .ahead) (l .inv .within) (S .pre .1 .1);
         looked = c .look .ensures .0;
       }
 
   span-loop-holds : Span span.Need-loop-holds
-  span-loop-holds c = let S = c .before .before .before .before .before in putting-none (S .args .out .now) (S .pre .1)
+  span-loop-holds c = let S = c .before .before .before .before .before in putting-none (S .args .out .now) (S .pre .1 .0)
 
   span-look-requires : Span span.Need-look-requires
-  span-look-requires c κs = (span-falling (span-start (c .before) .pre .1 .ready), c .loop-test .taken)
+  span-look-requires c κs = (span-falling (span-start (c .before) .pre .1 .0 .ready), c .loop-test .taken)
 
   span-put-node-requires : Span span.Need-put-node-requires
   span-put-node-requires c κs =
@@ -351,7 +357,7 @@ module _ (t : ℕ) where
   span-add-put-span : Span span.Need-add-put-span
   span-add-put-span c =
       let c₁ = c .before .before .before .before .before .before in
-      let y = repeated (turn (c₁ .before)) (c₁ .if1 .left) (span-start (c₁ .before .before .before) .pre .1 .ready) in
+      let y = repeated (turn (c₁ .before)) (c₁ .if1 .left) (span-start (c₁ .before .before .before) .pre .1 .0 .ready) in
       omega (arith, c .before .before .before .before .before .width-digit .ensures .0, span-start (c₁ .before .before .before) .fits)
 
   span-add-put-span-2 : Span span.Need-add-put-span-2
@@ -363,8 +369,10 @@ module _ (t : ℕ) where
       let x = turn (c₁ .before) in
       let S = span-start (c₁ .before .before .before) in
       let width = c .before .before .before .before .before .before .width-digit .ensures .0 in
-      let y = repeated x (c₁ .if1 .left) (S .pre .1 .ready) in
-      (omega (arith, S .pre .0, x .putting .ahead), rw width (body-fits x (c₁ .if1 .left)))
+      let y = repeated x (c₁ .if1 .left) (S .pre .1 .0 .ready) in
+      let k = c₁ .before .before .before .loop .k in
+      let wide : k + width-digit (c₁ .before .look .result) - k ≡ width-digit (c₁ .before .look .result) = omega arith in
+      (omega (arith, S .pre .0, x .putting .ahead), rw width (body-fits x (c₁ .if1 .left), rw wide (y .used)))
 
   span-put-byte-requires : Span span.Need-put-byte-requires
   span-put-byte-requires c κs = search needs
@@ -388,7 +396,7 @@ module _ (t : ℕ) where
   span-add-p : Span span.Need-add-p
   span-add-p c =
       let S = span-start (opened (c .before .before .before .before .before .before .before) .before .before .before) in
-      omega (arith, left-fits (S .args .out .now) (S .pre .1) (repeat-put (c .before .before)))
+      omega (arith, left-fits (S .args .out .now) (S .pre .1 .0) (repeat-put (c .before .before)))
 
   span-covered-requires : Span span.Need-covered-requires
   span-covered-requires c κs = search needs
@@ -410,10 +418,10 @@ module _ (t : ℕ) where
 
   span-returns : Span span.Need-returns
   span-returns c =
-      let S = span-start (c .before) in putting-all (S .args .out .now) (S .pre .1) (c .before .loop .inv) (c .loop-test .left)
+      let S = span-start (c .before) in putting-all (S .args .out .now) (S .pre .1 .0) (c .before .loop .inv) (c .loop-test .left)
 
   span-same-length : Span span.Need-same-length
-  span-same-length c = written-kept (span-start (c .before) .pre .1 .ready) (span-returns c)
+  span-same-length c = written-kept (span-start (c .before) .pre .1 .0 .ready) (span-returns c)
 
 pub +put-fold+put-node+put-span-spec : {M : Type 1} → statement M
 +put-fold+put-node+put-span-spec = close μ-fold μ-node μ-span

@@ -1,5 +1,7 @@
--- `folder::run::fill` meets its contract: lists of zeros are ready to work in.
+-- `folder::run::fill` meets its contract: lists of zeros are ready to work in, and a table with all stretches has the used ones.
 use borrow.Author.Needs.{needs}
+use Rattle.format.specs.Forest.{at-most}
+use Rattle.table.proofs.Uses.{used-filled}
 use Rattle.filling.proofs.Levels.{scratch-none}
 use Rattle.folder.proofs.run.fill.Statement.{statement}
 use Rattle.folder.proofs.run.fill.Tie as tie
@@ -37,7 +39,11 @@ same-length-2 : tie.Need-same-length-2
 same-length-2 c = call c .enter-tree .ensures .1 .1 .1 .same-length
 
 returns : tie.Need-returns
-returns c = call c .enter-tree .ensures .1
+returns c =
+    let C = call c in
+    let S = start (C .before .before .before) in
+    let e = C .enter-tree .ensures in
+    (used-filled (at-most (S .args .limit)) _ _ _ 0 _ (S .pre .spelled .run (at-most (S .args .limit))) (e .1 .0), e .1 .1)
 
 pub fill-spec : {M : Type 1} → statement M
 fill-spec =

@@ -1,0 +1,55 @@
+-- The stretches that a fold can use: from one of them on it comes to no others, and a table that has all stretches has these.
+use mathlib.Core.Path.{_≡_, refl, sym, ap, _∙_}
+use mathlib.Core.List.{List}
+use Prim.Native.Nat.{ℕ, suc, _+_, _-_, _*_, _≤_}
+use native.Mathlib.Nat.{suc-mul}
+use native.Mathlib.Omega.{arith}
+use Rattle.format.specs.Limits.{Prices}
+use Rattle.format.specs.Forest.{Forest, group, Allowed, siblings}
+use Rattle.optimum.specs.Cheapest.{Run, front, back, Power}
+use Rattle.optimum.proofs.Cut.{front-front, back-piece, siblings-piece, run-front, run-back, run-body}
+use Rattle.optimum.proofs.Powers.{reach, front-less, shift-from-power}
+use Rattle.table.specs.Table.{Filled, number, stretch}
+use Rattle.table.specs.Used.{Used, to-end, again, Inside, itself, deeper, UsedFilled}
+use Rattle.table.proofs.Tables.{below-at}
+
+-- What follows in a used stretch is used: it goes up to the same end, or stands again as far on.
+pub used-from : (t : Forest) (i j k : ℕ) → i ≤ k → k ≤ j → Used t i (j - i) → Used t k (j - k)
+used-from t i j k h l (to-end e) = to-end (omega arith)
+used-from t i j k h l (again w d e f) =
+    let rest : (x y : ℕ) → x + (k - i) ≡ y → back (k - i) (stretch t x (j - i)) ≡ stretch t y (j - k) =
+    λ x y z. back-piece x y (k - i) (j - k) (j - i) t z (omega arith) in
+    again w (omega arith) (omega arith)
+    (sym (rest i k (omega arith)) ∙ ap (back (k - i)) f ∙ rest (i + w) (k + w) (omega arith))
+
+-- The body of a repeat is used: it stands again behind itself.
+pub used-body : {A : Allowed} {t : Forest} (i d h w : ℕ) → Run A t → i + d ≤ siblings t → Power A (stretch t i d) h w → Used t i w
+used-body {t = t} i d h w r l p =
+    let u = stretch t i d in
+    let q = reach p in
+    let size = siblings-piece i d r l in
+    let one : suc (h - 1) ≡ h = omega (arith, p .repeats .twice) in
+    let g : w + ((h - 1) * w - w) ≡ (h - 1) * w = omega (arith, rw one at (suc-mul (h - 1) w)) in
+    let same : front w u ≡ front w (back w u) =
+    front-less w ((h - 1) * w - w) ((h - 1) * w) u (back w u) g (shift-from-power (h - 1) h w (run-front d (run-back i r)) one p) in
+    again w (omega arith) (omega (arith, size))
+    (sym (front-front w (d - w) d (back i t) (omega (arith, size)))
+    ∙ same
+    ∙ ap (front w) (back-piece i (i + w) w (d - w) d t refl (omega (arith, size)))
+    ∙ front-front w (d - w - w) (d - w) (back (i + w) t) (omega (arith, size)))
+
+-- What a group holds is inside.
+pub used-group : {A : Allowed} {P : Prices} {b : ℕ} {t : Forest} {costs choices : List ℕ} (i l : ℕ) (g f : Forest) → back i t ≡ group l g f
+    → UsedFilled A P b t costs choices → UsedFilled A P (number b t (i + 1)) g costs choices
+used-group i l g f e u = record { entry = λ c h w. u .entry c h (deeper i l g f e w) }
+
+-- A table that has all stretches.
+module _ (A : Allowed) (P : Prices) (costs choices : List ℕ) where
+  filled-inside : (b : ℕ) (t : Forest) (c : ℕ) (g : Forest) → Inside b t c g → Run A t → Filled A P b t costs choices → Filled A P c g costs choices
+  filled-inside b t c g itself r z = z
+  filled-inside b t c g (deeper i l h f e w) r z =
+      filled-inside (number b t (i + 1)) h c g w (run-body (rw e at (run-back i r))) (below-at A P costs choices b t i l h f r e (z .below))
+
+  pub used-filled : (b : ℕ) (t : Forest) → Run A t → Filled A P b t costs choices → UsedFilled A P b t costs choices
+  used-filled b t r z =
+      record { entry = λ c g w i d p q u. filled-inside b t c g w r z .top .entry i d (omega arith) p q }

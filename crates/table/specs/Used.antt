@@ -1,0 +1,26 @@
+-- The stretches that a fold can use, and a table that has the entries of these at least.
+use mathlib.Core.Path.{_≡_}
+use mathlib.Core.List.{List}
+use Prim.Native.Nat.{ℕ, _+_, _<_, _≤_}
+use lib.ListN.{getD}
+use Rattle.format.specs.Limits.{Prices}
+use Rattle.format.specs.Forest.{Forest, group, Allowed, siblings}
+use Rattle.optimum.specs.Cheapest.{back}
+use Rattle.table.specs.Table.{Entry, cell, number, stretch}
+
+-- A stretch of d siblings from sibling i on is used where it goes up to the end, as what follows an item of the sequence does, or
+-- stands again d or more siblings further on, as the body of a repeat does and what follows an item of that body.
+pub data Used (t : Forest) (i d : ℕ) : Type 0 where
+  to-end : i + d ≡ siblings t → Used t i d
+  again : (w : ℕ) → d ≤ w → i + w + d ≤ siblings t → stretch t i d ≡ stretch t (i + w) d → Used t i d
+
+-- The sequence g, behind which c nodes of the run follow, is t itself, behind which b follow, or what a group in it holds.
+pub data Inside : (b : ℕ) (t : Forest) (c : ℕ) (g : Forest) → Type 0 where
+  itself : {b : ℕ} {t : Forest} → Inside b t b t
+  deeper : {b : ℕ} {t : Forest} {c : ℕ} {g : Forest} (i l : ℕ) (h f : Forest) → back i t ≡ group l h f
+      → Inside (number b t (i + 1)) h c g → Inside b t c g
+
+-- The used stretches of a whole tree are entered.
+pub record UsedFilled (A : Allowed) (P : Prices) (b : ℕ) (t : Forest) (costs choices : List ℕ) : Type 0 where
+  pub entry : (c : ℕ) (g : Forest) → Inside b t c g → (i d : ℕ) → 0 < d → i + d ≤ siblings g → Used g i d
+      → Entry A P (stretch g i d) (getD costs (cell (number c g (i + d)) (number c g i)) 0) (getD choices (cell (number c g (i + d)) (number c g i)) 0)
