@@ -1,8 +1,8 @@
 // The cost of one sibling by itself.
 use format::Format;
-use reader::price;
 use table::entry;
 use table::widen;
+use walk::price;
 ghost use mathlib.Core.Path.{_≡_};
 ghost use Prim.Native.Nat.{_<_, _≤_};
 ghost use lib.ListN.{length, getD};

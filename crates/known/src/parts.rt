@@ -5,7 +5,7 @@ use print::number;
 use print::word;
 use reader::part;
 use reader::same_node;
-use reader::wide;
+use walk::wide;
 
 // Whether the part at an offset is that many bytes of the run.
 fn part_is(run: &[u8], at: usize, n: usize) -> bool {

@@ -1,5 +1,3 @@
 -- What the readers' function proofs share.
-pub mod Walking
-pub mod Commands
-pub mod Wholes
+pub mod Answers
 pub mod Nodes

@@ -16,7 +16,7 @@ use Rattle.format.specs.Readings.{run-reading}
 use Rattle.format.specs.Parts.{starts, still-open, closing, node-size, node-part, part-of}
 use Rattle.format.specs.declared.RunReading.{RunReading}
 use Rattle.format.proofs.Parts.{closing-none}
-use Rattle.reader.proofs.Walking.{cut-one}
+use Rattle.walk.proofs.Walking.{cut-one}
 
 -- No command has more than four operand bytes.
 few-of : (a b : Bool) → cond a 1 (cond b 4 0) ≤ 4

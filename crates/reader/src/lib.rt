@@ -1,66 +1,26 @@
-// The readers: run reader, part of a node, fold reader with cost. One walk serves them all. Each answers for every input
-// whatsoever, and none writes anywhere.
-mod command;
+// The readers: run reader, part of a node, fold reader with cost. One walk serves them all (crate walk). Each answers for every
+// input whatsoever, and none writes anywhere.
 mod node;
-mod walk;
 
-use command::Depth;
-use command::Terms;
-use command::Walk;
-pub use command::operand;
-pub use command::price;
-use command::refused;
-pub use command::wide;
-pub use command::wide_cost;
 use format::FoldReading;
 use format::Format;
 use format::Head;
 use format::RunReading;
-use format::Tally;
 use format::head_refusal;
 use node::node_end;
 pub use node::opens_node;
 use node::starts_at;
-use walk::sequence;
+use walk::Terms;
+use walk::Walk;
+use walk::whole;
+use walk::wide_cost;
 ghost use mathlib.Core.Path.{_≡_};
 ghost use mathlib.Core.Bool.{true};
 ghost use Rattle.format.specs.Limits.{priced};
 ghost use Rattle.format.specs.Readings.{as-run-reading, run-outcome, run-reading, fold-outcome, measured, fold-reading, as-fold-reading};
 ghost use Rattle.format.specs.Meaning.{MeansAtCost};
 ghost use Rattle.format.specs.Parts.{node-part, part-of};
-ghost use Rattle.reader.specs.Walk.{Sane, Whole, outcome, rules-of};
-
-// The whole input: the top sequence, then the end and no close.
-fn whole(s: &[u8], table: &[u16], a: Terms) -> Walk
-    requires { ⌜ Sane a ⌝ }
-    ensures { λ r. ⌜ Whole (rules-of a (now (table .entry))) (now (s .entry)) r ⌝ }
-{
-    let none = Tally {
-        siblings: 0,
-        nodes: 0,
-        size: 0,
-        cost: 0,
-    };
-    let top = Depth {
-        groups: 0,
-        repeats: 0,
-    };
-    let w = sequence(s, table, a, 0, top, none);
-    if w.refusal != 0 {
-        return w;
-    }
-    let at = w.at;
-    if at == s.len() {
-        return w;
-    }
-    if s[at] == Format::GROUP_END {
-        return refused(4, at, none);
-    }
-    if a.folds {
-        return refused(4, at, none);
-    }
-    refused(2, at, none)
-}
+ghost use Rattle.walk.specs.Walk.{outcome};
 
 // The run reader: refusals 1 to 10, or the number of nodes.
 pub fn read_run(run: &[u8]) -> RunReading

@@ -14,7 +14,7 @@ use Rattle.format.specs.Tree.{tree-of}
 use Rattle.format.proofs.Forests.{bytes-join}
 use Rattle.format.proofs.Parts.{Node, a-step, a-group, part-of-node}
 use Rattle.format.proofs.Bridge.{bytes-injective}
-use Rattle.reader.proofs.Walking.{cut-one}
+use Rattle.walk.proofs.Walking.{cut-one}
 use Rattle.optimum.specs.Cheapest.{Run, front, back, node}
 use Rattle.optimum.proofs.Cut.{join-cut, front-add, front-whole, back-back, siblings-back, siblings-le-nodes, nodes-cut, run-back}
 use Rattle.table.specs.Listing.{Spelled, Placed, Numbered, FirstEqual, Classed, node-count}

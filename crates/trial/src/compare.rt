@@ -6,10 +6,10 @@ use harness::fold_checked;
 use libc::STDOUT_FILENO;
 use reader::read_fold;
 use reader::read_run;
-use reader::wide;
 use std::num::wrapping_add_u64;
 use strings::fold_at;
 use strings::gather;
+use walk::wide;
 
 // Prices: of the labels 1 and 2, and of a repeat.
 struct Prices {

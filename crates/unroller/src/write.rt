@@ -2,7 +2,7 @@
 // sequence is a loop over its items, and a group or a repeat holds a sequence; the functions call each other, remaining
 // bytes falling.
 use format::Format;
-use reader::operand;
+use walk::operand;
 ghost use mathlib.Core.Path.{_≡_};
 ghost use Prim.Native.Nat.{_+_, _*_, _-_, _≤_};
 ghost use lib.ListN.{length, take, drop};

@@ -1,6 +1,6 @@
 -- `admit` meets its contract.
 use borrow.Author.Needs.{needs}
-use Rattle.reader.proofs.Wholes.{admit-refused, admit-read}
+use Rattle.reader.proofs.Answers.{admit-refused, admit-read}
 use Rattle.reader.proofs.admit.Statement.{statement}
 use Rattle.reader.proofs.admit.Tie as tie
 

@@ -1,6 +1,6 @@
 -- `read_fold` meets its contract.
 use borrow.Author.Needs.{needs}
-use Rattle.reader.proofs.Wholes.{with-meaning}
+use Rattle.reader.proofs.Answers.{with-meaning}
 use Rattle.reader.proofs.read_fold.Statement.{statement}
 use Rattle.reader.proofs.read_fold.Tie as tie
 

@@ -1,7 +1,7 @@
 -- `read_headed` meets its contract.
 use borrow.Author.Needs.{needs}
 use mathlib.Core.Path.{_∙_}
-use Rattle.reader.proofs.Wholes.{fold-refused, fold-read}
+use Rattle.reader.proofs.Answers.{fold-refused, fold-read}
 use Rattle.reader.proofs.read_headed.Statement.{statement}
 use Rattle.reader.proofs.read_headed.Tie as tie
 

@@ -1,6 +1,6 @@
 -- `read_run` meets its contract.
 use borrow.Author.Needs.{needs}
-use Rattle.reader.proofs.Wholes.{run-refused, run-read}
+use Rattle.reader.proofs.Answers.{run-refused, run-read}
 use Rattle.reader.proofs.read_run.Statement.{statement}
 use Rattle.reader.proofs.read_run.Tie as tie
 

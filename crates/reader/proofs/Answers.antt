@@ -1,0 +1,66 @@
+-- From the walk over the whole input to the readers' answers.
+use mathlib.Core.Path.{_≡_, refl, sym, _∙_}
+use mathlib.Core.Bool.{Bool, true, false}
+use mathlib.Core.List.{List}
+use mathlib.Core.Logic.{_≢_}
+use Prim.Native.Nat.{ℕ}
+use lib.Dec.{eqb}
+use borrow.Author.Tests.{eqb-true, eqb-false}
+use Rattle.format.specs.Limits.{limits, Prices, priced}
+use Rattle.format.specs.Machine.{Rules, read, first-of}
+use Rattle.format.specs.Head.{head-checks, full-head}
+use Rattle.format.specs.Order.{Bytes}
+use Rattle.format.specs.Meaning.{MeansAtCost}
+use Rattle.format.specs.Readings.{run-rules, as-run-reading, run-outcome, run-reading, fold-rules, fold-outcome, fold-reading, as-fold-reading}
+use Rattle.format.specs.declared.Head.{Head}
+use Rattle.format.specs.declared.RunReading.{RunReading}
+use Rattle.format.specs.declared.FoldReading.{FoldReading}
+use Rattle.format.proofs.Heads.{headed-refused, headed-passed}
+use Rattle.format.proofs.Report.{reading-means}
+use Rattle.walk.specs.Walk.{Whole, outcome}
+use Rattle.walk.specs.declared.command.Walk.{Walk}
+
+-- The run reader's answer.
+module _ (s : List ℕ) (w : Walk) (read-it : Whole run-rules s w) where
+  pub run-refused : (w .refusal ≡ 0 → ⊥) → record { refusal = w .refusal; place = w .at; nodes = 0 } ≡ run-reading s
+  unfolding run-reading
+  run-refused e = rw (read-it .refuses e)
+
+  pub run-read : w .refusal ≡ 0 → record { refusal = 0; place = 0; nodes = w .tally .nodes } ≡ run-reading s
+  unfolding run-reading
+  run-read e = rw (read-it .reads e .1)
+
+-- What a walk says of a fold is what the reading says.
+pub answered : (R : Rules) (s : List ℕ) (w : Walk) → Whole R s w → as-fold-reading (outcome w) ≡ as-fold-reading (read R s)
+answered R s w walked = by-test (eqb (w .refusal) 0) refl
+  where
+    by-test : (b : Bool) → eqb (w .refusal) 0 ≡ b → as-fold-reading (outcome w) ≡ as-fold-reading (read R s)
+    by-test true e = rw (e, walked .reads (eqb-true _ _ e) .1)
+    by-test false e = rw (e, walked .refuses (eqb-false _ _ e))
+
+-- The answers at an entry point: by the head's refusal, or by what follows.
+module _ (h : Head) (n : ℕ) (checked : n ≡ first-of (head-checks limits h)) where
+  pub admit-refused : (s : List ℕ) → n ≢ 0 → record { refusal = n; place = 0; nodes = 0 } ≡ as-run-reading (run-outcome h s)
+  unfolding run-outcome
+  admit-refused s some = rw (headed-refused limits h (read run-rules s) n checked some)
+
+  pub admit-read : (s : List ℕ) → n ≡ 0 → (r : RunReading) → r ≡ run-reading s → r ≡ as-run-reading (run-outcome h s)
+  unfolding run-reading run-outcome
+  admit-read s none r e = e ∙ rw (headed-passed limits h (read run-rules s) (sym none ∙ checked))
+
+  module _ (P : Prices) (s : List ℕ) where
+    pub fold-refused : n ≢ 0 → record { refusal = n; place = 0; nodes = 0; length = 0; cost = 0 } ≡ as-fold-reading (fold-outcome h P s)
+    unfolding fold-outcome
+    fold-refused some = rw (headed-refused limits h (read (fold-rules (h .limit) P) s) n checked some)
+
+    pub fold-read : n ≡ 0 → (w : Walk) → Whole (fold-rules (h .limit) P) s w → as-fold-reading (outcome w) ≡ as-fold-reading (fold-outcome h P s)
+    unfolding fold-outcome
+    fold-read none w walked =
+        rw (headed-passed limits h (read (fold-rules (h .limit) P) s) (sym none ∙ checked)) (answered (fold-rules (h .limit) P) s w walked)
+
+-- The fold reader's answer: it is the reading, and on success means what the report says.
+pub with-meaning : (s table : List ℕ) (k first each : ℕ) → Bytes s → (r : FoldReading)
+    → r ≡ as-fold-reading (fold-outcome (full-head table k) (priced table first each) s)
+    → (r ≡ fold-reading s k table first each) × (r .refusal ≡ 0 → MeansAtCost k table first each s (r .length) (r .cost))
+unfolding fold-reading
+with-meaning s table k first each small r e = (e, reading-means s k table first each small r e)

@@ -1,0 +1,58 @@
+-- `after_passes` meets its contract.
+use borrow.Author.Needs.{needs}
+use native.Mathlib.Omega.{arith}
+use Prim.Native.Nat.{_-_}
+use Rattle.walk.proofs.Commands.{bounded}
+use Rattle.walk.proofs.command.after_passes.Statement.{statement}
+use Rattle.walk.proofs.command.after_passes.Tie as tie
+
+sub-more : tie.Need-sub-more
+sub-more c = search needs
+
+mul-t5 : tie.Need-mul-t5
+mul-t5 c =
+    let S = c .before in omega (arith, bounded (S .args .count) (S .args .i .siblings) 65535 65535 (omega (arith, S .pre)) (omega (arith, S .pre)), S .pre)
+
+add-t6 : tie.Need-add-t6
+add-t6 c =
+    let S = c .before .before in omega (arith, bounded (S .args .count) (S .args .i .siblings) 65535 65535 (omega (arith, S .pre)) (omega (arith, S .pre)), S .pre)
+
+sub-t7 : tie.Need-sub-t7
+sub-t7 c = search needs
+
+mul-t8 : tie.Need-mul-t8
+mul-t8 c =
+    let S = c .before .before .before .before in omega (arith, bounded (S .args .count - 1) (S .args .i .nodes - S .args .t .nodes) 65534 65535 (omega (arith, S .pre)) (omega (arith, S .pre)), S .pre)
+
+add-t9 : tie.Need-add-t9
+add-t9 c =
+    let S = c .before .before .before .before .before in omega (arith, bounded (S .args .count - 1) (S .args .i .nodes - S .args .t .nodes) 65534 65535 (omega (arith, S .pre)) (omega (arith, S .pre)), S .pre)
+
+sub-t10 : tie.Need-sub-t10
+sub-t10 c = search needs
+
+mul-t11 : tie.Need-mul-t11
+mul-t11 c =
+    let S = c .before .before .before .before .before .before .before in omega (arith, bounded (S .args .count - 1) (S .args .i .size - S .args .t .size) 65534 196605 (omega (arith, S .pre)) (omega (arith, S .pre)), S .pre)
+
+add-t12 : tie.Need-add-t12
+add-t12 c =
+    let S = c .before .before .before .before .before .before .before .before in omega (arith, bounded (S .args .count - 1) (S .args .i .size - S .args .t .size) 65534 196605 (omega (arith, S .pre)) (omega (arith, S .pre)), S .pre)
+
+returns : tie.Need-returns
+returns c = search needs
+
+pub after-passes-spec : {M : Type 1} → statement M
+after-passes-spec =
+    tie.close
+    (tie.spec
+    sub-more
+    mul-t5
+    add-t6
+    sub-t7
+    mul-t8
+    add-t9
+    sub-t10
+    mul-t11
+    add-t12
+    returns)

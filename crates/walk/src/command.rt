@@ -1,0 +1,287 @@
+// One command at a time: each function makes the tests of document 01's table for one command, in its order, and counts.
+// The walk over sequences and items (walk.rt) makes no test of its own.
+use format::Format;
+use format::Limits;
+use format::Tally;
+ghost use mathlib.Core.Path.{_≡_};
+ghost use mathlib.Core.Bool.{true};
+ghost use Prim.Native.Nat.{_+_, _*_, _<_, _≤_};
+ghost use lib.ListN.{length, getD};
+ghost use Rattle.format.specs.Machine.{a-group, a-repeat, after-repeat};
+ghost use Rattle.walk.specs.Walk.{At, Room, Halted, Sane, ItemRead, OpenRead, CloseRead, in-group-of, in-repeat-of, rules-of, word-at, repeat-at};
+
+// What the reader was asked: the limits, whether repeats may stand in the input, the width limit, and the repeat prices.
+pub struct Terms {
+    pub limits: Limits,
+    pub folds: bool,
+    pub widest: usize,
+    pub first: u64,
+    pub each: u64,
+}
+
+// The groups and the repeats that are open.
+pub struct Depth {
+    pub groups: usize,
+    pub repeats: usize,
+}
+
+// Where a walk has come to: at the offset `at` with these counts, or refused with this number at the place `at`.
+pub struct Walk {
+    pub refusal: u8,
+    pub at: usize,
+    pub tally: Tally,
+}
+
+// A byte as a number to count with.
+pub fn wide(x: u8) -> usize
+    ensures { λ r. ⌜ (r ≡ x) × (r < 256) ⌝ }
+{
+    x as usize
+}
+
+pub fn wide_cost(x: u16) -> u64
+    ensures { λ r. ⌜ (r ≡ x) × (r < 65536) ⌝ }
+{
+    x as u64
+}
+
+// The price of a label; 0 where the table does not have it.
+pub fn price(table: &[u16], label: u8) -> u64
+    ensures { λ r. ⌜ (r ≡ getD (now (table .entry)) label 0) × (r < 65536) ⌝ }
+{
+    let at = wide(label);
+    if at < table.len() {
+        return wide_cost(table[at]);
+    }
+    0
+}
+
+// The byte at an offset as a number; 0 past the end.
+fn byte_at(s: &[u8], at: usize) -> usize
+    ensures { λ r. ⌜ (r ≡ getD (now (s .entry)) at 0) × (r < 256) ⌝ }
+{
+    if at < s.len() {
+        return wide(s[at]);
+    }
+    0
+}
+
+// The operand of two bytes at an offset, the high byte first; bytes past the end count as 0.
+pub fn operand(s: &[u8], at: usize) -> usize
+    ensures { λ r. ⌜ (r ≡ word-at (now (s .entry)) at) × (r < 65536) ⌝ }
+{
+    if at < s.len() {
+        return wide(s[at]) * 256 + byte_at(s, at + 1);
+    }
+    0
+}
+
+// A walk that is refused with this number at this place.
+pub fn refused(number: u8, at: usize, t: Tally) -> Walk
+    ensures { λ r. ⌜ r ≡ record { refusal = number; at = at; tally = t } ⌝ }
+{
+    Walk {
+        refusal: number,
+        at,
+        tally: t,
+    }
+}
+
+// A step: refusals 3 and 10.
+pub fn step(s: &[u8], table: &[u16], a: Terms, at: usize, d: Depth, t: Tally) -> Walk
+    requires { ⌜ At (now s) at 0x10 ⌝ }
+    requires { ⌜ Room (a .limits) d t ⌝ }
+    requires { ⌜ Sane a ⌝ }
+    ensures { λ r. ⌜ ItemRead (rules-of a (now (table .entry))) (now (s .entry)) d at t r ⌝ }
+{
+    if s.len() - at < 2 {
+        return refused(3, s.len(), t);
+    }
+    let bounds = a.limits;
+    if bounds.nodes <= t.nodes {
+        return refused(10, at, t);
+    }
+    let p = price(table, s[at + 1]);
+    Walk {
+        refusal: 0,
+        at: at + 2,
+        tally: Tally {
+            siblings: t.siblings + 1,
+            nodes: t.nodes + 1,
+            size: t.size + 2,
+            cost: t.cost + p,
+        },
+    }
+}
+
+// The open of a group: refusals 3, 8 and 10.
+pub fn enter_group(s: &[u8], table: &[u16], a: Terms, at: usize, d: Depth, t: Tally) -> Walk
+    requires { ⌜ At (now s) at 0x11 ⌝ }
+    requires { ⌜ Room (a .limits) d t ⌝ }
+    requires { ⌜ Sane a ⌝ }
+    ensures { λ r. ⌜ OpenRead (rules-of a (now (table .entry))) (now (s .entry)) d (in-group-of d) at t (a-group t) 2 1 65535 r ⌝ }
+{
+    if s.len() - at < 2 {
+        return refused(3, s.len(), t);
+    }
+    let bounds = a.limits;
+    if bounds.groups <= d.groups {
+        return refused(8, at, t);
+    }
+    if bounds.nodes <= t.nodes {
+        return refused(10, at, t);
+    }
+    let p = price(table, s[at + 1]);
+    Walk {
+        refusal: 0,
+        at: at + 2,
+        tally: Tally {
+            siblings: 0,
+            nodes: t.nodes + 1,
+            size: t.size + 2,
+            cost: t.cost + p,
+        },
+    }
+}
+
+// The close of a group whose outer counts are t and inner counts i: refusals 3 at the end, 2, 4 and 5.
+pub fn leave_group(
+    s: &[u8],
+    table: &[u16],
+    a: Terms,
+    at: usize,
+    d: Depth,
+    t: Tally,
+    i: Tally,
+) -> Walk
+    requires { ⌜ Halted (now s) at ⌝ }
+    requires { ⌜ Room (a .limits) d t ⌝ }
+    requires { ⌜ Sane a ⌝ }
+    requires { ⌜ (t .nodes + 1 ≤ i .nodes) × (i .nodes ≤ a .limits .nodes) ⌝ }
+    requires { ⌜ (t .size ≤ i .size) × (i .size + 3 * t .nodes + 1 ≤ t .size + 3 * i .nodes) ⌝ }
+    requires { ⌜ i .cost + 4294967296 * t .nodes ≤ t .cost + 4294967296 * i .nodes ⌝ }
+    ensures { λ r. ⌜ CloseRead (rules-of a (now (table .entry))) (now (s .entry)) d at t i (a-group t) r ⌝ }
+{
+    if at == s.len() {
+        return refused(3, at, t);
+    }
+    if s[at] == Format::GROUP_END {
+        if i.siblings == 0 {
+            return refused(5, at, t);
+        }
+        return Walk {
+            refusal: 0,
+            at: at + 1,
+            tally: Tally {
+                siblings: t.siblings + 1,
+                nodes: i.nodes,
+                size: i.size + 1,
+                cost: i.cost,
+            },
+        };
+    }
+    if a.folds {
+        return refused(4, at, t);
+    }
+    refused(2, at, t)
+}
+
+// The open of a repeat: refusals 2, 3, 6, 7 and 8.
+pub fn enter_repeat(s: &[u8], table: &[u16], a: Terms, at: usize, d: Depth, t: Tally) -> Walk
+    requires { ⌜ At (now s) at 0x20 ⌝ }
+    requires { ⌜ Room (a .limits) d t ⌝ }
+    requires { ⌜ Sane a ⌝ }
+    ensures { λ r. ⌜ OpenRead (rules-of a (now (table .entry))) (now (s .entry)) d (in-repeat-of d) at t (repeat-at (now (s .entry)) at t) 0 0 4294967295 r ⌝ }
+    ensures { λ r. ⌜ (r .refusal ≡ 0 → (a .folds ≡ true) × (2 ≤ word-at (now (s .entry)) (at + 1)) × (at + 5 ≤ length (now (s .entry)))) ⌝ }
+{
+    if !a.folds {
+        return refused(2, at, t);
+    }
+    if s.len() - at < 5 {
+        return refused(3, s.len(), t);
+    }
+    let count = operand(s, at + 1);
+    if count < 2 {
+        return refused(6, at, t);
+    }
+    let width = operand(s, at + 3);
+    if a.widest < width {
+        return refused(7, at, t);
+    }
+    let bounds = a.limits;
+    if bounds.repeats <= d.repeats {
+        return refused(8, at, t);
+    }
+    let p = a.first + a.each * ((count - 2) as u64);
+    Walk {
+        refusal: 0,
+        at: at + 5,
+        tally: Tally {
+            siblings: 0,
+            nodes: t.nodes,
+            size: t.size,
+            cost: t.cost + p,
+        },
+    }
+}
+
+// The counts behind a repeat whose outer counts are t and inner counts i: all but the cost are those of every pass.
+fn after_passes(count: usize, t: Tally, i: Tally) -> Tally
+    requires { ⌜ (1 ≤ count) × (count < 65536) ⌝ }
+    requires { ⌜ (t .siblings ≤ i .nodes) × (i .siblings ≤ i .nodes) ⌝ }
+    requires { ⌜ (t .nodes ≤ i .nodes) × (i .nodes < 65536) ⌝ }
+    requires { ⌜ (t .size ≤ i .size) × (i .size ≤ 3 * i .nodes) ⌝ }
+    ensures { λ r. ⌜ r ≡ after-repeat count t i ⌝ }
+{
+    let more = count - 1;
+    Tally {
+        siblings: t.siblings + count * i.siblings,
+        nodes: i.nodes + more * (i.nodes - t.nodes),
+        size: i.size + more * (i.size - t.size),
+        cost: i.cost,
+    }
+}
+
+// The close of a repeat whose outer counts are t and inner counts i: refusals 3 at the end, 4, 5, 9 and 10.
+pub fn leave_repeat(
+    s: &[u8],
+    table: &[u16],
+    a: Terms,
+    at: usize,
+    d: Depth,
+    count: usize,
+    width: usize,
+    t: Tally,
+    i: Tally,
+) -> Walk
+    requires { ⌜ Halted (now s) at ⌝ }
+    requires { ⌜ Room (a .limits) d t ⌝ }
+    requires { ⌜ Sane a ⌝ }
+    requires { ⌜ (a .folds ≡ true) × (2 ≤ count) × (count < 65536) ⌝ }
+    requires { ⌜ (t .nodes + i .siblings ≤ i .nodes) × (i .nodes ≤ a .limits .nodes) ⌝ }
+    requires { ⌜ (t .size ≤ i .size) × (i .size + 3 * t .nodes ≤ t .size + 3 * i .nodes) × (i .cost + 4294967296 * t .nodes ≤ t .cost + 4294967296 * i .nodes + 4294967296) ⌝ }
+    ensures { λ r. ⌜ CloseRead (rules-of a (now (table .entry))) (now (s .entry)) d at t i (a-repeat count width t) r ⌝ }
+{
+    if at == s.len() {
+        return refused(3, at, t);
+    }
+    if s[at] == Format::GROUP_END {
+        return refused(4, at, t);
+    }
+    if i.siblings == 0 {
+        return refused(5, at, t);
+    }
+    if i.siblings != width {
+        return refused(9, at, t);
+    }
+    let passed = after_passes(count, t, i);
+    let bounds = a.limits;
+    if bounds.nodes < passed.nodes {
+        return refused(10, at, t);
+    }
+    Walk {
+        refusal: 0,
+        at: at + 1,
+        tally: passed,
+    }
+}

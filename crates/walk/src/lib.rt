@@ -1,0 +1,49 @@
+// The walk over an input: every test of document 01's table, in its order, and the counts. It is the one walk of all readers,
+// which stand over it and turn what it came to into their answers.
+mod command;
+mod walk;
+
+use command::Depth;
+pub use command::Terms;
+pub use command::Walk;
+pub use command::operand;
+pub use command::price;
+use command::refused;
+pub use command::wide;
+pub use command::wide_cost;
+use format::Format;
+use format::Tally;
+use walk::sequence;
+ghost use Rattle.walk.specs.Walk.{Sane, Whole, rules-of};
+
+// The whole input: the top sequence, then the end and no close.
+pub fn whole(s: &[u8], table: &[u16], a: Terms) -> Walk
+    requires { ⌜ Sane a ⌝ }
+    ensures { λ r. ⌜ Whole (rules-of a (now (table .entry))) (now (s .entry)) r ⌝ }
+{
+    let none = Tally {
+        siblings: 0,
+        nodes: 0,
+        size: 0,
+        cost: 0,
+    };
+    let top = Depth {
+        groups: 0,
+        repeats: 0,
+    };
+    let w = sequence(s, table, a, 0, top, none);
+    if w.refusal != 0 {
+        return w;
+    }
+    let at = w.at;
+    if at == s.len() {
+        return w;
+    }
+    if s[at] == Format::GROUP_END {
+        return refused(4, at, none);
+    }
+    if a.folds {
+        return refused(4, at, none);
+    }
+    refused(2, at, none)
+}

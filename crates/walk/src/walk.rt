@@ -1,0 +1,130 @@
+// The walk over a sequence: a sequence is made of items, and a group or a repeat holds a sequence. The functions here call
+// each other, remaining bytes falling; every test stands in command.rt.
+use crate::command::Depth;
+use crate::command::Terms;
+use crate::command::Walk;
+use crate::command::enter_group;
+use crate::command::enter_repeat;
+use crate::command::leave_group;
+use crate::command::leave_repeat;
+use crate::command::operand;
+use crate::command::refused;
+use crate::command::step;
+use format::Format;
+use format::Tally;
+ghost use Prim.Native.Nat.{_≤_, _<_};
+ghost use lib.ListN.{length};
+ghost use Rattle.walk.specs.Walk.{At, NoClose, Room, Sane, ItemRead, SequenceRead, rules-of};
+
+// The items from `at` on, up to the end of the input or to a close.
+pub fn sequence(s: &[u8], table: &[u16], a: Terms, at: usize, d: Depth, t: Tally) -> Walk
+    requires { ⌜ at ≤ length (now s) ⌝ }
+    requires { ⌜ Room (a .limits) d t ⌝ }
+    requires { ⌜ Sane a ⌝ }
+    ensures { λ r. ⌜ SequenceRead (rules-of a (now (table .entry))) (now (s .entry)) d at t r ⌝ }
+{
+    let mut p = at;
+    let mut now = t;
+    while p < s.len() {
+        let c = s[p];
+        if c == Format::GROUP_END {
+            return Walk {
+                refusal: 0,
+                at: p,
+                tally: now,
+            };
+        }
+        if c == Format::REPEAT_END {
+            return Walk {
+                refusal: 0,
+                at: p,
+                tally: now,
+            };
+        }
+        let w = item(s, table, a, p, d, now);
+        if w.refusal != 0 {
+            return w;
+        }
+        p = w.at;
+        now = w.tally;
+    }
+    Walk {
+        refusal: 0,
+        at: p,
+        tally: now,
+    }
+}
+
+// The item at `at`, which is no close.
+fn item(s: &[u8], table: &[u16], a: Terms, at: usize, d: Depth, t: Tally) -> Walk
+    requires { ⌜ NoClose (now s) at ⌝ }
+    requires { ⌜ Room (a .limits) d t ⌝ }
+    requires { ⌜ Sane a ⌝ }
+    ensures { λ r. ⌜ ItemRead (rules-of a (now (table .entry))) (now (s .entry)) d at t r ⌝ }
+{
+    let c = s[at];
+    if c == Format::STEP {
+        return step(s, table, a, at, d, t);
+    }
+    if c == Format::GROUP {
+        return group(s, table, a, at, d, t);
+    }
+    if c == Format::REPEAT {
+        return repeat(s, table, a, at, d, t);
+    }
+    refused(1, at, t)
+}
+
+// The group at `at`.
+fn group(s: &[u8], table: &[u16], a: Terms, at: usize, d: Depth, t: Tally) -> Walk
+    requires { ⌜ At (now s) at 0x11 ⌝ }
+    requires { ⌜ Room (a .limits) d t ⌝ }
+    requires { ⌜ Sane a ⌝ }
+    ensures { λ r. ⌜ ItemRead (rules-of a (now (table .entry))) (now (s .entry)) d at t r ⌝ }
+{
+    let e = enter_group(s, table, a, at, d, t);
+    if e.refusal != 0 {
+        return e;
+    }
+    let from = e.at;
+    let inner = e.tally;
+    let deeper = Depth {
+        groups: d.groups + 1,
+        repeats: d.repeats,
+    };
+    let w = sequence(s, table, a, from, deeper, inner);
+    if w.refusal != 0 {
+        return w;
+    }
+    let to = w.at;
+    let read = w.tally;
+    leave_group(s, table, a, to, d, t, read)
+}
+
+// The repeat at `at`.
+fn repeat(s: &[u8], table: &[u16], a: Terms, at: usize, d: Depth, t: Tally) -> Walk
+    requires { ⌜ At (now s) at 0x20 ⌝ }
+    requires { ⌜ Room (a .limits) d t ⌝ }
+    requires { ⌜ Sane a ⌝ }
+    ensures { λ r. ⌜ ItemRead (rules-of a (now (table .entry))) (now (s .entry)) d at t r ⌝ }
+{
+    let e = enter_repeat(s, table, a, at, d, t);
+    if e.refusal != 0 {
+        return e;
+    }
+    let count = operand(s, at + 1);
+    let width = operand(s, at + 3);
+    let from = e.at;
+    let inner = e.tally;
+    let deeper = Depth {
+        groups: d.groups,
+        repeats: d.repeats + 1,
+    };
+    let w = sequence(s, table, a, from, deeper, inner);
+    if w.refusal != 0 {
+        return w;
+    }
+    let to = w.at;
+    let read = w.tally;
+    leave_repeat(s, table, a, to, d, count, width, t, read)
+}
