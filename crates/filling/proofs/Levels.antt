@@ -12,7 +12,7 @@ use Rattle.table.specs.Table.{Entered, Below, Filled, Kept, KeptOthers, cells, 
 use Rattle.table.specs.Listing.{Spelled, Placed, Numbered, Classed}
 use Rattle.filling.specs.Filling.{prices-of, Single, LevelReady, Scratch}
 use Rattle.solver.specs.declared.row.Row.{Row}
-use Rattle.solver.specs.Rows.{Matches, Growing, Shifted, RowReady, RowEntered, KeysReady}
+use Rattle.solver.specs.Rows.{Matches, Growing, RowHeld, Shifted, RowReady, RowEntered, KeysReady}
 use Rattle.table.proofs.Tables.{number-last, falling-numbered, stored-entered, stored-kept, entered-none, kept-others-none, kept-others-then, kept-of-others, below-others}
 
 -- No more siblings than nodes.
@@ -127,7 +127,7 @@ module _ {s : List ℕ} {b limit : ℕ} {table prices costs₀ choices₀ : List
 
       pub row-asks : {keys : List ℕ} → KeysReady keys → (0 < w) × (j + w ≤ m)
           → ((v : ℕ) → 0 < v → j + v ≤ m → getD matches′ v 0 ≤ getD matches′ w 0)
-          → (Falling numbers m (length costs) × Falling numbers m (length choices))
+          → RowHeld costs choices numbers row
           × ((KeysReady keys × Shifted row matches′) × RowReady costs choices numbers row prices matches′)
       row-asks keys width most = (
         (falling (ready .cost-room) (d .kept-costs), falling (ready .choice-room) (d .kept-choices)),

@@ -4,12 +4,13 @@ use mathlib.Core.List.{List}
 use Prim.Native.Nat.{ℕ, _+_, _-_, _<_, _≤_}
 use lib.ListN.{length, getD}
 use Rattle.format.specs.Limits.{Prices, of-repeat}
-use Rattle.format.specs.Forest.{Allowed, siblings, nodes}
+use Rattle.format.specs.Forest.{Allowed, at-most, siblings, nodes}
 use Rattle.format.specs.Tree.{tree-of}
 use Rattle.optimum.specs.Cheapest.{node, best-cost}
-use Rattle.table.specs.Table.{Below, cells}
+use Rattle.table.specs.Table.{Below, Filled, Kept, cells}
 use Rattle.table.specs.Listing.{Spelled}
 use Rattle.solver.specs.Rows.{KeysReady, top-price}
+use Rattle.filling.specs.declared.level.Level.{Level}
 
 -- The prices that a table of labels and a list of repeat prices give.
 abbrev pub prices-of : (table prices : List ℕ) → Prices
@@ -35,6 +36,14 @@ pub record LevelReady (s : List ℕ) (b limit : ℕ) (table prices costs choices
   pub cost-room : cells (b + nodes (tree-of s)) ≤ length costs
   pub choice-room : cells (b + nodes (tree-of s)) ≤ length choices
   pub prepared : Prepared table prices
+
+-- The sequence is entered with all below it, and nothing outside its interval has changed.
+abbrev pub LevelFilled : (s : List ℕ) (level : Level) (table prices costs choices : List ℕ) → Type 0
+LevelFilled s level table prices costs choices =
+    Filled (at-most (level .limit)) (prices-of table prices) (level .behind) (tree-of s) costs choices
+
+abbrev pub LevelKept : (s : List ℕ) (level : Level) (before after : List ℕ) → Type 0
+LevelKept s level before after = Kept (level .behind) (nodes (tree-of s)) before after
 
 -- The cost of sibling i by itself, where the sequences inside the groups are entered.
 pub record Single (s table costs numbers : List ℕ) (i r : ℕ) : Type 0 where

@@ -8,10 +8,10 @@ use solver::grow;
 use table::classify;
 use table::count_nodes;
 use table::list_siblings;
-ghost use Rattle.format.specs.Forest.{nodes, at-most};
+ghost use Rattle.format.specs.Forest.{at-most};
 ghost use Rattle.format.specs.Tree.{tree-of};
-ghost use Rattle.table.specs.Table.{Below, Filled, Kept};
-ghost use Rattle.filling.specs.Filling.{prices-of, LevelReady, Scratch};
+ghost use Rattle.table.specs.Table.{Below};
+ghost use Rattle.filling.specs.Filling.{prices-of, LevelReady, LevelFilled, LevelKept, Scratch};
 
 // Where a sequence stands: how many nodes of the run are behind it, and how wide a repeat may be.
 pub struct Level {
@@ -37,8 +37,8 @@ pub fn enter_level(
     requires { ⌜ Below (at-most (level .limit)) (prices-of (now table) (now prices)) (level .behind) (tree-of (now s)) (now costs) (now choices) ⌝ }
     requires { ⌜ Scratch (now offsets) (now numbers) (now kinds) (now matches) (now keys) ⌝ }
     ensures scratch { λ _. ⌜ Scratch (now (offsets .exit)) (now (numbers .exit)) (now (kinds .exit)) (now (matches .exit)) (now (keys .exit)) ⌝ }
-    ensures entered { λ _. ⌜ Filled (at-most (level .limit)) (prices-of (now (table .entry)) (now (prices .entry))) (level .behind) (tree-of (now (s .entry))) (now (costs .exit)) (now (choices .exit)) ⌝ }
-    ensures kept { λ _. ⌜ Kept (level .behind) (nodes (tree-of (now (s .entry)))) (now (costs .entry)) (now (costs .exit)) × Kept (level .behind) (nodes (tree-of (now (s .entry)))) (now (choices .entry)) (now (choices .exit)) ⌝ }
+    ensures entered { λ _. ⌜ LevelFilled (now (s .entry)) level (now (table .entry)) (now (prices .entry)) (now (costs .exit)) (now (choices .exit)) ⌝ }
+    ensures kept { λ _. ⌜ LevelKept (now (s .entry)) level (now (costs .entry)) (now (costs .exit)) × LevelKept (now (s .entry)) level (now (choices .entry)) (now (choices .exit)) ⌝ }
 {
     let m = list_siblings(s, level.behind, offsets, numbers);
     classify(s, offsets, m, kinds);
@@ -77,8 +77,8 @@ pub fn enter_tree(
     requires { ⌜ LevelReady (now s) (level .behind) (level .limit) (now table) (now prices) (now costs) (now choices) ⌝ }
     requires { ⌜ Scratch (now offsets) (now numbers) (now kinds) (now matches) (now keys) ⌝ }
     ensures scratch { λ _. ⌜ Scratch (now (offsets .exit)) (now (numbers .exit)) (now (kinds .exit)) (now (matches .exit)) (now (keys .exit)) ⌝ }
-    ensures entered { λ _. ⌜ Filled (at-most (level .limit)) (prices-of (now (table .entry)) (now (prices .entry))) (level .behind) (tree-of (now (s .entry))) (now (costs .exit)) (now (choices .exit)) ⌝ }
-    ensures kept { λ _. ⌜ Kept (level .behind) (nodes (tree-of (now (s .entry)))) (now (costs .entry)) (now (costs .exit)) × Kept (level .behind) (nodes (tree-of (now (s .entry)))) (now (choices .entry)) (now (choices .exit)) ⌝ }
+    ensures entered { λ _. ⌜ LevelFilled (now (s .entry)) level (now (table .entry)) (now (prices .entry)) (now (costs .exit)) (now (choices .exit)) ⌝ }
+    ensures kept { λ _. ⌜ LevelKept (now (s .entry)) level (now (costs .entry)) (now (costs .exit)) × LevelKept (now (s .entry)) level (now (choices .entry)) (now (choices .exit)) ⌝ }
 {
     let mut at = 0;
     let mut n = level.behind + count_nodes(s);

@@ -17,9 +17,11 @@ use Rattle.optimum.proofs.Least.{least-unique}
 use Rattle.table.specs.Keys.{cost-digit, choice-digits, cover}
 use Rattle.table.specs.Table.{Entry, Stored, stretch, entry-at, rest-key}
 use Rattle.solver.specs.declared.row.Row.{Row}
-use Rattle.solver.specs.Rows.{RowReady, RowFits, Shifted, Rowed, RowEntered, KeysReady, Advanced, Started, Settled, Pushed, push, pass, Widened, offer, too-wide, unlike, Matched, BestKey, Keyed, Came, pair-key, offer-key, cost-base}
+use Rattle.solver.specs.Rows.{RowReady, RowFits, Shifted, Rowed, RowEntered, KeysReady, Advanced, Started, Settled}
+use Rattle.solver.specs.Rows.{Pushed, push, pass, Widened, offer, too-wide, unlike, Matched, BestKey, Keyed, Came, pair-key, offer-key, cost-base}
 use Rattle.solver.proofs.Offers.{copy-more, near-power, power-near}
-use Rattle.solver.proofs.Stretches.{Modest, fitting, entry-best, best-entry, best-covers, best-low, cost-low, whole-price, whole-candidate, whole-power, first-candidate, first-price, first-key, best-is, keyed-best, best-keyed, best-one, keyed-plain}
+use Rattle.solver.proofs.Stretches.{Modest, fitting, cost-low, entry-best, best-entry, best-covers, best-low, best-is, best-keyed, best-one}
+use Rattle.solver.proofs.Stretches.{whole-price, whole-candidate, whole-power, first-candidate, first-price, first-key, keyed-best, keyed-plain}
 
 -- A pair that may stand first, by its key.
 record Pair (A : Allowed) (P : Prices) (x : Forest) (k : ℕ) : Type 0 where
@@ -29,6 +31,7 @@ record Pair (A : Allowed) (P : Prices) (x : Forest) (k : ℕ) : Type 0 where
   is-key : k ≡ pair-key A P x count width
 
 module _ {costs choices numbers : List ℕ} {row : Row} {prices same : List ℕ} (z : RowReady costs choices numbers row prices same) where
+  -- The row's sibling, how many there are and how many match; the tree that it is of, what is allowed there, and the prices.
   abbrev i : ℕ
   i = row .at
 
@@ -38,37 +41,46 @@ module _ {costs choices numbers : List ℕ} {row : Row} {prices same : List ℕ}
   abbrev span : ℕ
   span = row .span
 
-  modest : Modest (z .allowed) (z .prices-are) (z .tree)
+  abbrev A : Allowed
+  A = z .allowed
+
+  abbrev P : Prices
+  P = z .prices-are
+
+  abbrev t : Forest
+  t = z .tree
+
+  modest : Modest A P t
   modest = record { run = z .run; few = z .total; step-low = z .step-low; group-low = z .group-low }
 
-  from-here : i + siblings (back i (z .tree)) ≡ m
-  from-here = omega (arith, siblings-back i (z .tree) (z .run .plain) (omega (arith, z .some, z .all)), z .all)
+  from-here : i + siblings (back i t) ≡ m
+  from-here = omega (arith, siblings-back i t (z .run .plain) (omega (arith, z .some, z .all)), z .all)
 
-  pub few : m ≤ 1024
-  few = omega (arith, siblings-le-nodes (z .tree) (z .run .plain), z .total, z .all)
+  few : m ≤ 1024
+  few = omega (arith, siblings-le-nodes t (z .run .plain), z .total, z .all)
 
   -- The table's entries of the rows further on.
   entered : (j n : ℕ) → i < j → 0 < n → j + n ≤ m
-      → Entry (z .allowed) (z .prices-are) (stretch (z .tree) j n) (entry-at costs numbers j (j + n)) (entry-at choices numbers j (j + n))
+      → Entry A P (stretch t j n) (entry-at costs numbers j (j + n)) (entry-at choices numbers j (j + n))
   entered j n l p h =
       rw (z .numbers-are .numbered j (omega (arith, z .all)), z .numbers-are .numbered (j + n) (omega (arith, z .all)))
       (z .rows-below .entry j n (omega arith) p (omega (arith, z .all)))
 
   -- The cost of what follows the first c of n siblings.
   rest-cost : (c r n : ℕ) → 0 < c → 0 < r → c + r ≡ n → i + n ≤ m
-      → entry-at costs numbers (i + c) (i + n) ≡ best-cost (z .allowed) (z .prices-are) (front r (back (i + c) (z .tree)))
+      → entry-at costs numbers (i + c) (i + n) ≡ best-cost A P (front r (back (i + c) t))
   rest-cost c r n p q e h =
       let f : i + c + r ≡ i + n = omega arith in
       rw (← f) (entered (i + c) r (omega arith) q (omega arith) .costs)
 
-  matched : (w : ℕ) → 0 < w → i + w ≤ m → Matched (back i (z .tree)) w (getD same w 0)
+  matched : (w : ℕ) → 0 < w → i + w ≤ m → Matched (back i t) w (getD same w 0)
   matched w p h = z .matches .matched w p (omega (arith, from-here))
 
   -- No match reaches past the end.
   pub match-low : (w : ℕ) → 0 < w → i + w ≤ m → i + w + getD same w 0 ≤ m
   match-low w p h = let d = matched w p h in omega (arith, from-here)
 
-  pub own-low : row .own < cost-base
+  own-low : row .own < cost-base
   own-low = omega (arith, z .own-cost, cost-low modest i 1)
 
   pub row-fits : Shifted row same → RowFits row
@@ -77,39 +89,42 @@ module _ {costs choices numbers : List ℕ} {row : Row} {prices same : List ℕ}
 
   -- What the row starts from: where its siblings are those `shift` further on, the key is that row's.
   module _ (f : Shifted row same) (keys : List ℕ) (s : Started costs choices numbers row keys) where
-    started-one : BestKey (z .allowed) (z .prices-are) (stretch (z .tree) i 1) (getD keys 1 0)
-    started-one = best-one modest i (getD keys 1 0) (omega (arith, z .some, z .all)) (s .one ∙ rw (z .own-cost))
+    started-one : BestKey A P (stretch t i 1) (getD keys 1 0)
+    started-one = best-one modest i (getD keys 1 0) (omega (arith, z .some, z .all)) (omega (arith, s .one, z .own-cost))
 
-    shifted : Matched (back i (z .tree)) (row .shift) span
-    shifted = rw (f .spans) (matched (row .shift) (f .some) (f .near))
+    shifted : Matched (back i t) (row .shift) span
+    shifted =
+        let by-span : (k : ℕ) → k ≡ getD same (row .shift) 0 → Matched (back i t) (row .shift) k =
+        λ k e. rw e (matched (row .shift) (f .some) (f .near)) in
+        by-span span (f .spans)
 
-    started-final : (n : ℕ) → 0 < n → n ≤ span → BestKey (z .allowed) (z .prices-are) (stretch (z .tree) i n) (getD keys n 0)
+    started-final : (n : ℕ) → 0 < n → n ≤ span → BestKey A P (stretch t i n) (getD keys n 0)
     started-final n p h = by-place (decLt 1 n)
       where
-        same-stretch : stretch (z .tree) i n ≡ stretch (z .tree) (i + row .shift) n
+        same-stretch : stretch t i n ≡ stretch t (i + row .shift) n
         same-stretch =
             let d = shifted in
-            front-less n (span - n) (span) (back i (z .tree)) (back (row .shift) (back i (z .tree))) (omega arith) (d .shift)
-            ∙ ap (front n) (back-back i (row .shift) (i + row .shift) (z .tree) refl)
+            front-less n (span - n) span (back i t) (back (row .shift) (back i t)) (omega arith) (d .shift)
+            ∙ ap (front n) (back-back i (row .shift) (i + row .shift) t refl)
 
-        by-place : Dec (1 < n) → BestKey (z .allowed) (z .prices-are) (stretch (z .tree) i n) (getD keys n 0)
+        by-place : Dec (1 < n) → BestKey A P (stretch t i n) (getD keys n 0)
         by-place (yes l) =
             let d = shifted in
             rw (s .copied n l h, same-stretch)
             (entry-best _ _ _ _ _ (entered (i + row .shift) n (omega arith) p (omega (arith, d .bound, from-here))))
         by-place (no l) = let e : n ≡ 1 = omega arith in rw e started-one
 
-    started-keyed : (n : ℕ) → 0 < n → i + n ≤ m → Keyed (z .allowed) (z .prices-are) (z .tree) i 0 n (getD keys n 0)
-    started-keyed n p h = by-place (decLt 1 n) (decLt (span) n)
+    started-keyed : (n : ℕ) → 0 < n → i + n ≤ m → Keyed A P t i 0 n (getD keys n 0)
+    started-keyed n p h = by-place (decLt 1 n) (decLt span n)
       where
-        by-place : Dec (1 < n) → Dec (span < n) → Keyed (z .allowed) (z .prices-are) (z .tree) i 0 n (getD keys n 0)
+        by-place : Dec (1 < n) → Dec (span < n) → Keyed A P t i 0 n (getD keys n 0)
         by-place d (no l) = best-keyed modest i 0 n (getD keys n 0) (started-final n p (omega arith))
         by-place (no d) (yes l) = let e : n ≡ 1 = omega arith in rw e (best-keyed modest i 0 1 (getD keys 1 0) started-one)
         by-place (yes d) (yes l) =
             keyed-plain modest i (n - 1) n (getD keys n 0) (omega arith)
-            (s .plain n d l (omega arith) ∙ rw (z .own-cost, rest-cost 1 (n - 1) n (omega arith) (omega arith) (omega arith) h))
+            (omega (arith, s .plain n d l (omega arith), z .own-cost, rest-cost 1 (n - 1) n (omega arith) (omega arith) (omega arith) h))
 
-    pub started-rowed : Rowed z 0 keys
+    started-rowed : Rowed z 0 keys
     started-rowed = record { final = started-final; keyed = started-keyed }
 
   -- One solved stretch more, of d siblings.
@@ -118,42 +133,48 @@ module _ {costs choices numbers : List ℕ} {row : Row} {prices same : List ℕ}
     abbrev k : ℕ
     k = getD before d 0
 
-    best : BestKey (z .allowed) (z .prices-are) (stretch (z .tree) i d) (getD before d 0)
+    abbrev IsPushed : Type 0
+    IsPushed = Pushed costs choices numbers row d k before (s .between)
+
+    abbrev IsWidened : Type 0
+    IsWidened = Widened row prices (cost-digit k) d (getD same d 0) (s .between) after
+
+    best : BestKey A P (stretch t i d) k
     best = keyed-best modest i e d k (omega arith) (omega arith) (omega (arith, z .all)) (r .keyed d (omega arith) more)
 
-    covers : cover (getD before d 0) ≡ best .count * best .width
+    covers : cover k ≡ best .count * best .width
     covers = best-covers modest i d k best
 
-    its-cost : cost-digit (getD before d 0) ≡ best-cost (z .allowed) (z .prices-are) (stretch (z .tree) i d)
+    its-cost : cost-digit k ≡ best-cost A P (stretch t i d)
     its-cost = best-entry modest i d k best .costs
 
     -- The key of a repeat of it.
     key-is : (h : ℕ) → 2 ≤ h → h ≤ 1024
-        → offer-key prices (cost-digit (getD before d 0)) d h
-        ≡ rank usual (of-repeat (z .prices-are) h + best-cost (z .allowed) (z .prices-are) (stretch (z .tree) i d)) h d
+        → offer-key prices (cost-digit k) d h
+        ≡ rank usual (of-repeat P h + best-cost A P (stretch t i d)) h d
     key-is h l l′ =
         omega (
           arith,
           its-cost,
           z .priced .price-of h l l′,
-          rank-usual (of-repeat (z .prices-are) h + best-cost (z .allowed) (z .prices-are) (stretch (z .tree) i d)) h d,
+          rank-usual (of-repeat P h + best-cost A P (stretch t i d)) h d,
         )
 
     -- The key of what is left put behind it.
     module _ (n : ℕ) (some : d < n) (h : i + n ≤ m) where
-      follows : (g v : ℕ) → g * v ≡ d → Least (z .allowed) (z .prices-are) usual (best-cost (z .allowed) (z .prices-are)) (stretch (z .tree) i d) g v
-          → getD before d 0 + rest-key costs choices numbers (i + d) (i + n)
-          ≡ rank usual (best-cost (z .allowed) (z .prices-are) (stretch (z .tree) i d) + best-cost (z .allowed) (z .prices-are) (front (n - d) (back (i + d) (z .tree)))) g v
+      follows : (g v : ℕ) → g * v ≡ d → Least A P usual (best-cost A P) (stretch t i d) g v
+          → k + rest-key costs choices numbers (i + d) (i + n)
+          ≡ rank usual (best-cost A P (stretch t i d) + best-cost A P (front (n - d) (back (i + d) t))) g v
       follows g v f l =
           rw (best-is modest i d g v k best l, rest-cost d (n - d) n (omega arith) (omega arith) (omega arith) h)
           (first-key modest i (i + d) d (n - d) n g v refl (omega arith) (omega arith) f l)
 
     -- No key rises.
-    push-lower : Pushed costs choices numbers row d (getD before d 0) before (s .between) → (n : ℕ) → getD (s .between) n 0 ≤ getD before n 0
+    push-lower : IsPushed → (n : ℕ) → getD (s .between) n 0 ≤ getD before n 0
     push-lower (push from a b c f p) n = p .lower n
     push-lower (pass f x) n = rw x (omega arith)
 
-    widen-lower : Widened row prices (cost-digit (getD before d 0)) d (getD same d 0) (s .between) after → (n : ℕ) → getD after n 0 ≤ getD (s .between) n 0
+    widen-lower : IsWidened → (n : ℕ) → getD after n 0 ≤ getD (s .between) n 0
     widen-lower (offer from a b c f p) n = p .lower n
     widen-lower (too-wide f x) n = rw x (omega arith)
     widen-lower (unlike f x) n = rw x (omega arith)
@@ -162,28 +183,28 @@ module _ {costs choices numbers : List ℕ} {row : Row} {prices same : List ℕ}
     lower n = omega (arith, push-lower (s .pushed) n, widen-lower (s .widened) n)
 
     -- Those of up to `span` siblings stay.
-    push-same : (n : ℕ) → n ≤ span → Pushed costs choices numbers row d (getD before d 0) before (s .between) → getD (s .between) n 0 ≡ getD before n 0
+    push-same : (n : ℕ) → n ≤ span → IsPushed → getD (s .between) n 0 ≡ getD before n 0
     push-same n l (push from a b c f p) = ⊎-elim (λ x. x) (λ x. absurd (omega arith)) (p .came n)
     push-same n l (pass f x) = rw x
 
-    widen-same : (n : ℕ) → n ≤ span → Widened row prices (cost-digit (getD before d 0)) d (getD same d 0) (s .between) after
+    widen-same : (n : ℕ) → n ≤ span → IsWidened
         → getD after n 0 ≡ getD (s .between) n 0
     widen-same n l (offer from a b c f p) =
         ⊎-elim (λ x. x) (λ x. absurd (omega (arith, mul-le-mul-right d (x .late), x .covers))) (p .came n)
     widen-same n l (too-wide f x) = rw x
     widen-same n l (unlike f x) = rw x
 
-    final : (n : ℕ) → 0 < n → n ≤ span → BestKey (z .allowed) (z .prices-are) (stretch (z .tree) i n) (getD after n 0)
+    final : (n : ℕ) → 0 < n → n ≤ span → BestKey A P (stretch t i n) (getD after n 0)
     final n p l = rw (widen-same n l (s .widened), push-same n l (s .pushed)) (r .final n p l)
 
     -- Longer ones: each key is still that of a candidate,
     module _ (n : ℕ) (pos : 0 < n) (fits : i + n ≤ m) where
-      pair-before : Pair (z .allowed) (z .prices-are) (stretch (z .tree) i n) (getD before n 0)
+      pair-before : Pair A P (stretch t i n) (getD before n 0)
       pair-before =
           let x = r .keyed n pos fits in
           record { count = x .count; width = x .width; candidate = x .candidate; is-key = x .is-key }
 
-      pair-between : Pushed costs choices numbers row d (getD before d 0) before (s .between) → Pair (z .allowed) (z .prices-are) (stretch (z .tree) i n) (getD (s .between) n 0)
+      pair-between : IsPushed → Pair A P (stretch t i n) (getD (s .between) n 0)
       pair-between (push from a b c f p) = ⊎-elim
           (λ x. rw x pair-before)
           (λ x.
@@ -200,11 +221,11 @@ module _ {costs choices numbers : List ℕ} {row : Row} {prices same : List ℕ}
           (p .came n)
       pair-between (pass f x) = rw x pair-before
 
-      pair-after : Widened row prices (cost-digit (getD before d 0)) d (getD same d 0) (s .between) after → Pair (z .allowed) (z .prices-are) (stretch (z .tree) i n) (getD after n 0)
+      pair-after : IsWidened → Pair A P (stretch t i n) (getD after n 0)
       pair-after (offer from a b c f p) = ⊎-elim
           (λ x. rw x (pair-between (s .pushed)))
-          (λ (x : Came prices (cost-digit (getD before d 0)) d (getD same d 0) from n (getD after n 0)).
-          let q = near-power (x .count) d (getD same d 0) (z-run) (omega arith) (omega (arith, z .limited)) (matched d (omega arith) more) (omega (arith, x .late)) (x .near) in
+          (λ (x : Came prices (cost-digit k) d (getD same d 0) from n (getD after n 0)).
+          let q = near-power (x .count) d (getD same d 0) z-run (omega arith) (omega (arith, z .limited)) (matched d (omega arith) more) (omega (arith, x .late)) (x .near) in
           let y = reach q in
           record {
             count = x .count;
@@ -215,16 +236,16 @@ module _ {costs choices numbers : List ℕ} {row : Row} {prices same : List ℕ}
           })
           (p .came n)
         where
-          z-run : Run (z .allowed) (back i (z .tree))
+          z-run : Run A (back i t)
           z-run = run-back i (z .run)
       pair-after (too-wide f x) = rw x (pair-between (s .pushed))
       pair-after (unlike f x) = rw x (pair-between (s .pushed))
 
       -- and bounded by those that came with d.
       module _ (far : span < n) where
-        whole-now : (h w : ℕ) → Power (z .allowed) (back i (z .tree)) h w → h * w ≡ n → w ≡ d
-            → Widened row prices (cost-digit (getD before d 0)) d (getD same d 0) (s .between) after
-            → getD after n 0 ≤ rank usual (of-repeat (z .prices-are) h + best-cost (z .allowed) (z .prices-are) (stretch (z .tree) i d)) h d
+        whole-now : (h w : ℕ) → Power A (back i t) h w → h * w ≡ n → w ≡ d
+            → IsWidened
+            → getD after n 0 ≤ rank usual (of-repeat P h + best-cost A P (stretch t i d)) h d
         whole-now h w q f x (offer from a b c l p) =
             let y = reach q in
             let q′ = rw x at q in
@@ -238,16 +259,16 @@ module _ {costs choices numbers : List ℕ} {row : Row} {prices same : List ℕ}
             let u : 1 ≤ h - 1 = omega (arith, q .repeats .twice) in
             absurd (omega (arith, mul-le-mul-right d u))
 
-        first-now : (g v : ℕ) → d < n → g * v ≡ d → Least (z .allowed) (z .prices-are) usual (best-cost (z .allowed) (z .prices-are)) (stretch (z .tree) i d) g v
-            → Pushed costs choices numbers row d (getD before d 0) before (s .between)
-            → getD after n 0 ≤ rank usual (best-cost (z .allowed) (z .prices-are) (stretch (z .tree) i d) + best-cost (z .allowed) (z .prices-are) (front (n - d) (back (i + d) (z .tree)))) g v
+        first-now : (g v : ℕ) → d < n → g * v ≡ d → Least A P usual (best-cost A P) (stretch t i d) g v
+            → IsPushed
+            → getD after n 0 ≤ rank usual (best-cost A P (stretch t i d) + best-cost A P (front (n - d) (back (i + d) t))) g v
         first-now g v some f l (push from a b c u p) =
             omega (arith, widen-lower (s .widened) n, p .pushed n (c n some far) (omega arith), follows n some fits g v f l)
         first-now g v some f l (pass u x) =
-            let y = least-unique (z .allowed) (z .prices-are) usual (best-cost (z .allowed) (z .prices-are)) (stretch (z .tree) i d) (best .count) (best .width) g v (fitting modest i d) (best .least) l in
+            let y = least-unique A P usual (best-cost A P) (stretch t i d) (best .count) (best .width) g v (fitting modest i d) (best .least) l in
             absurd (u (covers ∙ rw (y .0, y .1) f))
 
-      keyed : Dec (span < n) → Keyed (z .allowed) (z .prices-are) (z .tree) i d n (getD after n 0)
+      keyed : Dec (span < n) → Keyed A P t i d n (getD after n 0)
       keyed (no l) = best-keyed modest i d n (getD after n 0) (final n pos (omega arith))
       keyed (yes l) =
           let x = r .keyed n pos fits in
@@ -271,13 +292,13 @@ module _ {costs choices numbers : List ℕ} {row : Row} {prices same : List ℕ}
             ];
           }
 
-    pub settled-rowed : Rowed z d after
+    settled-rowed : Rowed z d after
     settled-rowed = record { final = final; keyed = λ n p h. keyed n p h (decLt span n) }
 
   -- Where no more than `span` siblings match at any width, no repeat covers more than twice as many; so longer stretches have
   -- nothing to offer.
   module _ (f : Shifted row same) (top : ℕ) (high : (c : ℕ) → c ≤ 2 * span → c ≤ m - i → c ≤ top) where
-    within : (h w : ℕ) → Power (z .allowed) (back i (z .tree)) h w → h * w ≤ top
+    within : (h w : ℕ) → Power A (back i t) h w → h * w ≤ top
     within h w q =
         let y = reach q in
         let twice = q .repeats .twice in
@@ -287,7 +308,7 @@ module _ {costs choices numbers : List ℕ} {row : Row} {prices same : List ℕ}
         let more = copy-more (h - 1) h w (omega arith) in
         high (h * w) (omega (arith, mul-le-mul-right w u, f .most w (y .some) fits)) (omega (arith, from-here))
 
-    pub rowed-past : (s : ℕ) (keys : List ℕ) → Rowed z top keys → Rowed z s keys
+    rowed-past : (s : ℕ) (keys : List ℕ) → Rowed z top keys → Rowed z s keys
     rowed-past s keys r =
         record {
           final = r .final;
@@ -307,10 +328,10 @@ module _ {costs choices numbers : List ℕ} {row : Row} {prices same : List ℕ}
 
   -- All stretches done: what the row enters in the table, and that it fits.
   module _ (keys : List ℕ) (r : Rowed z (m - i) keys) (n : ℕ) (pos : 0 < n) (fits : i + n ≤ m) where
-    solved : BestKey (z .allowed) (z .prices-are) (stretch (z .tree) i n) (getD keys n 0)
+    solved : BestKey A P (stretch t i n) (getD keys n 0)
     solved = keyed-best modest i (m - i) n (getD keys n 0) pos (omega arith) (omega (arith, z .all)) (r .keyed n pos fits)
 
-    solved-entry : Entry (z .allowed) (z .prices-are) (stretch (z .tree) i n) (cost-digit (getD keys n 0)) (choice-digits (getD keys n 0))
+    solved-entry : Entry A P (stretch t i n) (cost-digit (getD keys n 0)) (choice-digits (getD keys n 0))
     solved-entry = best-entry modest i n (getD keys n 0) solved
 
     pub solved-low : cost-digit (getD keys n 0) < cost-base

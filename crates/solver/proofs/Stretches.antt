@@ -1,5 +1,5 @@
 -- The keys of the stretches that begin at sibling i: from a key that is bounded by few candidates to that of the least pair, and back.
-use mathlib.Core.Path.{_≡_, refl, sym, _∙_}
+use mathlib.Core.Path.{_≡_, refl, _∙_}
 use Prim.Native.Nat.{ℕ, suc, _+_, _*_, _<_, _≤_}
 use native.Mathlib.Omega.{arith}
 use Rattle.format.specs.Limits.{Prices, of-repeat}
@@ -50,7 +50,7 @@ module _ {A : Allowed} {P : Prices} {t : Forest} (g : Modest A P t) (i : ℕ) wh
   piece n = run-front n rest
 
   -- The costs are far below 32 bits.
-  pub cost-low : (n : ℕ) → best-cost A P (stretch t i n) ≤ 67107840
+  pub cost-low : (n : ℕ) → best-cost A P (stretch t i n) ≤ 65535 * 1024
   cost-low n =
       omega (
         arith,

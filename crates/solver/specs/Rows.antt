@@ -8,7 +8,7 @@ use Rattle.format.specs.Limits.{Prices, of-repeat}
 use Rattle.format.specs.Forest.{Forest, Allowed, siblings, nodes}
 use Rattle.optimum.specs.Cheapest.{Run, front, back, node, rank, usual, price, Candidate, Power, Least, best-cost}
 use Rattle.table.specs.Keys.{packed, key, cost-digit, cover}
-use Rattle.table.specs.Table.{Entry, Entered, Stored, entry-at, key-at, rest-key, stretch}
+use Rattle.table.specs.Table.{Entry, Entered, Falling, Stored, entry-at, key-at, rest-key, stretch}
 use Rattle.table.specs.Listing.{Numbered, Classed}
 use Rattle.solver.specs.declared.row.Row.{Row}
 
@@ -23,12 +23,16 @@ top-price = 65535 * 65535
 abbrev pub top-key : ℕ
 top-key = key (2 * cost-base) 0
 
--- A row's numbers fit the lists: it has a stretch, and the row that it takes keys from is as long.
+-- A row's numbers fit the lists: it has a stretch, and those whose keys it takes over end within the sequence.
 pub record RowFits (row : Row) : Type 0 where
   pub few : row .end ≤ 1024
   pub some : row .at < row .end
   pub low : row .own < cost-base
   pub reach : row .at + row .shift + row .span ≤ row .end
+
+-- Both work slices have the entries of the sequence's stretches.
+abbrev pub RowHeld : (costs choices numbers : List ℕ) (row : Row) → Type 0
+RowHeld costs choices numbers row = Falling numbers (row .end) (length costs) × Falling numbers (row .end) (length choices)
 
 -- The keys and the prices as they may be worked on.
 pub record KeysReady (keys : List ℕ) : Type 0 where
@@ -54,7 +58,7 @@ pub record Matched (T : Forest) (w k : ℕ) : Type 0 where
 pub record Matches (T : Forest) (same : List ℕ) : Type 0 where
   pub matched : (w : ℕ) → 0 < w → w ≤ siblings T → Matched T w (getD same w 0)
 
--- The row takes its keys from where the most siblings match.
+-- The row takes keys over from where the most siblings match.
 pub record Shifted (row : Row) (same : List ℕ) : Type 0 where
   pub long : length same ≡ 1025
   pub some : 0 < row .shift

@@ -7,14 +7,12 @@ use table::rest_key;
 ghost use mathlib.Core.Path.{_≡_};
 ghost use mathlib.Core.Logic.{_⊎_};
 ghost use Prim.Native.Nat.{_+_, _<_, _≤_};
-ghost use lib.ListN.{length};
-ghost use Rattle.table.specs.Table.{Falling};
 ghost use Rattle.table.specs.Keys.{cost-digit};
-ghost use Rattle.solver.specs.Rows.{top-key, RowFits, KeysReady, PricesReady, Copied, Plainly, Offering, Pushing};
+ghost use Rattle.solver.specs.Rows.{top-key, RowFits, RowHeld, KeysReady, PricesReady, Copied, Plainly, Offering, Pushing};
 
 // Takes over the keys of the row that serves as far as siblings match.
 pub fn copy_row(costs: &[u32], choices: &[u32], numbers: &[usize], row: Row, keys: &mut [u64])
-    requires { ⌜ Falling (now numbers) (row .end) (length (now costs)) × Falling (now numbers) (row .end) (length (now choices)) ⌝ }
+    requires { ⌜ RowHeld (now costs) (now choices) (now numbers) row ⌝ }
     requires { ⌜ RowFits row × KeysReady (now keys) ⌝ }
     ensures { λ _. ⌜ Copied (now (costs .entry)) (now (choices .entry)) (now (numbers .entry)) (row .at + row .shift) (row .span) (now (keys .entry)) (now (keys .exit)) ⌝ }
 {
@@ -37,7 +35,7 @@ pub fn plain_row(
     from: usize,
     keys: &mut [u64],
 )
-    requires { ⌜ Falling (now numbers) (row .end) (length (now costs)) × Falling (now numbers) (row .end) (length (now choices)) ⌝ }
+    requires { ⌜ RowHeld (now costs) (now choices) (now numbers) row ⌝ }
     requires { ⌜ RowFits row × KeysReady (now keys) × (2 ≤ from) × (from ≤ 1025) ⌝ }
     ensures { λ _. ⌜ Plainly (now (costs .entry)) (now (choices .entry)) (now (numbers .entry)) row from (now (keys .entry)) (now (keys .exit)) ⌝ }
 {
@@ -71,7 +69,7 @@ pub fn push(
     from: usize,
     keys: &mut [u64],
 )
-    requires { ⌜ Falling (now numbers) (row .end) (length (now costs)) × Falling (now numbers) (row .end) (length (now choices)) ⌝ }
+    requires { ⌜ RowHeld (now costs) (now choices) (now numbers) row ⌝ }
     requires { ⌜ RowFits row × KeysReady (now keys) × (row .at + c ≤ row .end) × (k ≤ top-key) × (c < from) × (from ≤ 1025) ⌝ }
     ensures { λ _. ⌜ Pushing (now (costs .entry)) (now (choices .entry)) (now (numbers .entry)) row c k from (now (keys .entry)) (now (keys .exit)) ⌝ }
 {

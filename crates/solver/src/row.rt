@@ -10,8 +10,7 @@ use table::store_row;
 ghost use mathlib.Core.Path.{_≡_};
 ghost use Prim.Native.Nat.{ℕ, _+_, _-_, _*_, _<_, _≤_};
 ghost use lib.ListN.{length, getD};
-ghost use Rattle.solver.specs.Rows.{Growing, KeysReady, PricesReady, RowFits, Shifted, RowReady, Started, Settled, Advanced, RowEntered};
-ghost use Rattle.table.specs.Table.{Falling};
+ghost use Rattle.solver.specs.Rows.{Growing, KeysReady, PricesReady, RowFits, RowHeld, Shifted, RowReady, Started, Settled, Advanced, RowEntered};
 
 // A row: the stretches that begin at sibling `at` of the `end` siblings of a sequence, in which no repeat is wider than `limit`. The
 // sibling costs `own` by itself. The first `span` siblings are those from `shift` further on, and at no width do more match.
@@ -63,7 +62,7 @@ pub fn grow(kinds: &[usize], i: usize, m: usize, matches: &mut [usize]) -> usize
 
 // The keys of a row before any repeat is offered.
 fn start_row(costs: &[u32], choices: &[u32], numbers: &[usize], row: Row, keys: &mut [u64])
-    requires { ⌜ Falling (now numbers) (row .end) (length (now costs)) × Falling (now numbers) (row .end) (length (now choices)) ⌝ }
+    requires { ⌜ RowHeld (now costs) (now choices) (now numbers) row ⌝ }
     requires { ⌜ RowFits row × KeysReady (now keys) ⌝ }
     ensures { λ _. ⌜ Started (now (costs .entry)) (now (choices .entry)) (now (numbers .entry)) row (now (keys .exit)) ⌝ }
 {
@@ -116,7 +115,7 @@ fn settle(
     matched: usize,
     keys: &mut [u64],
 )
-    requires { ⌜ Falling (now numbers) (row .end) (length (now costs)) × Falling (now numbers) (row .end) (length (now choices)) ⌝ }
+    requires { ⌜ RowHeld (now costs) (now choices) (now numbers) row ⌝ }
     requires { ⌜ RowFits row × KeysReady (now keys) × PricesReady (now prices) × (0 < d) × (row .at + d + matched ≤ row .end) ⌝ }
     ensures low { λ _. ⌜ KeysReady (now (keys .exit)) ⌝ }
     ensures settled { λ _. ⌜ Settled (now (costs .entry)) (now (choices .entry)) (now (numbers .entry)) row (now (prices .entry)) d matched (now (keys .entry)) (now (keys .exit)) ⌝ }
@@ -166,7 +165,7 @@ fn solve(
     matches: &[usize],
     keys: &mut [u64],
 )
-    requires { ⌜ Falling (now numbers) (row .end) (length (now costs)) × Falling (now numbers) (row .end) (length (now choices)) ⌝ }
+    requires { ⌜ RowHeld (now costs) (now choices) (now numbers) row ⌝ }
     requires { ⌜ RowFits row × KeysReady (now keys) × PricesReady (now prices) × Shifted row (now matches) ⌝ }
     requires { ⌜ ((w : ℕ) → 0 < w → row .at + w ≤ row .end → row .at + w + getD (now matches) w 0 ≤ row .end) ⌝ }
     ensures { λ _. ⌜ Advanced (now (costs .entry)) (now (choices .entry)) (now (numbers .entry)) row (now (prices .entry)) (now (matches .entry)) (row .end - row .at) (now (keys .entry)) (now (keys .exit)) ⌝ }
@@ -189,7 +188,7 @@ pub fn enter_row(
     matches: &[usize],
     keys: &mut [u64],
 )
-    requires { ⌜ Falling (now numbers) (row .end) (length (now costs)) × Falling (now numbers) (row .end) (length (now choices)) ⌝ }
+    requires { ⌜ RowHeld (now costs) (now choices) (now numbers) row ⌝ }
     requires { ⌜ KeysReady (now keys) × Shifted row (now matches) ⌝ }
     requires { ⌜ RowReady (now costs) (now choices) (now numbers) row (now prices) (now matches) ⌝ }
     ensures keys { λ _. ⌜ KeysReady (now (keys .exit)) ⌝ }

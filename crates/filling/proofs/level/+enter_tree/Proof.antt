@@ -51,17 +51,24 @@ abbrev μ-loop : lts.MeasureT-loop
     length s - at
 
 module _ (t : ℕ) where
-  -- The function's start, from the loop's head; the next sibling's part, from the branch that asks whether it is a group, either way.
-  abbrev start : lts.At-loop (calls t) (asked t) reads.Post Inv-loop μ-loop → lts.Start (calls t) (asked t) reads.Post Inv-loop μ-loop
-  start c = c .before .before .before .before .before .before .before .before .before .before .before .before .before
+  -- The function's start, from where its nodes are counted, and from the loop's head.
+  abbrev begun : lts.After-struct-known (calls t) (asked t) reads.Post Inv-loop μ-loop → lts.Start (calls t) (asked t) reads.Post Inv-loop μ-loop
+  begun c = c .before .before .before .before .before .before .before .before .before .before .before .before
 
+  abbrev start : lts.At-loop (calls t) (asked t) reads.Post Inv-loop μ-loop → lts.Start (calls t) (asked t) reads.Post Inv-loop μ-loop
+  start c = begun (c .before)
+
+  -- The next sibling's part, from where its nodes are counted, and that, from the branch for a group.
   abbrev part : lts.After-count-nodes2 (calls t) (asked t) reads.Post Inv-loop μ-loop → lts.After-node-at (calls t) (asked t) reads.Post Inv-loop μ-loop
   part c = c .before
 
   abbrev counted : lts.Then1 (calls t) (asked t) reads.Post Inv-loop μ-loop → lts.After-count-nodes2 (calls t) (asked t) reads.Post Inv-loop μ-loop
   counted c = c .before .before
 
-  -- From where a call is over: the branch that it was made in; and from where the level is entered: the end of the loop.
+  -- The call, from where it is over, and the branch that it was made in; the end of the loop, from where the level is entered.
+  abbrev call : lts.After-slice-known14 (calls t) (asked t) reads.Post Inv-loop μ-loop → lts.After-enter-tree (calls t) (asked t) reads.Post Inv-loop μ-loop
+  call c = c .before .before .before .before .before .before .before .before .before .before .before .before .before .before
+
   abbrev called : lts.After-enter-tree (calls t) (asked t) reads.Post Inv-loop μ-loop → lts.Then1 (calls t) (asked t) reads.Post Inv-loop μ-loop
   called c = c .before .before .before .before .before .before .before .before .before
 
@@ -73,12 +80,12 @@ module _ (t : ℕ) where
 
   add-n : lts.Need-add-n (calls t) (asked t) reads.Post Inv-loop μ-loop
   add-n c =
-      let l = c .before .before .before .before .before .before .before .before .before .before .before .before .pre .1 .0 in
+      let l = begun c .pre .1 .0 in
       omega (arith, c .before .count-nodes .ensures, spelled-count _ (l .spelled), l .total)
 
   loop-holds : lts.Need-loop-holds (calls t) (asked t) reads.Post Inv-loop μ-loop
   loop-holds c =
-      let S = c .before .before .before .before .before .before .before .before .before .before .before .before in
+      let S = begun c in
       let a = S .args in
       let A = at-most (a .level .limit) in
       let P = prices-of (a .table .now) (a .prices .now) in (
@@ -145,15 +152,12 @@ module _ (t : ℕ) where
       (omega (arith, o .shorter, start L .pre .0), (o .ready, L .loop .inv .1))
 
   loop-less : lts.Need-loop-less (calls t) (asked t) reads.Post Inv-loop μ-loop
-  loop-less c =
-      let E = c .before .before .before .before .before .before .before .before .before .before .before .before .before .before in
-      omega (arith, passes (part (counted (called E))))
+  loop-less c = omega (arith, passes (part (counted (called (call c)))))
 
   loop-again : lts.Need-loop-again (calls t) (asked t) reads.Post Inv-loop μ-loop
   loop-again c =
-      let E = c .before .before .before .before .before .before .before .before .before .before .before .before .before .before in
-      let e = E .enter-tree .ensures in
-      let g = called E in
+      let e = call c .enter-tree .ensures in
+      let g = called (call c) in
       let N = counted g in
       let p = part N in
       let L = p .before .before in (

@@ -15,6 +15,10 @@ Inv-loop s level table prices offsets numbers kinds matches₀ keys₀ costs₀ 
 abbrev μ-loop : tie.MeasureT-loop
 μ-loop s level table prices offsets numbers kinds matches₀ keys₀ costs₀ choices₀ m i₀ matches keys costs choices i = i
 
+-- The function's start, from where the siblings are listed.
+abbrev begun : tie.After-list-siblings Inv-loop μ-loop → tie.Start Inv-loop μ-loop
+begun c = c .before .before .before .before .before .before .before .before .before .before .before .before .before
+
 -- From the loop's head: where the siblings were classified and listed, and the function's start.
 abbrev classed : tie.At-loop Inv-loop μ-loop → tie.After-classify Inv-loop μ-loop
 classed c = c .before .before .before
@@ -23,7 +27,7 @@ abbrev listed : tie.At-loop Inv-loop μ-loop → tie.After-list-siblings Inv-loo
 listed c = classed c .before .before .before .before .before .before .before
 
 abbrev start : tie.At-loop Inv-loop μ-loop → tie.Start Inv-loop μ-loop
-start c = listed c .before .before .before .before .before .before .before .before .before .before .before .before .before
+start c = begun (listed c)
 
 -- From where the cost of the sibling is known: the width at which the most match, and the inside of the loop.
 abbrev grown : tie.After-own-cost Inv-loop μ-loop → tie.After-grow Inv-loop μ-loop
@@ -31,6 +35,10 @@ grown c = c .before .before .before .before .before .before
 
 abbrev inside : tie.After-grow Inv-loop μ-loop → tie.In-loop Inv-loop μ-loop
 inside c = c .before .before .before
+
+-- That, from where the row is entered.
+abbrev costed : tie.After-enter-row Inv-loop μ-loop → tie.After-own-cost Inv-loop μ-loop
+costed c = c .before .before .before .before .before .before .before
 
 -- The sibling is the one before those entered.
 next : (c : tie.In-loop Inv-loop μ-loop) → c .before .loop .i - 1 + 1 ≡ c .before .loop .i
@@ -44,14 +52,14 @@ list-siblings-requires c κs =
 classify-requires : tie.Need-classify-requires Inv-loop μ-loop
 classify-requires c κs =
     let A = c .before .before .before .before .before .before in
-    let p = A .before .before .before .before .before .before .before .before .before .before .before .before .before .pre in
+    let p = begun A .pre in
     let l = A .list-siblings .ensures in
     (p .0 .spelled, (l .1 .0, (sym (l .0), omega (arith, l .0, siblings-few (p .0)), p .1 .1 .long-kinds)))
 
 loop-holds : tie.Need-loop-holds Inv-loop μ-loop
 loop-holds c =
     let A = c .before .before .before .before .before .before .before .before .before in
-    let p = A .before .before .before .before .before .before .before .before .before .before .before .before .before .pre in
+    let p = begun A .pre in
     (omega arith, descended-none (p .0) _ _ (A .list-siblings .ensures .0) (p .1 .1 .long-matches), p .1 .1 .keys-ready)
 
 sub-i : tie.Need-sub-i Inv-loop μ-loop
@@ -102,14 +110,14 @@ enter-row-requires c κs =
 
 loop-less : tie.Need-loop-less Inv-loop μ-loop
 loop-less c =
-    let O = c .before .before .before .before .before .before .before .before .before .before .before .before .before in
-    let more = inside (grown O) .loop-test .taken in
+    let E = c .before .before .before .before .before .before in
+    let more = inside (grown (costed E)) .loop-test .taken in
     omega arith
 
 loop-again : tie.Need-loop-again Inv-loop μ-loop
 loop-again c =
     let E = c .before .before .before .before .before .before in
-    let O = E .before .before .before .before .before .before .before in
+    let O = costed E in
     let G = grown O in
     let I = inside G in
     let H = I .before in

@@ -1,5 +1,5 @@
 -- `filling::own::own_cost` meets its contract. The first byte tells a step from a group, and what a group holds has its entry.
-use Prim.Native.Nat.{_+_, _-_, _<_, _≤_}
+use Prim.Native.Nat.{ℕ, _+_, _-_, _<_, _≤_}
 use mathlib.Core.Path.{_≡_}
 use native.Mathlib.Omega.{arith}
 use borrow.Author.Needs.{needs}
@@ -12,7 +12,21 @@ use Rattle.filling.proofs.Singles.{own-step, own-inside, own-cell, own-
 use Rattle.filling.proofs.own.own_cost.Statement.{statement}
 use Rattle.filling.proofs.own.own_cost.Tie as tie
 
--- Its two first bytes, and what it is by them.
+-- The function's start, from where the label is read, and that, from where the sibling is no step.
+abbrev start : tie.After-shared-slice-known7 → tie.Start
+start c = c .before .before .before .before .before .before .before
+
+abbrev read : tie.Else1 → tie.After-shared-slice-known7
+read c = c .before .before .before
+
+-- The sibling's first byte and its label.
+abbrev command : tie.Start → ℕ
+command S = getD (S .args .s .now) (getD (S .args .offsets .now) (S .args .i) 0) 0
+
+abbrev label : tie.Start → ℕ
+label S = getD (S .args .s .now) (getD (S .args .offsets .now) (S .args .i) 0 + 1) 0
+
+-- It has both, and what it is by them.
 long : (S : tie.Start) → getD (S .args .offsets .now) (S .args .i) 0 + 2 ≤ length (S .args .s .now)
 long S =
     omega (
@@ -22,19 +36,16 @@ long S =
       place-most _ (S .pre .0) (S .args .i + 1),
     )
 
-first : (S : tie.Start)
-    → Sibling (tree-of (S .args .s .now)) (S .args .i) (getD (S .args .s .now) (getD (S .args .offsets .now) (S .args .i) 0) 0)
-    (getD (S .args .s .now) (getD (S .args .offsets .now) (S .args .i) 0 + 1) 0)
+first : (S : tie.Start) → Sibling (tree-of (S .args .s .now)) (S .args .i) (command S) (label S)
 first S = sibling-first _ (S .pre .0) (S .args .i) (S .pre .1 .1 .0 .0) _ (S .pre .1 .0 .1 .offset (S .args .i) (omega arith))
 
 -- The interval of what a group holds is not empty, and the table has its entry.
-some : (S : tie.Start) → (getD (S .args .s .now) (getD (S .args .offsets .now) (S .args .i) 0) 0 ≡ 0x10 → ⊥)
-    → getD (S .args .numbers .now) (S .args .i + 1) 0 < getD (S .args .numbers .now) (S .args .i) 0 - 1
-some S other = own-inside _ _ _ _ (first S) _ (S .pre .0) (omega arith) (S .pre .1 .1 .1 .1) other
+module _ (S : tie.Start) (other : command S ≡ 0x10 → ⊥) where
+  some : getD (S .args .numbers .now) (S .args .i + 1) 0 < getD (S .args .numbers .now) (S .args .i) 0 - 1
+  some = own-inside _ _ _ _ (first S) _ (S .pre .0) (omega arith) (S .pre .1 .1 .1 .1) other
 
-stored : (S : tie.Start) → (getD (S .args .s .now) (getD (S .args .offsets .now) (S .args .i) 0) 0 ≡ 0x10 → ⊥)
-    → cell (getD (S .args .numbers .now) (S .args .i + 1) 0) (getD (S .args .numbers .now) (S .args .i) 0 - 1) < length (S .args .costs .now)
-stored S other = own-cell _ _ _ _ (first S) _ (S .pre .0) (omega arith) (S .pre .1 .1 .1 .1) other _ (S .pre .1 .1 .1 .0)
+  stored : cell (getD (S .args .numbers .now) (S .args .i + 1) 0) (getD (S .args .numbers .now) (S .args .i) 0 - 1) < length (S .args .costs .now)
+  stored = own-cell _ _ _ _ (first S) _ (S .pre .0) (omega arith) (S .pre .1 .1 .1 .1) other _ (S .pre .1 .1 .1 .0)
 
 mul-at : tie.Need-mul-at
 mul-at c = search needs
@@ -46,17 +57,18 @@ add-price : tie.Need-add-price
 add-price c = omega (arith, long (c .before .before .before .before .before .before))
 
 shared-slice-read-price : tie.Need-shared-slice-read-price
-shared-slice-read-price c = omega (arith, long (c .before .before .before .before .before .before .before))
+shared-slice-read-price c = omega (arith, long (start c))
 
 price-requires : tie.Need-price-requires
 price-requires c κs = search needs
 
 shared-slice-read-if1 : tie.Need-shared-slice-read-if1
-shared-slice-read-if1 c = omega (arith, long (c .before .before .before .before .before .before .before .before .before))
+shared-slice-read-if1 c = omega (arith, long (start (c .before .before)))
 
 returns : tie.Need-returns
 returns c =
-    own-step _ _ _ _ (first (c .before .before .before .before .before .before .before .before .before .before)) _ _ _ (c .if1 .taken) _ (c .before .before .price .ensures .0)
+    let p = c .before .before in
+    own-step _ _ _ _ (first (start (p .before))) _ _ _ (c .if1 .taken) _ (p .price .ensures .0)
 
 add-entry : tie.Need-add-entry
 add-entry c = search needs
@@ -74,24 +86,24 @@ shared-slice-read-entry-2 : tie.Need-shared-slice-read-entry-2
 shared-slice-read-entry-2 c = search needs
 
 sub-entry : tie.Need-sub-entry
-sub-entry c =
-    let S = c .before .before .before .before .before .before .before .before .before .before .before .before in
-    omega (arith, some S (c .before .before .if1 .left))
+sub-entry c = let e = c .before .before in omega (arith, some (start (read e)) (e .if1 .left))
 
 entry-requires : tie.Need-entry-requires
 entry-requires c κs =
-    let S = c .before .before .before .before .before .before .before .before .before .before .before .before in
-    (some S (c .before .before .if1 .left), omega (arith, falling-most _ _ _ (S .pre .1 .1 .1 .0) (S .args .i) (omega arith)))
+    let e = c .before .before in
+    let S = start (read e) in
+    (some S (e .if1 .left), omega (arith, falling-most _ _ _ (S .pre .1 .1 .1 .0) (S .args .i) (omega arith)))
 
 mul-widen : tie.Need-mul-widen
 mul-widen c =
-    let S = c .before .before .before .before .before .before .before .before .before .before .before .before .before in
-    omega (arith, stored S (c .before .before .before .if1 .left), c .entry .ensures, S .good)
+    let e = c .before .before .before in
+    let S = start (read e) in
+    omega (arith, stored S (e .if1 .left), c .entry .ensures, S .good)
 
 shared-slice-read-widen : tie.Need-shared-slice-read-widen
 shared-slice-read-widen c =
-    let S = c .before .before .before .before .before .before .before .before .before .before .before .before .before .before in
-    omega (arith, stored S (c .before .before .before .before .if1 .left), c .before .entry .ensures)
+    let e = c .before .before .before .before in
+    omega (arith, stored (start (read e)) (e .if1 .left), c .before .entry .ensures)
 
 widen-requires : tie.Need-widen-requires
 widen-requires c κs = search needs
@@ -101,9 +113,11 @@ add-result c = search needs
 
 returns-2 : tie.Need-returns-2
 returns-2 c =
-    let S = c .before .before .before .before .before .before .before .before .before .before .before .before .before .before .before in
-    own-group _ _ _ _ (first S) _ (S .pre .0) (omega arith) (S .pre .1 .1 .1 .1) (c .before .before .before .before .before .if1 .left) _ _ _
-    (rw (c .before .before .before .before .before .before .before .price .ensures .0, c .widen .ensures .0, c .before .before .entry .ensures))
+    let e = c .before .before .before .before .before in
+    let p = e .before .before in
+    let S = start (p .before) in
+    own-group _ _ _ _ (first S) _ (S .pre .0) (omega arith) (S .pre .1 .1 .1 .1) (e .if1 .left) _ _ _
+    (rw (p .price .ensures .0, c .widen .ensures .0, c .before .before .entry .ensures))
 
 pub own-cost-spec : {M : Type 1} → statement M
 own-cost-spec =

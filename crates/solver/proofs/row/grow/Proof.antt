@@ -15,6 +15,10 @@ Inv-loop kinds i m matches₀ kind most₀ far₀ w₀ matches most far w =
 abbrev μ-loop : tie.MeasureT-loop
 μ-loop kinds i m matches₀ kind most₀ far₀ w₀ matches most far w = m - w
 
+-- The function's start, from the loop's head.
+abbrev start : tie.At-loop Inv-loop μ-loop → tie.Start Inv-loop μ-loop
+start c = c .before .before .before .before
+
 mul-kind : tie.Need-mul-kind Inv-loop μ-loop
 mul-kind c = omega arith
 
@@ -44,8 +48,9 @@ slice-read-longer c = omega arith
 
 longer-requires : tie.Need-longer-requires Inv-loop μ-loop
 longer-requires c κs =
-    let L = c .before .before .before .loop in
-    omega (arith, L .inv .3 .later (L .w) (omega arith), c .before .before .before .before .before .before .before .pre .1 (L .w) (omega arith) (omega arith))
+    let H = c .before .before .before in
+    let w = H .loop .w in
+    omega (arith, H .loop .inv .3 .later w (omega arith), start H .pre .1 w (omega arith) (omega arith))
 
 mul-matches : tie.Need-mul-matches Inv-loop μ-loop
 mul-matches c = omega arith
@@ -61,7 +66,7 @@ loop-less c = omega arith
 
 loop-again : tie.Need-loop-again Inv-loop μ-loop
 loop-again c =
-    let S = c .before .before .before .before .before .before .before .before .before in
+    let S = start (c .before .before .before .before .before) in
     let L = c .before .before .before .before .before .loop in
     let r = c .before .longer .ensures in (
       omega arith,
@@ -84,7 +89,7 @@ same-length c = simp length-set (omega arith)
 
 returns : tie.Need-returns Inv-loop μ-loop
 returns c =
-    let S = c .before .before .before .before .before in
+    let S = start (c .before) in
     let L = c .before .loop in
     let f = L .inv .2 in (
       grown-all _ _ _ _ _ (L .inv .3) (omega arith) (S .args .m) (omega arith) (omega arith) (omega arith),

@@ -1,9 +1,7 @@
 -- `solver::row::start_row` meets its contract. The key of the one sibling comes between those copied and those of the plain node.
 use mathlib.Core.Path.{_∙_}
 use native.Mathlib.Omega.{arith}
-use borrow.Author.Needs.{needs}
 use lib.ListN.{length-set}
-use Rattle.solver.specs.Rows.{KeysReady}
 use Rattle.solver.proofs.Putting.{one-ready, started}
 use Rattle.solver.proofs.row.start_row.Statement.{statement}
 use Rattle.solver.proofs.row.start_row.Tie as tie
