@@ -74,6 +74,10 @@ pub record Room (L : Limits) (d : Depth) (t : Tally) : Type 0 where
   pub size : t .size ≤ 3 * t .nodes
   pub cost : t .cost ≤ 4294967296 * (t .nodes + d .repeats)
 
+-- There is room at the depth where the counts were taken, whatever it is.
+abbrev pub RoomSomewhere : Limits → Tally → Type 0
+RoomSomewhere L t = (d : Depth) × Room L d t
+
 -- The counts grew from t to r by whole items, within the limits.
 pub record Grown (L : Limits) (t r : Tally) : Type 0 where
   pub nodes : t .nodes ≤ r .nodes

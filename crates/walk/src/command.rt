@@ -5,10 +5,11 @@ use format::Limits;
 use format::Tally;
 ghost use mathlib.Core.Path.{_≡_};
 ghost use mathlib.Core.Bool.{true};
-ghost use Prim.Native.Nat.{_+_, _*_, _<_, _≤_};
+ghost use mathlib.Core.List.{List};
+ghost use Prim.Native.Nat.{ℕ, _+_, _*_, _<_, _≤_};
 ghost use lib.ListN.{length, getD};
 ghost use Rattle.format.specs.Machine.{a-group, a-repeat, after-repeat};
-ghost use Rattle.walk.specs.Walk.{At, Room, Halted, Sane, ItemRead, OpenRead, CloseRead, in-group-of, in-repeat-of, rules-of, word-at, repeat-at};
+ghost use Rattle.walk.specs.Walk.{At, Room, RoomSomewhere, Halted, Sane, ItemRead, OpenRead, CloseRead, in-group-of, in-repeat-of, rules-of, word-at, repeat-at};
 
 // What the reader was asked: the limits, whether repeats may stand in the input, the width limit, and the repeat prices.
 pub struct Terms {
@@ -23,6 +24,12 @@ pub struct Terms {
 pub struct Depth {
     pub groups: usize,
     pub repeats: usize,
+}
+
+// What a repeat's command says of it: the copies of its body, and the body's width.
+pub struct Operands {
+    pub count: usize,
+    pub width: usize,
 }
 
 // Where a walk has come to: at the offset `at` with these counts, or refused with this number at the place `at`.
@@ -88,11 +95,11 @@ pub fn refused(number: u8, at: usize, t: Tally) -> Walk
 }
 
 // A step: refusals 3 and 10.
-pub fn step(s: &[u8], table: &[u16], a: Terms, at: usize, d: Depth, t: Tally) -> Walk
+pub fn step(s: &[u8], table: &[u16], a: Terms, at: usize, t: Tally) -> Walk
     requires { ⌜ At (now s) at 0x10 ⌝ }
-    requires { ⌜ Room (a .limits) d t ⌝ }
+    requires { ⌜ RoomSomewhere (a .limits) t ⌝ }
     requires { ⌜ Sane a ⌝ }
-    ensures { λ r. ⌜ ItemRead (rules-of a (now (table .entry))) (now (s .entry)) d at t r ⌝ }
+    ensures { λ r. ⌜ ((d : Depth) → ItemRead (rules-of a (now (table .entry))) (now (s .entry)) d at t r) ⌝ }
 {
     if s.len() - at < 2 {
         return refused(3, s.len(), t);
@@ -145,22 +152,14 @@ pub fn enter_group(s: &[u8], table: &[u16], a: Terms, at: usize, d: Depth, t: Ta
 }
 
 // The close of a group whose outer counts are t and inner counts i: refusals 3 at the end, 2, 4 and 5.
-pub fn leave_group(
-    s: &[u8],
-    table: &[u16],
-    a: Terms,
-    at: usize,
-    d: Depth,
-    t: Tally,
-    i: Tally,
-) -> Walk
+pub fn leave_group(s: &[u8], a: Terms, at: usize, t: Tally, i: Tally) -> Walk
     requires { ⌜ Halted (now s) at ⌝ }
-    requires { ⌜ Room (a .limits) d t ⌝ }
+    requires { ⌜ RoomSomewhere (a .limits) t ⌝ }
     requires { ⌜ Sane a ⌝ }
     requires { ⌜ (t .nodes + 1 ≤ i .nodes) × (i .nodes ≤ a .limits .nodes) ⌝ }
     requires { ⌜ (t .size ≤ i .size) × (i .size + 3 * t .nodes + 1 ≤ t .size + 3 * i .nodes) ⌝ }
     requires { ⌜ i .cost + 4294967296 * t .nodes ≤ t .cost + 4294967296 * i .nodes ⌝ }
-    ensures { λ r. ⌜ CloseRead (rules-of a (now (table .entry))) (now (s .entry)) d at t i (a-group t) r ⌝ }
+    ensures { λ r. ⌜ ((table : List ℕ) (d : Depth) → CloseRead (rules-of a table) (now (s .entry)) d at t i (a-group t) r) ⌝ }
 {
     if at == s.len() {
         return refused(3, at, t);
@@ -187,11 +186,11 @@ pub fn leave_group(
 }
 
 // The open of a repeat: refusals 2, 3, 6, 7 and 8.
-pub fn enter_repeat(s: &[u8], table: &[u16], a: Terms, at: usize, d: Depth, t: Tally) -> Walk
+pub fn enter_repeat(s: &[u8], a: Terms, at: usize, d: Depth, t: Tally) -> Walk
     requires { ⌜ At (now s) at 0x20 ⌝ }
     requires { ⌜ Room (a .limits) d t ⌝ }
     requires { ⌜ Sane a ⌝ }
-    ensures { λ r. ⌜ OpenRead (rules-of a (now (table .entry))) (now (s .entry)) d (in-repeat-of d) at t (repeat-at (now (s .entry)) at t) 0 0 4294967295 r ⌝ }
+    ensures { λ r. ⌜ ((table : List ℕ) → OpenRead (rules-of a table) (now (s .entry)) d (in-repeat-of d) at t (repeat-at (now (s .entry)) at t) 0 0 4294967295 r) ⌝ }
     ensures { λ r. ⌜ (r .refusal ≡ 0 → (a .folds ≡ true) × (2 ≤ word-at (now (s .entry)) (at + 1)) × (at + 5 ≤ length (now (s .entry)))) ⌝ }
 {
     if !a.folds {
@@ -243,24 +242,14 @@ fn after_passes(count: usize, t: Tally, i: Tally) -> Tally
 }
 
 // The close of a repeat whose outer counts are t and inner counts i: refusals 3 at the end, 4, 5, 9 and 10.
-pub fn leave_repeat(
-    s: &[u8],
-    table: &[u16],
-    a: Terms,
-    at: usize,
-    d: Depth,
-    count: usize,
-    width: usize,
-    t: Tally,
-    i: Tally,
-) -> Walk
+pub fn leave_repeat(s: &[u8], a: Terms, at: usize, o: Operands, t: Tally, i: Tally) -> Walk
     requires { ⌜ Halted (now s) at ⌝ }
-    requires { ⌜ Room (a .limits) d t ⌝ }
+    requires { ⌜ RoomSomewhere (a .limits) t ⌝ }
     requires { ⌜ Sane a ⌝ }
-    requires { ⌜ (a .folds ≡ true) × (2 ≤ count) × (count < 65536) ⌝ }
+    requires { ⌜ (a .folds ≡ true) × (2 ≤ o .count) × (o .count < 65536) ⌝ }
     requires { ⌜ (t .nodes + i .siblings ≤ i .nodes) × (i .nodes ≤ a .limits .nodes) ⌝ }
     requires { ⌜ (t .size ≤ i .size) × (i .size + 3 * t .nodes ≤ t .size + 3 * i .nodes) × (i .cost + 4294967296 * t .nodes ≤ t .cost + 4294967296 * i .nodes + 4294967296) ⌝ }
-    ensures { λ r. ⌜ CloseRead (rules-of a (now (table .entry))) (now (s .entry)) d at t i (a-repeat count width t) r ⌝ }
+    ensures { λ r. ⌜ ((table : List ℕ) (d : Depth) → CloseRead (rules-of a table) (now (s .entry)) d at t i (a-repeat (o .count) (o .width) t) r) ⌝ }
 {
     if at == s.len() {
         return refused(3, at, t);
@@ -271,10 +260,10 @@ pub fn leave_repeat(
     if i.siblings == 0 {
         return refused(5, at, t);
     }
-    if i.siblings != width {
+    if i.siblings != o.width {
         return refused(9, at, t);
     }
-    let passed = after_passes(count, t, i);
+    let passed = after_passes(o.count, t, i);
     let bounds = a.limits;
     if bounds.nodes < passed.nodes {
         return refused(10, at, t);

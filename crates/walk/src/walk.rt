@@ -1,6 +1,7 @@
 // The walk over a sequence: a sequence is made of items, and a group or a repeat holds a sequence. The functions here call
 // each other, remaining bytes falling; every test stands in command.rt.
 use crate::command::Depth;
+use crate::command::Operands;
 use crate::command::Terms;
 use crate::command::Walk;
 use crate::command::enter_group;
@@ -64,7 +65,7 @@ fn item(s: &[u8], table: &[u16], a: Terms, at: usize, d: Depth, t: Tally) -> Wal
 {
     let c = s[at];
     if c == Format::STEP {
-        return step(s, table, a, at, d, t);
+        return step(s, table, a, at, t);
     }
     if c == Format::GROUP {
         return group(s, table, a, at, d, t);
@@ -98,7 +99,7 @@ fn group(s: &[u8], table: &[u16], a: Terms, at: usize, d: Depth, t: Tally) -> Wa
     }
     let to = w.at;
     let read = w.tally;
-    leave_group(s, table, a, to, d, t, read)
+    leave_group(s, a, to, t, read)
 }
 
 // The repeat at `at`.
@@ -108,12 +109,14 @@ fn repeat(s: &[u8], table: &[u16], a: Terms, at: usize, d: Depth, t: Tally) -> W
     requires { ⌜ Sane a ⌝ }
     ensures { λ r. ⌜ ItemRead (rules-of a (now (table .entry))) (now (s .entry)) d at t r ⌝ }
 {
-    let e = enter_repeat(s, table, a, at, d, t);
+    let e = enter_repeat(s, a, at, d, t);
     if e.refusal != 0 {
         return e;
     }
-    let count = operand(s, at + 1);
-    let width = operand(s, at + 3);
+    let said = Operands {
+        count: operand(s, at + 1),
+        width: operand(s, at + 3),
+    };
     let from = e.at;
     let inner = e.tally;
     let deeper = Depth {
@@ -126,5 +129,5 @@ fn repeat(s: &[u8], table: &[u16], a: Terms, at: usize, d: Depth, t: Tally) -> W
     }
     let to = w.at;
     let read = w.tally;
-    leave_repeat(s, table, a, to, d, count, width, t, read)
+    leave_repeat(s, a, to, said, t, read)
 }

@@ -1,16 +1,35 @@
 -- `leave_repeat` meets its contract.
 use borrow.Author.Needs.{needs}
 use native.Mathlib.Omega.{arith}
+use lib.ListN.{getD}
+use mathlib.Core.Path.{_≡_}
 use Rattle.walk.proofs.Commands.{left-open, repeat-crossed, repeat-empty, repeat-untrue, repeat-full, repeat-left, repeat-grown}
 use Rattle.walk.proofs.command.leave_repeat.Statement.{statement}
 use Rattle.walk.proofs.command.leave_repeat.Tie as tie
+
+-- Each test passed, from the next one: the input goes on, no group's close, some items, of the width said.
+abbrev start : tie.Else1 → tie.Start
+start c = c .before .before
+
+abbrev going : tie.Else2 → tie.Else1
+going c = c .before .before
+
+abbrev uncrossed : tie.Else3 → tie.Else2
+uncrossed c = c .before .before
+
+abbrev some : tie.Else4 → tie.Else3
+some c = c .before .before .before
+
+closes-repeat : (c : tie.Else2) → (let a = start (going c) .args in getD (a .s .now) (a .at) 0 ≡ 0x21)
+closes-repeat c = start (going c) .pre .0 .close (going c .if1 .left) (c .if2 .left)
 
 refused-requires : tie.Need-refused-requires
 refused-requires c κs = search needs
 
 returns : tie.Need-returns
 returns c =
-    let S = c .before .before .before .before in rw (c .refused .ensures) (left-open (S .args .a) (S .args .table .now) (S .args .s .now) (S .args .d) (S .args .at) (S .args .t) (S .args .i) (S .pre .0) (S .pre .1 .1 .1 .1 .0 .1) (c .before .if1 .taken) _ _)
+    let S = c .before .before .before in
+    λ table d. rw (c .refused .ensures) (left-open (S .args .a) table (S .args .s .now) d (S .args .at) (S .args .t) (S .args .i) (S .pre .0) (S .pre .1 .1 .1 .1 .0 .1) (c .before .if1 .taken) _ _)
 
 shared-slice-read-if2 : tie.Need-shared-slice-read-if2
 shared-slice-read-if2 c = search needs
@@ -20,39 +39,57 @@ refused-requires-2 c κs = search needs
 
 returns-2 : tie.Need-returns-2
 returns-2 c =
-    let S = c .before .before .before .before .before .before in rw (c .refused2 .ensures) (repeat-crossed (S .args .a) (S .args .table .now) (S .args .s .now) (S .args .d) (S .args .at) (S .args .t) (S .args .i) (S .pre .0) (S .pre .1 .1 .1 .1 .0 .1) (c .before .before .before .if1 .left) (S .pre .1 .1 .1 .0 .0) (S .args .count) (S .args .width) (c .before .if2 .taken) _)
+    let e = c .before .before .before in
+    let S = start e in
+    λ table d. rw (c .refused2 .ensures) (repeat-crossed (S .args .a) table (S .args .s .now) d (S .args .at) (S .args .t) (S .args .i) (S .pre .0) (S .pre .1 .1 .1 .1 .0 .1) (e .if1 .left) (S .pre .1 .1 .1 .0 .0) (S .args .o .count) (S .args .o .width) (c .before .if2 .taken) _)
 
 refused-requires-3 : tie.Need-refused-requires-3
 refused-requires-3 c κs = search needs
 
 returns-3 : tie.Need-returns-3
 returns-3 c =
-    let S = c .before .before .before .before .before .before .before .before in rw (c .refused3 .ensures) (repeat-empty (S .args .a) (S .args .table .now) (S .args .s .now) (S .args .d) (S .args .at) (S .args .t) (S .args .i) (S .pre .0) (S .pre .1 .1 .1 .1 .0 .1) (c .before .before .before .before .before .if1 .left) (S .pre .1 .1 .1 .0 .0) (S .args .count) (S .args .width) (S .pre .0 .close (c .before .before .before .before .before .if1 .left) (c .before .before .before .if2 .left)) (c .before .if3 .taken) _)
+    let u = c .before .before .before in
+    let S = start (going u) in
+    λ table d. rw (c .refused3 .ensures) (repeat-empty (S .args .a) table (S .args .s .now) d (S .args .at) (S .args .t) (S .args .i) (S .pre .0) (S .pre .1 .1 .1 .1 .0 .1) (going u .if1 .left) (S .pre .1 .1 .1 .0 .0) (S .args .o .count) (S .args .o .width) (closes-repeat u) (c .before .if3 .taken) _)
 
 refused-requires-4 : tie.Need-refused-requires-4
 refused-requires-4 c κs = search needs
 
 returns-4 : tie.Need-returns-4
 returns-4 c =
-    let S = c .before .before .before .before .before .before .before .before .before .before in rw (c .refused4 .ensures) (repeat-untrue (S .args .a) (S .args .table .now) (S .args .s .now) (S .args .d) (S .args .at) (S .args .t) (S .args .i) (S .pre .0) (S .pre .1 .1 .1 .1 .0 .1) (c .before .before .before .before .before .before .before .if1 .left) (S .pre .1 .1 .1 .0 .0) (S .args .count) (S .args .width) (S .pre .0 .close (c .before .before .before .before .before .before .before .if1 .left) (c .before .before .before .before .before .if2 .left)) (c .before .before .before .if3 .left) (c .before .if4 .taken) _)
+    let e = c .before .before .before .before in
+    let u = uncrossed e in
+    let S = start (going u) in
+    λ table d. rw (c .refused4 .ensures) (repeat-untrue (S .args .a) table (S .args .s .now) d (S .args .at) (S .args .t) (S .args .i) (S .pre .0) (S .pre .1 .1 .1 .1 .0 .1) (going u .if1 .left) (S .pre .1 .1 .1 .0 .0) (S .args .o .count) (S .args .o .width) (closes-repeat u) (e .if3 .left) (c .before .if4 .taken) _)
 
 after-passes-requires : tie.Need-after-passes-requires
 after-passes-requires c κs =
-    let S = c .before .before .before .before .before .before .before .before .before in omega (arith, S .pre .1)
+    let S = start (going (uncrossed (some c))) in
+    omega (arith, S .pre .1 .0 .1, S .pre .1 .1)
 
 refused-requires-5 : tie.Need-refused-requires-5
 refused-requires-5 c κs = search needs
 
 returns-5 : tie.Need-returns-5
 returns-5 c =
-    let S = c .before .before .before .before .before .before .before .before .before .before .before .before .before .before .before in rw (c .refused5 .ensures) (repeat-full (S .args .a) (S .args .table .now) (S .args .s .now) (S .args .d) (S .args .at) (S .args .t) (S .args .i) (S .pre .0) (S .pre .1 .1 .1 .1 .0 .1) (c .before .before .before .before .before .before .before .before .before .before .before .before .if1 .left) (S .pre .1 .1 .1 .0 .0) (S .args .count) (S .args .width) (S .pre .0 .close (c .before .before .before .before .before .before .before .before .before .before .before .before .if1 .left) (c .before .before .before .before .before .before .before .before .before .before .if2 .left)) (c .before .before .before .before .before .before .before .before .if3 .left) (c .before .before .before .before .before .before .if4 .left) (rw (c .before .before .before .before .before .after-passes .ensures) at (c .before .if5 .taken)) _)
+    let p = c .before .before .before .before .before in
+    let e = some (p .before) in
+    let u = uncrossed e in
+    let S = start (going u) in
+    λ table d. rw (c .refused5 .ensures) (repeat-full (S .args .a) table (S .args .s .now) d (S .args .at) (S .args .t) (S .args .i) (S .pre .0) (S .pre .1 .1 .1 .1 .0 .1) (going u .if1 .left) (S .pre .1 .1 .1 .0 .0) (S .args .o .count) (S .args .o .width) (closes-repeat u) (e .if3 .left) (p .before .if4 .left) (rw (p .after-passes .ensures) at (c .before .if5 .taken)) _)
 
-add-t12 : tie.Need-add-t12
-add-t12 c = search needs
+add-t9 : tie.Need-add-t9
+add-t9 c = search needs
 
 returns-6 : tie.Need-returns-6
 returns-6 c =
-    let S = c .before .before .before .before .before .before .before .before .before .before .before .before .before .before in let p = c .before .before .before .before .after-passes in let e = rw (p .ensures) at (c .if5 .left) in let g = repeat-grown (S .args .a .limits) (S .args .count) (S .args .t) (S .args .i) (S .pre .1 .1 .1 .0 .1) (S .pre .1 .1 .1 .1 .0 .0) (omega (arith, c .before .before .before .before .before .before .before .if3 .left)) (S .pre .1 .1 .1 .1 .1 .0) (S .pre .1 .1 .1 .1 .1 .1) (S .pre .1 .1 .1 .1 .1 .2) e in rw (p .ensures) (repeat-left (S .args .a) (S .args .table .now) (S .args .s .now) (S .args .d) (S .args .at) (S .args .t) (S .args .i) (S .pre .0) (S .pre .1 .1 .1 .1 .0 .1) (c .before .before .before .before .before .before .before .before .before .before .before .if1 .left) (S .pre .1 .1 .1 .0 .0) (S .args .count) (S .args .width) (S .pre .0 .close (c .before .before .before .before .before .before .before .before .before .before .before .if1 .left) (c .before .before .before .before .before .before .before .before .before .if2 .left)) (c .before .before .before .before .before .before .before .if3 .left) (c .before .before .before .before .before .if4 .left) e g)
+    let p = c .before .before .before .before in
+    let e = some (p .before) in
+    let u = uncrossed e in
+    let S = start (going u) in
+    let total = rw (p .after-passes .ensures) at (c .if5 .left) in
+    let grown = repeat-grown (S .args .a .limits) (S .args .o .count) (S .args .t) (S .args .i) (S .pre .1 .1 .1 .0 .1) (S .pre .1 .1 .1 .1 .0 .0) (omega (arith, e .if3 .left)) (S .pre .1 .1 .1 .1 .1 .0) (S .pre .1 .1 .1 .1 .1 .1) (S .pre .1 .1 .1 .1 .1 .2) total in
+    λ table d. rw (p .after-passes .ensures) (repeat-left (S .args .a) table (S .args .s .now) d (S .args .at) (S .args .t) (S .args .i) (S .pre .0) (S .pre .1 .1 .1 .1 .0 .1) (going u .if1 .left) (S .pre .1 .1 .1 .0 .0) (S .args .o .count) (S .args .o .width) (closes-repeat u) (e .if3 .left) (p .before .if4 .left) total grown)
 
 pub leave-repeat-spec : {M : Type 1} → statement M
 leave-repeat-spec =
@@ -70,5 +107,5 @@ leave-repeat-spec =
     after-passes-requires
     refused-requires-5
     returns-5
-    add-t12
+    add-t9
     returns-6)

@@ -5,6 +5,13 @@ use Rattle.walk.proofs.Commands.{step-short, step-full, step-on}
 use Rattle.walk.proofs.command.step.Statement.{statement}
 use Rattle.walk.proofs.command.step.Tie as tie
 
+-- The function's start, from where the label is there; and that place, from where there is room for a node.
+abbrev start : tie.Else1 → tie.Start
+start c = c .before .before .before
+
+abbrev labelled : tie.Else2 → tie.Else1
+labelled c = c .before .before .before .before
+
 sub-if1 : tie.Need-sub-if1
 sub-if1 c = search needs
 
@@ -13,14 +20,16 @@ refused-requires c κs = search needs
 
 returns : tie.Need-returns
 returns c =
-    let S = c .before .before .before .before in rw (c .refused .ensures) (step-short (S .args .a) (S .args .table .now) (S .args .s .now) (S .args .d) (S .args .at) (S .args .t) (S .pre .0) (omega (arith, S .pre .0 .below)) _)
+    let S = c .before .before .before .before in
+    λ d. rw (c .refused .ensures) (step-short (S .args .a) (S .args .table .now) (S .args .s .now) d (S .args .at) (S .args .t) (S .pre .0) (omega (arith, S .pre .0 .below)) _)
 
 refused-requires-2 : tie.Need-refused-requires-2
 refused-requires-2 c κs = search needs
 
 returns-2 : tie.Need-returns-2
 returns-2 c =
-    let S = c .before .before .before .before .before .before .before .before in rw (c .refused2 .ensures) (step-full (S .args .a) (S .args .table .now) (S .args .s .now) (S .args .d) (S .args .at) (S .args .t) (S .pre .0) (omega (arith, S .pre .0 .below)) (omega arith) _)
+    let S = start (c .before .before .before .before .before) in
+    λ d. rw (c .refused2 .ensures) (step-full (S .args .a) (S .args .table .now) (S .args .s .now) d (S .args .at) (S .args .t) (S .pre .0) (omega (arith, S .pre .0 .below)) (c .before .if2 .taken) _)
 
 add-price : tie.Need-add-price
 add-price c = search needs
@@ -31,11 +40,14 @@ shared-slice-read-price c = search needs
 price-requires : tie.Need-price-requires
 price-requires c κs = search needs
 
-add-t10 : tie.Need-add-t10
-add-t10 c = search needs
-
 add-t9 : tie.Need-add-t9
 add-t9 c = search needs
+
+add-t8 : tie.Need-add-t8
+add-t8 c = search needs
+
+add-t14 : tie.Need-add-t14
+add-t14 c = search needs
 
 add-t15 : tie.Need-add-t15
 add-t15 c = search needs
@@ -43,12 +55,13 @@ add-t15 c = search needs
 add-t16 : tie.Need-add-t16
 add-t16 c = search needs
 
-add-t17 : tie.Need-add-t17
-add-t17 c = search needs
-
 returns-3 : tie.Need-returns-3
 returns-3 c =
-    let S = c .before .before .before .before .before .before .before .before .before .before .before .before .before in step-on (S .args .a) (S .args .table .now) (S .args .s .now) (S .args .d) (S .args .at) (S .args .t) (S .pre .0) (omega (arith, S .pre .0 .below, c .before .before .before .before .before .before .before .before .before .before .if1 .left)) (omega arith) _ (c .before .before .before .before .price .ensures .0) (c .before .before .before .before .price .ensures .1)
+    let p = c .before .before .before .before in
+    let room = p .before .before in
+    let e = labelled room in
+    let S = start e in
+    λ d. step-on (S .args .a) (S .args .table .now) (S .args .s .now) d (S .args .at) (S .args .t) (S .pre .0) (omega (arith, S .pre .0 .below, e .if1 .left)) (room .if2 .left) _ (p .price .ensures .0) (p .price .ensures .1)
 
 pub step-spec : {M : Type 1} → statement M
 step-spec =
@@ -62,9 +75,9 @@ step-spec =
     add-price
     shared-slice-read-price
     price-requires
-    add-t10
     add-t9
+    add-t8
+    add-t14
     add-t15
     add-t16
-    add-t17
     returns-3)

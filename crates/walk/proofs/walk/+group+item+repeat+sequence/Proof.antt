@@ -132,14 +132,14 @@ group-leave-group-requires t c κs =
     let d = e .cost-inside z in
     let f = e .siblings z in
     let r = S .pre .1 .1 .0 in
-    (q .halted y, (r, (S .pre .1 .1 .1, ((omega arith, omega arith), ((omega arith, omega arith), omega arith)))))
+    (q .halted y, ((S .args .d, r), (S .pre .1 .1 .1, ((omega arith, omega arith), ((omega arith, omega arith), omega arith)))))
 
 group-returns-3 : (t : ℕ) → group-lts.Need-returns-3 (group-calls t) (group-start t) group.Post
 group-returns-3 t c =
     let S = c .before .before .before .before .before .before .before .before .before .before .before .before in
     let R = rules-of (S .args .a) (S .args .table .now) in
     let s = S .args .s .now in
-    through R s (S .args .d) (in-group-of (S .args .d)) (S .args .at) (S .args .t) (a-group (S .args .t)) (group-deeper (S .args .d) (S .args .t)) 2 1 65535 (c .before .before .before .before .before .before .before .before .before .enter-group .result) (c .before .before .before .before .before .before .before .before .before .enter-group .ensures) (c .before .before .before .before .before .before .before .if1 .left) (c .before .before .before .before .sequence .result) (c .before .before .before .before .sequence .ensures) (c .before .before .if2 .left) (c .leave-group .result) (c .leave-group .ensures)
+    through R s (S .args .d) (in-group-of (S .args .d)) (S .args .at) (S .args .t) (a-group (S .args .t)) (group-deeper (S .args .d) (S .args .t)) 2 1 65535 (c .before .before .before .before .before .before .before .before .before .enter-group .result) (c .before .before .before .before .before .before .before .before .before .enter-group .ensures) (c .before .before .before .before .before .before .before .if1 .left) (c .before .before .before .before .sequence .result) (c .before .before .before .before .sequence .ensures) (c .before .before .if2 .left) (c .leave-group .result) (c .leave-group .ensures (S .args .table .now) (S .args .d))
 
 item-shared-slice-read-c : (t : ℕ) → item-lts.Need-shared-slice-read-c (item-calls t) (item-start t) item.Post
 item-shared-slice-read-c t c =
@@ -153,10 +153,10 @@ item-step-requires t c κs =
     let S = c .before .before .before .before in
     let R = rules-of (S .args .a) (S .args .table .now) in
     let s = S .args .s .now in
-    ((record { below = S .pre .1 .0 .below; byte = c .if1 .taken }), (S .pre .1 .1 .0, S .pre .1 .1 .1))
+    ((record { below = S .pre .1 .0 .below; byte = c .if1 .taken }), ((S .args .d, S .pre .1 .1 .0), S .pre .1 .1 .1))
 
 item-returns : (t : ℕ) → item-lts.Need-returns (item-calls t) (item-start t) item.Post
-item-returns t c = c .step .ensures
+item-returns t c = let S = c .before .before .before .before .before in c .step .ensures (S .args .d)
 
 item-group-requires : (t : ℕ) → item-lts.Need-group-requires (item-calls t) (item-start t) item.Post
 item-group-requires t c κs =
@@ -200,7 +200,7 @@ repeat-returns t c =
     let S = c .before .before .before .before .before in
     let R = rules-of (S .args .a) (S .args .table .now) in
     let s = S .args .s .now in
-    entry-refused R s (S .args .d) (in-repeat-of (S .args .d)) (S .args .at) (S .args .t) (repeat-at s (S .args .at) (S .args .t)) (repeat-deeper (S .args .d) (word-at s (S .args .at + 1)) (word-at s (S .args .at + 3)) (S .args .t)) 0 0 4294967295 (c .before .before .enter-repeat .result) (c .before .before .enter-repeat .ensures .0) (c .if1 .taken)
+    entry-refused R s (S .args .d) (in-repeat-of (S .args .d)) (S .args .at) (S .args .t) (repeat-at s (S .args .at) (S .args .t)) (repeat-deeper (S .args .d) (word-at s (S .args .at + 1)) (word-at s (S .args .at + 3)) (S .args .t)) 0 0 4294967295 (c .before .before .enter-repeat .result) (c .before .before .enter-repeat .ensures .0 (S .args .table .now)) (c .if1 .taken)
 
 repeat-add-operand : (t : ℕ) → repeat-lts.Need-add-operand (repeat-calls t) (repeat-start t) repeat.Post
 repeat-add-operand t c =
@@ -222,8 +222,8 @@ repeat-add-operand-2 t c =
 repeat-operand-requires-2 : (t : ℕ) → repeat-lts.Need-operand-requires-2 (repeat-calls t) (repeat-start t) repeat.Post
 repeat-operand-requires-2 t c κs = tt
 
-repeat-add-t17 : (t : ℕ) → repeat-lts.Need-add-t17 (repeat-calls t) (repeat-start t) repeat.Post
-repeat-add-t17 t c =
+repeat-add-t16 : (t : ℕ) → repeat-lts.Need-add-t16 (repeat-calls t) (repeat-start t) repeat.Post
+repeat-add-t16 t c =
     let S = c .before .before .before .before .before .before .before .before .before in
     let R = rules-of (S .args .a) (S .args .table .now) in
     let s = S .args .s .now in
@@ -234,7 +234,7 @@ repeat-sequence-requires t c κs =
     let S = c .before .before .before .before .before .before .before .before .before in
     let R = rules-of (S .args .a) (S .args .table .now) in
     let s = S .args .s .now in
-    let e = c .before .before .before .before .before .before .enter-repeat .ensures .0 in
+    let e = c .before .before .before .before .before .before .enter-repeat .ensures .0 (S .args .table .now) in
     let z = c .before .before .before .before .if1 .left in
     let a = e .ahead z in
     let w = e .within z in
@@ -245,14 +245,14 @@ repeat-returns-2 t c =
     let S = c .before .before .before .before .before .before .before .before .before .before .before .before in
     let R = rules-of (S .args .a) (S .args .table .now) in
     let s = S .args .s .now in
-    inside-refused R s (S .args .d) (in-repeat-of (S .args .d)) (S .args .at) (S .args .t) (repeat-at s (S .args .at) (S .args .t)) (repeat-deeper (S .args .d) (word-at s (S .args .at + 1)) (word-at s (S .args .at + 3)) (S .args .t)) 0 0 4294967295 (c .before .before .before .before .before .before .before .before .before .enter-repeat .result) (c .before .before .before .before .before .before .before .before .before .enter-repeat .ensures .0) (c .before .before .before .before .before .before .before .if1 .left) (c .before .before .sequence .result) (c .before .before .sequence .ensures) (c .if2 .taken)
+    inside-refused R s (S .args .d) (in-repeat-of (S .args .d)) (S .args .at) (S .args .t) (repeat-at s (S .args .at) (S .args .t)) (repeat-deeper (S .args .d) (word-at s (S .args .at + 1)) (word-at s (S .args .at + 3)) (S .args .t)) 0 0 4294967295 (c .before .before .before .before .before .before .before .before .before .enter-repeat .result) (c .before .before .before .before .before .before .before .before .before .enter-repeat .ensures .0 (S .args .table .now)) (c .before .before .before .before .before .before .before .if1 .left) (c .before .before .sequence .result) (c .before .before .sequence .ensures) (c .if2 .taken)
 
 repeat-leave-repeat-requires : (t : ℕ) → repeat-lts.Need-leave-repeat-requires (repeat-calls t) (repeat-start t) repeat.Post
 repeat-leave-repeat-requires t c κs =
     let S = c .before .before .before .before .before .before .before .before .before .before .before .before .before in
     let R = rules-of (S .args .a) (S .args .table .now) in
     let s = S .args .s .now in
-    let e = c .before .before .before .before .before .before .before .before .before .before .enter-repeat .ensures .0 in
+    let e = c .before .before .before .before .before .before .before .before .before .before .enter-repeat .ensures .0 (S .args .table .now) in
     let z = c .before .before .before .before .before .before .before .before .if1 .left in
     let k = c .before .before .before .before .before .before .before .before .before .before .enter-repeat .ensures .1 z in
     let q = c .before .before .before .sequence .ensures in
@@ -263,14 +263,14 @@ repeat-leave-repeat-requires t c κs =
     let d = e .cost-inside z in
     let f = e .siblings z in
     let r = S .pre .1 .1 .0 in
-    (q .halted y, (r, (S .pre .1 .1 .1, ((k .0, omega (arith, k .1, c .before .before .before .before .before .before .before .operand .ensures .0), c .before .before .before .before .before .before .before .operand .ensures .1), ((omega arith, omega arith), (omega arith, omega arith, omega arith))))))
+    (q .halted y, ((S .args .d, r), (S .pre .1 .1 .1, ((k .0, omega (arith, k .1, c .before .before .before .before .before .before .before .operand .ensures .0), c .before .before .before .before .before .before .before .operand .ensures .1), ((omega arith, omega arith), (omega arith, omega arith, omega arith))))))
 
 repeat-returns-3 : (t : ℕ) → repeat-lts.Need-returns-3 (repeat-calls t) (repeat-start t) repeat.Post
 repeat-returns-3 t c =
     let S = c .before .before .before .before .before .before .before .before .before .before .before .before .before .before in
     let R = rules-of (S .args .a) (S .args .table .now) in
     let s = S .args .s .now in
-    through R s (S .args .d) (in-repeat-of (S .args .d)) (S .args .at) (S .args .t) (repeat-at s (S .args .at) (S .args .t)) (repeat-deeper (S .args .d) (word-at s (S .args .at + 1)) (word-at s (S .args .at + 3)) (S .args .t)) 0 0 4294967295 (c .before .before .before .before .before .before .before .before .before .before .before .enter-repeat .result) (c .before .before .before .before .before .before .before .before .before .before .before .enter-repeat .ensures .0) (c .before .before .before .before .before .before .before .before .before .if1 .left) (c .before .before .before .before .sequence .result) (c .before .before .before .before .sequence .ensures) (c .before .before .if2 .left) (c .leave-repeat .result) (rw (c .before .before .before .before .before .before .before .before .operand .ensures .0, c .before .before .before .before .before .before .before .operand2 .ensures .0) at (c .leave-repeat .ensures))
+    through R s (S .args .d) (in-repeat-of (S .args .d)) (S .args .at) (S .args .t) (repeat-at s (S .args .at) (S .args .t)) (repeat-deeper (S .args .d) (word-at s (S .args .at + 1)) (word-at s (S .args .at + 3)) (S .args .t)) 0 0 4294967295 (c .before .before .before .before .before .before .before .before .before .before .before .enter-repeat .result) (c .before .before .before .before .before .before .before .before .before .before .before .enter-repeat .ensures .0 (S .args .table .now)) (c .before .before .before .before .before .before .before .before .before .if1 .left) (c .before .before .before .before .sequence .result) (c .before .before .before .before .sequence .ensures) (c .before .before .if2 .left) (c .leave-repeat .result) (rw (c .before .before .before .before .before .before .before .before .operand .ensures .0, c .before .before .before .before .before .before .before .operand2 .ensures .0) at (c .leave-repeat .ensures (S .args .table .now) (S .args .d)))
 
 abbrev sequence-Inv : sequence-lts.InvT-loop
 sequence-Inv s table a at d p₀ now₀ p now = Along (rules-of a table) s d at now₀ p now
@@ -338,5 +338,5 @@ pub +group+item+repeat+sequence-spec : {M : Type 1} → statement M
     close μ-group μ-item μ-repeat μ-sequence
     (λ t. group-lts.spec (group-calls t) (group-start t) group.Post (group-enter-group-requires t) (group-returns t) (group-add-t15 t) (group-sequence-requires t) (group-returns-2 t) (group-leave-group-requires t) (group-returns-3 t))
     (λ t. item-lts.spec (item-calls t) (item-start t) item.Post (item-shared-slice-read-c t) (item-step-requires t) (item-returns t) (item-group-requires t) (item-returns-2 t) (item-repeat-requires t) (item-returns-3 t) (item-refused-requires t) (item-returns-4 t))
-    (λ t. repeat-lts.spec (repeat-calls t) (repeat-start t) repeat.Post (repeat-enter-repeat-requires t) (repeat-returns t) (repeat-add-operand t) (repeat-operand-requires t) (repeat-add-operand-2 t) (repeat-operand-requires-2 t) (repeat-add-t17 t) (repeat-sequence-requires t) (repeat-returns-2 t) (repeat-leave-repeat-requires t) (repeat-returns-3 t))
+    (λ t. repeat-lts.spec (repeat-calls t) (repeat-start t) repeat.Post (repeat-enter-repeat-requires t) (repeat-returns t) (repeat-add-operand t) (repeat-operand-requires t) (repeat-add-operand-2 t) (repeat-operand-requires-2 t) (repeat-add-t16 t) (repeat-sequence-requires t) (repeat-returns-2 t) (repeat-leave-repeat-requires t) (repeat-returns-3 t))
     (λ t. sequence-lts.spec (sequence-calls t) (sequence-start t) sequence.Post sequence-Inv sequence-μ (sequence-loop-holds t) (sequence-shared-slice-read-c t) (sequence-returns t) (sequence-returns-2 t) (sequence-item-requires t) (sequence-returns-3 t) (sequence-loop-less t) (sequence-loop-again t) (sequence-returns-4 t))
