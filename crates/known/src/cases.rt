@@ -60,28 +60,33 @@ fn wrote(c: Checked, out: &[u8], fold: &[u8], cost: u64) -> bool {
     c.right
 }
 
+// What a run is folded at, and the cost that is known.
+struct Terms {
+    limit: usize,
+    first: u16,
+    each: u16,
+    cost: u64,
+}
+
 // A run that folds to these bytes at this cost, with what is lent.
 fn known_in(
     name: &[u8],
     run: &[u8],
-    limit: usize,
-    first: u16,
-    each: u16,
+    a: Terms,
     fold: &[u8],
-    cost: u64,
     costs: &mut [u32],
     choices: &mut [u32],
     out: &mut [u8],
     text: &mut [u8],
 ) {
     let table = [1u16; 256];
-    let c = fold_checked(run, limit, &table, first, each, costs, choices, out);
+    let c = fold_checked(run, a.limit, &table, a.first, a.each, costs, choices, out);
     show(name, c.answer);
-    let mut right = wrote(c, out, fold, cost);
-    if !reads(fold, limit, &table, first, each, run, cost) {
+    let mut right = wrote(c, out, fold, a.cost);
+    if !reads(fold, a.limit, &table, a.first, a.each, run, a.cost) {
         right = false;
     }
-    if !unrolls(fold, limit, run, text) {
+    if !unrolls(fold, a.limit, run, text) {
         right = false;
     }
     if !right {
@@ -98,11 +103,13 @@ fn known(name: &[u8], run: &[u8], limit: usize, first: u16, each: u16, fold: &[u
     known_in(
         name,
         run,
-        limit,
-        first,
-        each,
+        Terms {
+            limit,
+            first,
+            each,
+            cost,
+        },
         fold,
-        cost,
         &mut costs,
         &mut choices,
         &mut out,
@@ -218,11 +225,13 @@ fn thousand_in(costs: &mut [u32], choices: &mut [u32]) {
     known_in(
         b"1024 a's",
         &run,
-        1024,
-        1,
-        0,
+        Terms {
+            limit: 1024,
+            first: 1,
+            each: 0,
+            cost: 2,
+        },
         b"\x20\x04\x00\x00\x01\x10\x01\x21",
-        2,
         costs,
         choices,
         &mut out,
