@@ -177,6 +177,10 @@ group-deeper d t os m = record { groups = omega (arith, m .groups); repeats = m 
 pub repeat-deeper : (d : Depth) (h w : ℕ) (t : Tally) (os : List Open) → OpenAt d os → OpenAt (in-repeat-of d) (a-repeat h w t ∷ os)
 repeat-deeper d h w t os m = record { groups = m .groups; repeats = omega (arith, m .repeats) }
 
+-- The close of a repeat, by the count and the width that were read.
+pub closed-as : {R : Rules} {s : List ℕ} {d : Depth} {p : ℕ} {t i : Tally} {w : Walk} {n m k l : ℕ} → n ≡ m → k ≡ l → CloseRead R s d p t i (a-repeat n k t) w → CloseRead R s d p t i (a-repeat m l t) w
+closed-as e f h = rw (e, f) at h
+
 -- A byte that is no command.
 pub item-unknown : (R : Rules) (s : List ℕ) (d : Depth) (p : ℕ) (t u : Tally) → NoClose s p → (getD s p 0 ≡ 0x10 → ⊥) → (getD s p 0 ≡ 0x11 → ⊥) → (getD s p 0 ≡ 0x20 → ⊥) → ItemRead R s d p t (record { refusal = 1; at = p; tally = u })
 item-unknown R s d p t u n a b c =

@@ -1,43 +1,56 @@
 -- `after_passes` meets its contract.
 use borrow.Author.Needs.{needs}
 use native.Mathlib.Omega.{arith}
-use Prim.Native.Nat.{_-_}
+use Prim.Native.Nat.{_-_, _*_, _≤_}
 use Rattle.walk.proofs.Commands.{bounded}
 use Rattle.walk.proofs.command.after_passes.Statement.{statement}
 use Rattle.walk.proofs.command.after_passes.Tie as tie
+
+-- What every pass adds, within what the counts and the limit of 16 bits allow.
+siblings : (S : tie.Start) → S .args .count * S .args .i .siblings ≤ 65535 * 65535
+siblings S = bounded (S .args .count) (S .args .i .siblings) 65535 65535 (omega (arith, S .pre)) (omega (arith, S .pre))
+
+nodes : (S : tie.Start) → (S .args .count - 1) * (S .args .i .nodes - S .args .t .nodes) ≤ 65534 * 65535
+nodes S =
+    bounded (S .args .count - 1) (S .args .i .nodes - S .args .t .nodes) 65534 65535 (omega (arith, S .pre)) (omega (arith, S .pre))
+
+size : (S : tie.Start) → (S .args .count - 1) * (S .args .i .size - S .args .t .size) ≤ 65534 * 196605
+size S =
+    bounded (S .args .count - 1) (S .args .i .size - S .args .t .size) 65534 196605 (omega (arith, S .pre)) (omega (arith, S .pre))
+
+-- From where the nodes are reckoned, and from where the size is.
+abbrev at-nodes : tie.After-struct-known4 → tie.Start
+at-nodes c = c .before .before .before .before
+
+abbrev at-size : tie.After-struct-known7 → tie.Start
+at-size c = at-nodes (c .before .before .before)
 
 sub-more : tie.Need-sub-more
 sub-more c = search needs
 
 mul-t5 : tie.Need-mul-t5
-mul-t5 c =
-    let S = c .before in omega (arith, bounded (S .args .count) (S .args .i .siblings) 65535 65535 (omega (arith, S .pre)) (omega (arith, S .pre)), S .pre)
+mul-t5 c = let S = c .before in omega (arith, siblings S, S .pre)
 
 add-t6 : tie.Need-add-t6
-add-t6 c =
-    let S = c .before .before in omega (arith, bounded (S .args .count) (S .args .i .siblings) 65535 65535 (omega (arith, S .pre)) (omega (arith, S .pre)), S .pre)
+add-t6 c = let S = c .before .before in omega (arith, siblings S, S .pre)
 
 sub-t7 : tie.Need-sub-t7
 sub-t7 c = search needs
 
 mul-t8 : tie.Need-mul-t8
-mul-t8 c =
-    let S = c .before .before .before .before in omega (arith, bounded (S .args .count - 1) (S .args .i .nodes - S .args .t .nodes) 65534 65535 (omega (arith, S .pre)) (omega (arith, S .pre)), S .pre)
+mul-t8 c = let S = at-nodes c in omega (arith, nodes S, S .pre)
 
 add-t9 : tie.Need-add-t9
-add-t9 c =
-    let S = c .before .before .before .before .before in omega (arith, bounded (S .args .count - 1) (S .args .i .nodes - S .args .t .nodes) 65534 65535 (omega (arith, S .pre)) (omega (arith, S .pre)), S .pre)
+add-t9 c = let S = at-nodes (c .before) in omega (arith, nodes S, S .pre)
 
 sub-t10 : tie.Need-sub-t10
 sub-t10 c = search needs
 
 mul-t11 : tie.Need-mul-t11
-mul-t11 c =
-    let S = c .before .before .before .before .before .before .before in omega (arith, bounded (S .args .count - 1) (S .args .i .size - S .args .t .size) 65534 196605 (omega (arith, S .pre)) (omega (arith, S .pre)), S .pre)
+mul-t11 c = let S = at-size c in omega (arith, size S, S .pre)
 
 add-t12 : tie.Need-add-t12
-add-t12 c =
-    let S = c .before .before .before .before .before .before .before .before in omega (arith, bounded (S .args .count - 1) (S .args .i .size - S .args .t .size) 65534 196605 (omega (arith, S .pre)) (omega (arith, S .pre)), S .pre)
+add-t12 c = let S = at-size (c .before) in omega (arith, size S, S .pre)
 
 returns : tie.Need-returns
 returns c = search needs

@@ -27,8 +27,8 @@ use Rattle.walk.proofs.command.step.Reads as step-reads
 use Rattle.walk.proofs.walk.+group+item+repeat+sequence.{statement}
 use Rattle.walk.proofs.walk.+group+item+repeat+sequence.Tie.{close}
 use Rattle.format.specs.Machine.{a-group}
-use Rattle.walk.specs.Walk.{rules-of, in-group-of, in-repeat-of, word-at, repeat-at}
-use Rattle.walk.proofs.Walking.{Along, along-none, along-ends, along-refused, along-more, room-grown, entry-refused, inside-refused, through, group-deeper, repeat-deeper, item-unknown}
+use Rattle.walk.specs.Walk.{OpenRead, rules-of, in-group-of, in-repeat-of, word-at, repeat-at}
+use Rattle.walk.proofs.Walking.{Along, along-none, along-ends, along-refused, along-more, room-grown, entry-refused, inside-refused, through, group-deeper, repeat-deeper, closed-as, item-unknown}
 
 abbrev μ-group : Measures 2 group-kinds.ps ℕ
 μ-group κs a = 3 * (length (a .0 .now) - a .1 .1 .1 .0) + 0
@@ -78,199 +78,205 @@ repeat-calls t = (enter-repeat-reads.Asked, enter-repeat-reads.Learnt, operand-r
 abbrev sequence-calls : ℕ → sequence-lts.Claims
 sequence-calls t = (item-below t, item.Post)
 
-group-enter-group-requires : (t : ℕ) → group-lts.Need-enter-group-requires (group-calls t) (group-start t) group.Post
-group-enter-group-requires t c κs =
-    let S = c .before .before in
-    let R = rules-of (S .args .a) (S .args .table .now) in
-    let s = S .args .s .now in
-    (S .pre .1 .0, (S .pre .1 .1 .0, S .pre .1 .1 .1))
+-- Below, the names in front of each function's proof are the places that its proof speaks of: the function's start, and what has
+-- been called or tested since.
+module _ (t : ℕ) where
+  abbrev group-from : group-lts.After-enter-group (group-calls t) (group-start t) group.Post → group-lts.Start (group-calls t) (group-start t) group.Post
+  group-from c = c .before .before .before
 
-group-returns : (t : ℕ) → group-lts.Need-returns (group-calls t) (group-start t) group.Post
-group-returns t c =
-    let S = c .before .before .before .before .before in
-    let R = rules-of (S .args .a) (S .args .table .now) in
-    let s = S .args .s .now in
-    entry-refused R s (S .args .d) (in-group-of (S .args .d)) (S .args .at) (S .args .t) (a-group (S .args .t)) (group-deeper (S .args .d) (S .args .t)) 2 1 65535 (c .before .before .enter-group .result) (c .before .before .enter-group .ensures) (c .if1 .taken)
+  abbrev group-opened : group-lts.Else1 (group-calls t) (group-start t) group.Post → group-lts.After-enter-group (group-calls t) (group-start t) group.Post
+  group-opened c = c .before .before
 
-group-add-t15 : (t : ℕ) → group-lts.Need-add-t15 (group-calls t) (group-start t) group.Post
-group-add-t15 t c =
-    let S = c .before .before .before .before .before .before .before in
-    let R = rules-of (S .args .a) (S .args .table .now) in
-    let s = S .args .s .now in
-    omega (arith, S .pre .1 .1 .0 .groups)
+  abbrev group-inside : group-lts.After-sequence (group-calls t) (group-start t) group.Post → group-lts.Else1 (group-calls t) (group-start t) group.Post
+  group-inside c = c .before .before .before
 
-group-sequence-requires : (t : ℕ) → group-lts.Need-sequence-requires (group-calls t) (group-start t) group.Post
-group-sequence-requires t c κs =
-    let S = c .before .before .before .before .before .before .before in
-    let R = rules-of (S .args .a) (S .args .table .now) in
-    let s = S .args .s .now in
-    let e = c .before .before .before .before .enter-group .ensures in
-    let z = c .before .before .if1 .left in
-    let a = e .ahead z in
-    let w = e .within z in
-    (omega (arith, S .pre .0), (w, (e .room z, S .pre .1 .1 .1)))
+  group-enter-group-requires : group-lts.Need-enter-group-requires (group-calls t) (group-start t) group.Post
+  group-enter-group-requires c κs = c .before .before .pre .1
 
-group-returns-2 : (t : ℕ) → group-lts.Need-returns-2 (group-calls t) (group-start t) group.Post
-group-returns-2 t c =
-    let S = c .before .before .before .before .before .before .before .before .before .before in
-    let R = rules-of (S .args .a) (S .args .table .now) in
-    let s = S .args .s .now in
-    inside-refused R s (S .args .d) (in-group-of (S .args .d)) (S .args .at) (S .args .t) (a-group (S .args .t)) (group-deeper (S .args .d) (S .args .t)) 2 1 65535 (c .before .before .before .before .before .before .before .enter-group .result) (c .before .before .before .before .before .before .before .enter-group .ensures) (c .before .before .before .before .before .if1 .left) (c .before .before .sequence .result) (c .before .before .sequence .ensures) (c .if2 .taken)
+  group-returns : group-lts.Need-returns (group-calls t) (group-start t) group.Post
+  group-returns c =
+      let e = c .before .before in
+      let a = group-from e .args in
+      entry-refused (rules-of (a .a) (a .table .now)) (a .s .now) (a .d) (in-group-of (a .d)) (a .at) (a .t) (a-group (a .t)) (group-deeper (a .d) (a .t)) 2 1 65535 (e .enter-group .result) (e .enter-group .ensures) (c .if1 .taken)
 
-group-leave-group-requires : (t : ℕ) → group-lts.Need-leave-group-requires (group-calls t) (group-start t) group.Post
-group-leave-group-requires t c κs =
-    let S = c .before .before .before .before .before .before .before .before .before .before .before in
-    let R = rules-of (S .args .a) (S .args .table .now) in
-    let s = S .args .s .now in
-    let e = c .before .before .before .before .before .before .before .before .enter-group .ensures in
-    let z = c .before .before .before .before .before .before .if1 .left in
-    let q = c .before .before .before .sequence .ensures in
-    let y = c .before .if2 .left in
-    let g = q .grown y in
-    let a = e .nodes-inside z in
-    let b = e .size-inside z in
-    let d = e .cost-inside z in
-    let f = e .siblings z in
-    let r = S .pre .1 .1 .0 in
-    (q .halted y, ((S .args .d, r), (S .pre .1 .1 .1, ((omega arith, omega arith), ((omega arith, omega arith), omega arith)))))
+  group-add-t15 : group-lts.Need-add-t15 (group-calls t) (group-start t) group.Post
+  group-add-t15 c = omega (arith, group-from (group-opened (c .before .before)) .pre .1 .1 .0 .groups)
 
-group-returns-3 : (t : ℕ) → group-lts.Need-returns-3 (group-calls t) (group-start t) group.Post
-group-returns-3 t c =
-    let S = c .before .before .before .before .before .before .before .before .before .before .before .before in
-    let R = rules-of (S .args .a) (S .args .table .now) in
-    let s = S .args .s .now in
-    through R s (S .args .d) (in-group-of (S .args .d)) (S .args .at) (S .args .t) (a-group (S .args .t)) (group-deeper (S .args .d) (S .args .t)) 2 1 65535 (c .before .before .before .before .before .before .before .before .before .enter-group .result) (c .before .before .before .before .before .before .before .before .before .enter-group .ensures) (c .before .before .before .before .before .before .before .if1 .left) (c .before .before .before .before .sequence .result) (c .before .before .before .before .sequence .ensures) (c .before .before .if2 .left) (c .leave-group .result) (c .leave-group .ensures (S .args .table .now) (S .args .d))
+  group-sequence-requires : group-lts.Need-sequence-requires (group-calls t) (group-start t) group.Post
+  group-sequence-requires c κs =
+      let n = c .before .before in
+      let e = group-opened n .enter-group .ensures in
+      let z = n .if1 .left in
+      let S = group-from (group-opened n) in
+      let further = e .ahead z in
+      (omega (arith, S .pre .0), (e .within z, (e .room z, S .pre .1 .1 .1)))
 
-item-shared-slice-read-c : (t : ℕ) → item-lts.Need-shared-slice-read-c (item-calls t) (item-start t) item.Post
-item-shared-slice-read-c t c =
-    let S = c .before .before .before in
-    let R = rules-of (S .args .a) (S .args .table .now) in
-    let s = S .args .s .now in
-    S .pre .1 .0 .below
+  group-returns-2 : group-lts.Need-returns-2 (group-calls t) (group-start t) group.Post
+  group-returns-2 c =
+      let q = c .before .before in
+      let n = group-inside q in
+      let e = group-opened n in
+      let a = group-from e .args in
+      inside-refused (rules-of (a .a) (a .table .now)) (a .s .now) (a .d) (in-group-of (a .d)) (a .at) (a .t) (a-group (a .t)) (group-deeper (a .d) (a .t)) 2 1 65535 (e .enter-group .result) (e .enter-group .ensures) (n .if1 .left) (q .sequence .result) (q .sequence .ensures) (c .if2 .taken)
 
-item-step-requires : (t : ℕ) → item-lts.Need-step-requires (item-calls t) (item-start t) item.Post
-item-step-requires t c κs =
-    let S = c .before .before .before .before in
-    let R = rules-of (S .args .a) (S .args .table .now) in
-    let s = S .args .s .now in
-    ((record { below = S .pre .1 .0 .below; byte = c .if1 .taken }), ((S .args .d, S .pre .1 .1 .0), S .pre .1 .1 .1))
+  group-leave-group-requires : group-lts.Need-leave-group-requires (group-calls t) (group-start t) group.Post
+  group-leave-group-requires c κs =
+      let m = c .before in
+      let q = m .before .before in
+      let n = group-inside q in
+      let e = group-opened n .enter-group .ensures in
+      let S = group-from (group-opened n) in
+      let z = n .if1 .left in
+      let y = m .if2 .left in
+      let g = q .sequence .ensures .grown y in
+      let nodes = e .nodes-inside z in
+      let size = e .size-inside z in
+      let cost = e .cost-inside z in
+      let room = S .pre .1 .1 .0 in
+      (q .sequence .ensures .halted y, ((S .args .d, room), (S .pre .1 .1 .1, ((omega arith, omega arith), ((omega arith, omega arith), omega arith)))))
 
-item-returns : (t : ℕ) → item-lts.Need-returns (item-calls t) (item-start t) item.Post
-item-returns t c = let S = c .before .before .before .before .before in c .step .ensures (S .args .d)
+  group-returns-3 : group-lts.Need-returns-3 (group-calls t) (group-start t) group.Post
+  group-returns-3 c =
+      let m = c .before .before in
+      let q = m .before .before in
+      let n = group-inside q in
+      let e = group-opened n in
+      let a = group-from e .args in
+      through (rules-of (a .a) (a .table .now)) (a .s .now) (a .d) (in-group-of (a .d)) (a .at) (a .t) (a-group (a .t)) (group-deeper (a .d) (a .t)) 2 1 65535 (e .enter-group .result) (e .enter-group .ensures) (n .if1 .left) (q .sequence .result) (q .sequence .ensures) (m .if2 .left) (c .leave-group .result) (c .leave-group .ensures (a .table .now) (a .d))
 
-item-group-requires : (t : ℕ) → item-lts.Need-group-requires (item-calls t) (item-start t) item.Post
-item-group-requires t c κs =
-    let S = c .before .before .before .before .before in
-    let R = rules-of (S .args .a) (S .args .table .now) in
-    let s = S .args .s .now in
-    (omega (arith, S .pre .0), ((record { below = S .pre .1 .0 .below; byte = c .if2 .taken }), S .pre .1 .1))
+module _ (t : ℕ) where
+  -- From where the command is known to be no step.
+  abbrev item-from : item-lts.Else1 (item-calls t) (item-start t) item.Post → item-lts.Start (item-calls t) (item-start t) item.Post
+  item-from c = c .before .before .before .before
 
-item-returns-2 : (t : ℕ) → item-lts.Need-returns-2 (item-calls t) (item-start t) item.Post
-item-returns-2 t c = c .group .ensures
+  item-shared-slice-read-c : item-lts.Need-shared-slice-read-c (item-calls t) (item-start t) item.Post
+  item-shared-slice-read-c c = c .before .before .before .pre .1 .0 .below
 
-item-repeat-requires : (t : ℕ) → item-lts.Need-repeat-requires (item-calls t) (item-start t) item.Post
-item-repeat-requires t c κs =
-    let S = c .before .before .before .before .before .before in
-    let R = rules-of (S .args .a) (S .args .table .now) in
-    let s = S .args .s .now in
-    (omega (arith, S .pre .0), ((record { below = S .pre .1 .0 .below; byte = c .if3 .taken }), S .pre .1 .1))
+  item-step-requires : item-lts.Need-step-requires (item-calls t) (item-start t) item.Post
+  item-step-requires c κs =
+      let S = c .before .before .before .before in
+      (record { below = S .pre .1 .0 .below; byte = c .if1 .taken }, ((S .args .d, S .pre .1 .1 .0), S .pre .1 .1 .1))
 
-item-returns-3 : (t : ℕ) → item-lts.Need-returns-3 (item-calls t) (item-start t) item.Post
-item-returns-3 t c = c .repeat .ensures
+  item-returns : item-lts.Need-returns (item-calls t) (item-start t) item.Post
+  item-returns c = c .step .ensures (c .before .before .before .before .before .args .d)
 
-item-refused-requires : (t : ℕ) → item-lts.Need-refused-requires (item-calls t) (item-start t) item.Post
-item-refused-requires t c κs = tt
+  item-group-requires : item-lts.Need-group-requires (item-calls t) (item-start t) item.Post
+  item-group-requires c κs =
+      let S = item-from (c .before) in
+      (omega (arith, S .pre .0), (record { below = S .pre .1 .0 .below; byte = c .if2 .taken }, S .pre .1 .1))
 
-item-returns-4 : (t : ℕ) → item-lts.Need-returns-4 (item-calls t) (item-start t) item.Post
-item-returns-4 t c =
-    let S = c .before .before .before .before .before .before .before in
-    let R = rules-of (S .args .a) (S .args .table .now) in
-    let s = S .args .s .now in
-    rw (c .refused .ensures) (item-unknown R s (S .args .d) (S .args .at) (S .args .t) _ (S .pre .1 .0) (c .before .before .before .if1 .left) (c .before .before .if2 .left) (c .before .if3 .left))
+  item-returns-2 : item-lts.Need-returns-2 (item-calls t) (item-start t) item.Post
+  item-returns-2 c = c .group .ensures
 
-repeat-enter-repeat-requires : (t : ℕ) → repeat-lts.Need-enter-repeat-requires (repeat-calls t) (repeat-start t) repeat.Post
-repeat-enter-repeat-requires t c κs =
-    let S = c .before .before in
-    let R = rules-of (S .args .a) (S .args .table .now) in
-    let s = S .args .s .now in
-    (S .pre .1 .0, (S .pre .1 .1 .0, S .pre .1 .1 .1))
+  item-repeat-requires : item-lts.Need-repeat-requires (item-calls t) (item-start t) item.Post
+  item-repeat-requires c κs =
+      let S = item-from (c .before .before) in
+      (omega (arith, S .pre .0), (record { below = S .pre .1 .0 .below; byte = c .if3 .taken }, S .pre .1 .1))
 
-repeat-returns : (t : ℕ) → repeat-lts.Need-returns (repeat-calls t) (repeat-start t) repeat.Post
-repeat-returns t c =
-    let S = c .before .before .before .before .before in
-    let R = rules-of (S .args .a) (S .args .table .now) in
-    let s = S .args .s .now in
-    entry-refused R s (S .args .d) (in-repeat-of (S .args .d)) (S .args .at) (S .args .t) (repeat-at s (S .args .at) (S .args .t)) (repeat-deeper (S .args .d) (word-at s (S .args .at + 1)) (word-at s (S .args .at + 3)) (S .args .t)) 0 0 4294967295 (c .before .before .enter-repeat .result) (c .before .before .enter-repeat .ensures .0 (S .args .table .now)) (c .if1 .taken)
+  item-returns-3 : item-lts.Need-returns-3 (item-calls t) (item-start t) item.Post
+  item-returns-3 c = c .repeat .ensures
 
-repeat-add-operand : (t : ℕ) → repeat-lts.Need-add-operand (repeat-calls t) (repeat-start t) repeat.Post
-repeat-add-operand t c =
-    let S = c .before .before .before .before .before in
-    let R = rules-of (S .args .a) (S .args .table .now) in
-    let s = S .args .s .now in
-    omega (arith, c .before .before .enter-repeat .ensures .1 (c .if1 .left))
+  item-refused-requires : item-lts.Need-refused-requires (item-calls t) (item-start t) item.Post
+  item-refused-requires c κs = tt
 
-repeat-operand-requires : (t : ℕ) → repeat-lts.Need-operand-requires (repeat-calls t) (repeat-start t) repeat.Post
-repeat-operand-requires t c κs = tt
+  item-returns-4 : item-lts.Need-returns-4 (item-calls t) (item-start t) item.Post
+  item-returns-4 c =
+      let no-repeat = c .before in
+      let no-group = no-repeat .before in
+      let no-step = no-group .before in
+      let S = item-from no-step in
+      let a = S .args in
+      rw (c .refused .ensures) (item-unknown (rules-of (a .a) (a .table .now)) (a .s .now) (a .d) (a .at) (a .t) _ (S .pre .1 .0) (no-step .if1 .left) (no-group .if2 .left) (no-repeat .if3 .left))
 
-repeat-add-operand-2 : (t : ℕ) → repeat-lts.Need-add-operand-2 (repeat-calls t) (repeat-start t) repeat.Post
-repeat-add-operand-2 t c =
-    let S = c .before .before .before .before .before .before in
-    let R = rules-of (S .args .a) (S .args .table .now) in
-    let s = S .args .s .now in
-    omega (arith, c .before .before .before .enter-repeat .ensures .1 (c .before .if1 .left))
+module _ (t : ℕ) where
+  abbrev repeat-from : repeat-lts.After-enter-repeat (repeat-calls t) (repeat-start t) repeat.Post → repeat-lts.Start (repeat-calls t) (repeat-start t) repeat.Post
+  repeat-from c = c .before .before .before
 
-repeat-operand-requires-2 : (t : ℕ) → repeat-lts.Need-operand-requires-2 (repeat-calls t) (repeat-start t) repeat.Post
-repeat-operand-requires-2 t c κs = tt
+  abbrev repeat-opened : repeat-lts.Else1 (repeat-calls t) (repeat-start t) repeat.Post → repeat-lts.After-enter-repeat (repeat-calls t) (repeat-start t) repeat.Post
+  repeat-opened c = c .before .before
 
-repeat-add-t16 : (t : ℕ) → repeat-lts.Need-add-t16 (repeat-calls t) (repeat-start t) repeat.Post
-repeat-add-t16 t c =
-    let S = c .before .before .before .before .before .before .before .before .before in
-    let R = rules-of (S .args .a) (S .args .table .now) in
-    let s = S .args .s .now in
-    omega (arith, S .pre .1 .1 .0 .repeats)
+  abbrev repeat-said : repeat-lts.After-sequence (repeat-calls t) (repeat-start t) repeat.Post → repeat-lts.After-operand2 (repeat-calls t) (repeat-start t) repeat.Post
+  repeat-said c = c .before .before .before
 
-repeat-sequence-requires : (t : ℕ) → repeat-lts.Need-sequence-requires (repeat-calls t) (repeat-start t) repeat.Post
-repeat-sequence-requires t c κs =
-    let S = c .before .before .before .before .before .before .before .before .before in
-    let R = rules-of (S .args .a) (S .args .table .now) in
-    let s = S .args .s .now in
-    let e = c .before .before .before .before .before .before .enter-repeat .ensures .0 (S .args .table .now) in
-    let z = c .before .before .before .before .if1 .left in
-    let a = e .ahead z in
-    let w = e .within z in
-    (omega (arith, S .pre .0), (w, (e .room z, S .pre .1 .1 .1)))
+  -- What the open of the repeat says, for the prices at hand.
+  repeat-entered : (c : repeat-lts.After-enter-repeat (repeat-calls t) (repeat-start t) repeat.Post)
+      → (let a = repeat-from c .args in
+      OpenRead (rules-of (a .a) (a .table .now)) (a .s .now) (a .d) (in-repeat-of (a .d)) (a .at) (a .t) (repeat-at (a .s .now) (a .at) (a .t)) 0 0 4294967295 (c .enter-repeat .result))
+  repeat-entered c = c .enter-repeat .ensures .0 (repeat-from c .args .table .now)
 
-repeat-returns-2 : (t : ℕ) → repeat-lts.Need-returns-2 (repeat-calls t) (repeat-start t) repeat.Post
-repeat-returns-2 t c =
-    let S = c .before .before .before .before .before .before .before .before .before .before .before .before in
-    let R = rules-of (S .args .a) (S .args .table .now) in
-    let s = S .args .s .now in
-    inside-refused R s (S .args .d) (in-repeat-of (S .args .d)) (S .args .at) (S .args .t) (repeat-at s (S .args .at) (S .args .t)) (repeat-deeper (S .args .d) (word-at s (S .args .at + 1)) (word-at s (S .args .at + 3)) (S .args .t)) 0 0 4294967295 (c .before .before .before .before .before .before .before .before .before .enter-repeat .result) (c .before .before .before .before .before .before .before .before .before .enter-repeat .ensures .0 (S .args .table .now)) (c .before .before .before .before .before .before .before .if1 .left) (c .before .before .sequence .result) (c .before .before .sequence .ensures) (c .if2 .taken)
+  repeat-enter-repeat-requires : repeat-lts.Need-enter-repeat-requires (repeat-calls t) (repeat-start t) repeat.Post
+  repeat-enter-repeat-requires c κs = c .before .before .pre .1
 
-repeat-leave-repeat-requires : (t : ℕ) → repeat-lts.Need-leave-repeat-requires (repeat-calls t) (repeat-start t) repeat.Post
-repeat-leave-repeat-requires t c κs =
-    let S = c .before .before .before .before .before .before .before .before .before .before .before .before .before in
-    let R = rules-of (S .args .a) (S .args .table .now) in
-    let s = S .args .s .now in
-    let e = c .before .before .before .before .before .before .before .before .before .before .enter-repeat .ensures .0 (S .args .table .now) in
-    let z = c .before .before .before .before .before .before .before .before .if1 .left in
-    let k = c .before .before .before .before .before .before .before .before .before .before .enter-repeat .ensures .1 z in
-    let q = c .before .before .before .sequence .ensures in
-    let y = c .before .if2 .left in
-    let g = q .grown y in
-    let a = e .nodes-inside z in
-    let b = e .size-inside z in
-    let d = e .cost-inside z in
-    let f = e .siblings z in
-    let r = S .pre .1 .1 .0 in
-    (q .halted y, ((S .args .d, r), (S .pre .1 .1 .1, ((k .0, omega (arith, k .1, c .before .before .before .before .before .before .before .operand .ensures .0), c .before .before .before .before .before .before .before .operand .ensures .1), ((omega arith, omega arith), (omega arith, omega arith, omega arith))))))
+  repeat-returns : repeat-lts.Need-returns (repeat-calls t) (repeat-start t) repeat.Post
+  repeat-returns c =
+      let e = c .before .before in
+      let a = repeat-from e .args in
+      let s = a .s .now in
+      entry-refused (rules-of (a .a) (a .table .now)) s (a .d) (in-repeat-of (a .d)) (a .at) (a .t) (repeat-at s (a .at) (a .t)) (repeat-deeper (a .d) (word-at s (a .at + 1)) (word-at s (a .at + 3)) (a .t)) 0 0 4294967295 (e .enter-repeat .result) (repeat-entered e) (c .if1 .taken)
 
-repeat-returns-3 : (t : ℕ) → repeat-lts.Need-returns-3 (repeat-calls t) (repeat-start t) repeat.Post
-repeat-returns-3 t c =
-    let S = c .before .before .before .before .before .before .before .before .before .before .before .before .before .before in
-    let R = rules-of (S .args .a) (S .args .table .now) in
-    let s = S .args .s .now in
-    through R s (S .args .d) (in-repeat-of (S .args .d)) (S .args .at) (S .args .t) (repeat-at s (S .args .at) (S .args .t)) (repeat-deeper (S .args .d) (word-at s (S .args .at + 1)) (word-at s (S .args .at + 3)) (S .args .t)) 0 0 4294967295 (c .before .before .before .before .before .before .before .before .before .before .before .enter-repeat .result) (c .before .before .before .before .before .before .before .before .before .before .before .enter-repeat .ensures .0 (S .args .table .now)) (c .before .before .before .before .before .before .before .before .before .if1 .left) (c .before .before .before .before .sequence .result) (c .before .before .before .before .sequence .ensures) (c .before .before .if2 .left) (c .leave-repeat .result) (rw (c .before .before .before .before .before .before .before .before .operand .ensures .0, c .before .before .before .before .before .before .before .operand2 .ensures .0) at (c .leave-repeat .ensures (S .args .table .now) (S .args .d)))
+  repeat-add-operand : repeat-lts.Need-add-operand (repeat-calls t) (repeat-start t) repeat.Post
+  repeat-add-operand c = omega (arith, repeat-opened c .enter-repeat .ensures .1 (c .if1 .left))
+
+  repeat-operand-requires : repeat-lts.Need-operand-requires (repeat-calls t) (repeat-start t) repeat.Post
+  repeat-operand-requires c κs = tt
+
+  repeat-add-operand-2 : repeat-lts.Need-add-operand-2 (repeat-calls t) (repeat-start t) repeat.Post
+  repeat-add-operand-2 c = omega (arith, repeat-opened (c .before) .enter-repeat .ensures .1 (c .before .if1 .left))
+
+  repeat-operand-requires-2 : repeat-lts.Need-operand-requires-2 (repeat-calls t) (repeat-start t) repeat.Post
+  repeat-operand-requires-2 c κs = tt
+
+  repeat-add-t16 : repeat-lts.Need-add-t16 (repeat-calls t) (repeat-start t) repeat.Post
+  repeat-add-t16 c = omega (arith, repeat-from (repeat-opened (c .before .before .before .before)) .pre .1 .1 .0 .repeats)
+
+  repeat-sequence-requires : repeat-lts.Need-sequence-requires (repeat-calls t) (repeat-start t) repeat.Post
+  repeat-sequence-requires c κs =
+      let n = c .before .before .before .before in
+      let e = repeat-entered (repeat-opened n) in
+      let z = n .if1 .left in
+      let S = repeat-from (repeat-opened n) in
+      let further = e .ahead z in
+      (omega (arith, S .pre .0), (e .within z, (e .room z, S .pre .1 .1 .1)))
+
+  repeat-returns-2 : repeat-lts.Need-returns-2 (repeat-calls t) (repeat-start t) repeat.Post
+  repeat-returns-2 c =
+      let q = c .before .before in
+      let n = repeat-said q .before .before in
+      let e = repeat-opened n in
+      let a = repeat-from e .args in
+      let s = a .s .now in
+      inside-refused (rules-of (a .a) (a .table .now)) s (a .d) (in-repeat-of (a .d)) (a .at) (a .t) (repeat-at s (a .at) (a .t)) (repeat-deeper (a .d) (word-at s (a .at + 1)) (word-at s (a .at + 3)) (a .t)) 0 0 4294967295 (e .enter-repeat .result) (repeat-entered e) (n .if1 .left) (q .sequence .result) (q .sequence .ensures) (c .if2 .taken)
+
+  repeat-leave-repeat-requires : repeat-lts.Need-leave-repeat-requires (repeat-calls t) (repeat-start t) repeat.Post
+  repeat-leave-repeat-requires c κs =
+      let m = c .before in
+      let q = m .before .before in
+      let count = repeat-said q .before in
+      let n = count .before in
+      let e = repeat-entered (repeat-opened n) in
+      let S = repeat-from (repeat-opened n) in
+      let z = n .if1 .left in
+      let k = repeat-opened n .enter-repeat .ensures .1 z in
+      let y = m .if2 .left in
+      let g = q .sequence .ensures .grown y in
+      let nodes = e .nodes-inside z in
+      let size = e .size-inside z in
+      let cost = e .cost-inside z in
+      let siblings = e .siblings z in
+      let room = S .pre .1 .1 .0 in
+      (q .sequence .ensures .halted y, ((S .args .d, room), (S .pre .1 .1 .1, ((k .0, omega (arith, k .1, count .operand .ensures .0), count .operand .ensures .1), ((omega arith, omega arith), (omega arith, omega arith, omega arith))))))
+
+  repeat-returns-3 : repeat-lts.Need-returns-3 (repeat-calls t) (repeat-start t) repeat.Post
+  repeat-returns-3 c =
+      let m = c .before .before in
+      let q = m .before .before in
+      let width = repeat-said q in
+      let count = width .before in
+      let n = count .before in
+      let e = repeat-opened n in
+      let a = repeat-from e .args in
+      let s = a .s .now in
+      through (rules-of (a .a) (a .table .now)) s (a .d) (in-repeat-of (a .d)) (a .at) (a .t) (repeat-at s (a .at) (a .t)) (repeat-deeper (a .d) (word-at s (a .at + 1)) (word-at s (a .at + 3)) (a .t)) 0 0 4294967295 (e .enter-repeat .result) (repeat-entered e) (n .if1 .left) (q .sequence .result) (q .sequence .ensures) (m .if2 .left) (c .leave-repeat .result) (closed-as (count .operand .ensures .0) (width .operand2 .ensures .0) (c .leave-repeat .ensures (a .table .now) (a .d)))
 
 abbrev sequence-Inv : sequence-lts.InvT-loop
 sequence-Inv s table a at d p₀ now₀ p now = Along (rules-of a table) s d at now₀ p now
@@ -278,60 +284,71 @@ sequence-Inv s table a at d p₀ now₀ p now = Along (rules-of a table) s d at 
 abbrev sequence-μ : sequence-lts.MeasureT-loop
 sequence-μ s table a at d p₀ now₀ p now = length s - p
 
-sequence-loop-holds : (t : ℕ) → sequence-lts.Need-loop-holds (sequence-calls t) (sequence-start t) sequence.Post sequence-Inv sequence-μ
-sequence-loop-holds t c =
-    let S = c .before .before in
-    let R = rules-of (S .args .a) (S .args .table .now) in
-    let s = S .args .s .now in
-    along-none R s (S .args .d) (S .args .at) (S .args .t) (S .pre .1 .0) (S .pre .1 .1 .0 .nodes)
+module _ (t : ℕ) where
+  abbrev sequence-from : sequence-lts.At-loop (sequence-calls t) (sequence-start t) sequence.Post sequence-Inv sequence-μ → sequence-lts.Start (sequence-calls t) (sequence-start t) sequence.Post sequence-Inv sequence-μ
+  sequence-from c = c .before .before .before
 
-sequence-shared-slice-read-c : (t : ℕ) → sequence-lts.Need-shared-slice-read-c (sequence-calls t) (sequence-start t) sequence.Post sequence-Inv sequence-μ
-sequence-shared-slice-read-c t c = omega arith
+  abbrev sequence-further : sequence-lts.Else1 (sequence-calls t) (sequence-start t) sequence.Post sequence-Inv sequence-μ → sequence-lts.In-loop (sequence-calls t) (sequence-start t) sequence.Post sequence-Inv sequence-μ
+  sequence-further c = c .before .before
 
-sequence-returns : (t : ℕ) → sequence-lts.Need-returns (sequence-calls t) (sequence-start t) sequence.Post sequence-Inv sequence-μ
-sequence-returns t c =
-    let S = c .before .before .before .before .before .before in
-    let R = rules-of (S .args .a) (S .args .table .now) in
-    let s = S .args .s .now in
-    along-ends R s (S .args .d) (S .args .at) (S .args .t) (c .before .before .before .loop .p) (c .before .before .before .loop .now) (c .before .before .before .loop .inv) (record { within = c .before .before .before .loop .inv .within; close = λ _ n. absurd (n (c .if1 .taken)) })
+  sequence-loop-holds : sequence-lts.Need-loop-holds (sequence-calls t) (sequence-start t) sequence.Post sequence-Inv sequence-μ
+  sequence-loop-holds c =
+      let S = c .before .before in
+      let a = S .args in
+      along-none (rules-of (a .a) (a .table .now)) (a .s .now) (a .d) (a .at) (a .t) (S .pre .1 .0) (S .pre .1 .1 .0 .nodes)
 
-sequence-returns-2 : (t : ℕ) → sequence-lts.Need-returns-2 (sequence-calls t) (sequence-start t) sequence.Post sequence-Inv sequence-μ
-sequence-returns-2 t c =
-    let S = c .before .before .before .before .before .before .before in
-    let R = rules-of (S .args .a) (S .args .table .now) in
-    let s = S .args .s .now in
-    along-ends R s (S .args .d) (S .args .at) (S .args .t) (c .before .before .before .before .loop .p) (c .before .before .before .before .loop .now) (c .before .before .before .before .loop .inv) (record { within = c .before .before .before .before .loop .inv .within; close = λ _ _. c .if2 .taken })
+  sequence-shared-slice-read-c : sequence-lts.Need-shared-slice-read-c (sequence-calls t) (sequence-start t) sequence.Post sequence-Inv sequence-μ
+  sequence-shared-slice-read-c c = omega arith
 
-sequence-item-requires : (t : ℕ) → sequence-lts.Need-item-requires (sequence-calls t) (sequence-start t) sequence.Post sequence-Inv sequence-μ
-sequence-item-requires t c κs =
-    let S = c .before .before .before .before .before .before .before in
-    let R = rules-of (S .args .a) (S .args .table .now) in
-    let s = S .args .s .now in
-    (omega (arith, S .pre .0, c .before .before .before .before .loop .inv .ahead, c .before .before .before .loop-test .taken), (record { below = c .before .before .before .loop-test .taken; no-group-end = c .before .if1 .left; no-repeat-end = c .if2 .left }, (room-grown (S .args .a .limits) (S .args .d) (S .args .t) (c .before .before .before .before .loop .now) (S .pre .1 .1 .0) (c .before .before .before .before .loop .inv .grown), S .pre .1 .1 .1)))
+  sequence-returns : sequence-lts.Need-returns (sequence-calls t) (sequence-start t) sequence.Post sequence-Inv sequence-μ
+  sequence-returns c =
+      let l = c .before .before .before in
+      let a = sequence-from l .args in
+      along-ends (rules-of (a .a) (a .table .now)) (a .s .now) (a .d) (a .at) (a .t) (l .loop .p) (l .loop .now) (l .loop .inv) (record { within = l .loop .inv .within; close = λ _ n. absurd (n (c .if1 .taken)) })
 
-sequence-returns-3 : (t : ℕ) → sequence-lts.Need-returns-3 (sequence-calls t) (sequence-start t) sequence.Post sequence-Inv sequence-μ
-sequence-returns-3 t c =
-    let S = c .before .before .before .before .before .before .before .before .before .before in
-    let R = rules-of (S .args .a) (S .args .table .now) in
-    let s = S .args .s .now in
-    along-refused R s (S .args .d) (S .args .at) (S .args .t) (c .before .before .before .before .before .before .before .loop .p) (c .before .before .before .before .before .before .before .loop .now) (c .before .before .before .before .before .before .before .loop .inv) (c .before .before .item .result) (c .before .before .item .ensures) (c .if3 .taken)
+  sequence-returns-2 : sequence-lts.Need-returns-2 (sequence-calls t) (sequence-start t) sequence.Post sequence-Inv sequence-μ
+  sequence-returns-2 c =
+      let l = sequence-further (c .before) .before in
+      let a = sequence-from l .args in
+      along-ends (rules-of (a .a) (a .table .now)) (a .s .now) (a .d) (a .at) (a .t) (l .loop .p) (l .loop .now) (l .loop .inv) (record { within = l .loop .inv .within; close = λ _ _. c .if2 .taken })
 
-sequence-loop-less : (t : ℕ) → sequence-lts.Need-loop-less (sequence-calls t) (sequence-start t) sequence.Post sequence-Inv sequence-μ
-sequence-loop-less t c = omega (arith, c .before .before .before .item .ensures .ahead (c .before .if3 .left), c .before .before .before .item .ensures .within (c .before .if3 .left))
+  sequence-item-requires : sequence-lts.Need-item-requires (sequence-calls t) (sequence-start t) sequence.Post sequence-Inv sequence-μ
+  sequence-item-requires c κs =
+      let f = sequence-further (c .before) in
+      let l = f .before .loop in
+      let S = sequence-from (f .before) in (
+        omega (arith, S .pre .0, l .inv .ahead, f .loop-test .taken),
+        (
+          record { below = f .loop-test .taken; no-group-end = c .before .if1 .left; no-repeat-end = c .if2 .left },
+          (room-grown (S .args .a .limits) (S .args .d) (S .args .t) (l .now) (S .pre .1 .1 .0) (l .inv .grown), S .pre .1 .1 .1),
+        ),
+      )
 
-sequence-loop-again : (t : ℕ) → sequence-lts.Need-loop-again (sequence-calls t) (sequence-start t) sequence.Post sequence-Inv sequence-μ
-sequence-loop-again t c =
-    let S = c .before .before .before .before .before .before .before .before .before .before .before in
-    let R = rules-of (S .args .a) (S .args .table .now) in
-    let s = S .args .s .now in
-    along-more R s (S .args .d) (S .args .at) (S .args .t) (c .before .before .before .before .before .before .before .before .loop .p) (c .before .before .before .before .before .before .before .before .loop .now) (c .before .before .before .before .before .before .before .before .loop .inv) (c .before .before .before .item .result) (c .before .before .before .item .ensures) (c .before .if3 .left)
+  sequence-returns-3 : sequence-lts.Need-returns-3 (sequence-calls t) (sequence-start t) sequence.Post sequence-Inv sequence-μ
+  sequence-returns-3 c =
+      let i = c .before .before in
+      let l = sequence-further (i .before .before) .before in
+      let a = sequence-from l .args in
+      along-refused (rules-of (a .a) (a .table .now)) (a .s .now) (a .d) (a .at) (a .t) (l .loop .p) (l .loop .now) (l .loop .inv) (i .item .result) (i .item .ensures) (c .if3 .taken)
 
-sequence-returns-4 : (t : ℕ) → sequence-lts.Need-returns-4 (sequence-calls t) (sequence-start t) sequence.Post sequence-Inv sequence-μ
-sequence-returns-4 t c =
-    let S = c .before .before .before .before in
-    let R = rules-of (S .args .a) (S .args .table .now) in
-    let s = S .args .s .now in
-    along-ends R s (S .args .d) (S .args .at) (S .args .t) (c .before .loop .p) (c .before .loop .now) (c .before .loop .inv) (record { within = c .before .loop .inv .within; close = λ n _. absurd (n (omega (arith, c .before .loop .inv .within, c .loop-test .left))) })
+  sequence-loop-less : sequence-lts.Need-loop-less (sequence-calls t) (sequence-start t) sequence.Post sequence-Inv sequence-μ
+  sequence-loop-less c =
+      let i = c .before .before .before .item .ensures in
+      let z = c .before .if3 .left in
+      omega (arith, i .ahead z, i .within z)
+
+  sequence-loop-again : sequence-lts.Need-loop-again (sequence-calls t) (sequence-start t) sequence.Post sequence-Inv sequence-μ
+  sequence-loop-again c =
+      let i = c .before .before .before in
+      let l = sequence-further (i .before .before) .before in
+      let a = sequence-from l .args in
+      along-more (rules-of (a .a) (a .table .now)) (a .s .now) (a .d) (a .at) (a .t) (l .loop .p) (l .loop .now) (l .loop .inv) (i .item .result) (i .item .ensures) (c .before .if3 .left)
+
+  sequence-returns-4 : sequence-lts.Need-returns-4 (sequence-calls t) (sequence-start t) sequence.Post sequence-Inv sequence-μ
+  sequence-returns-4 c =
+      let l = c .before in
+      let a = sequence-from l .args in
+      along-ends (rules-of (a .a) (a .table .now)) (a .s .now) (a .d) (a .at) (a .t) (l .loop .p) (l .loop .now) (l .loop .inv) (record { within = l .loop .inv .within; close = λ n _. absurd (n (omega (arith, l .loop .inv .within, c .loop-test .left))) })
 
 pub +group+item+repeat+sequence-spec : {M : Type 1} → statement M
 +group+item+repeat+sequence-spec =
