@@ -23,7 +23,7 @@ use Rattle.format.specs.declared.Unrolled.{Unrolled}
 use Rattle.format.proofs.Bridge.{parses}
 use Rattle.format.proofs.Report.{accepted-means, accepted-length, outcome-read, outcome-some}
 use Rattle.unroller.specs.Unrolling.{unroll-answer, unroll-output}
-use Rattle.unroller.specs.Writing.{SequenceAt, PassedOver}
+use Rattle.unroller.specs.inner.Writing.{SequenceAt, PassedOver}
 use Rattle.unroller.specs.declared.write.Place.{Place}
 
 -- What the contract promises of the answer and of the output.

@@ -10,7 +10,7 @@ use Rattle.format.specs.Forest.{Forest, end, step, group, repeat, join, copies,
 use Rattle.format.specs.Machine.{times}
 use Rattle.format.proofs.Bridge.{length-times, times-more, word-again}
 use Rattle.format.proofs.Forests.{join-end, bytes-join, bytes-copies, unroll-join, sound-parts}
-use Rattle.unroller.specs.Writing.{Ends, One, one-step, one-group, one-repeat, FormAt, SequenceAt, ItemAt}
+use Rattle.unroller.specs.inner.Writing.{Ends, One, one-step, one-group, one-repeat, FormAt, SequenceAt, ItemAt}
 use Rattle.unroller.specs.declared.write.Place.{Place}
 
 -- What each kind of item unrolls to, and how long that is.

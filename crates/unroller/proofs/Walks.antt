@@ -9,7 +9,7 @@ use lib.Seq.{sets, length-sets}
 use Rattle.format.specs.Forest.{Forest, end, step, group, repeat, join, unroll, bytes}
 use Rattle.format.specs.Machine.{times}
 use Rattle.format.proofs.Forests.{join-end, join-assoc, bytes-join, unroll-join}
-use Rattle.unroller.specs.Writing.{FormAt, SequenceAt, ItemAt, PassedOver}
+use Rattle.unroller.specs.inner.Writing.{FormAt, SequenceAt, ItemAt, PassedOver}
 use Rattle.unroller.specs.declared.write.Place.{Place}
 use Rattle.format.proofs.Lists.{sets-append}
 use Rattle.unroller.proofs.Stores.{sets-part}

@@ -1,3 +1,3 @@
 -- What the contracts of the unroller cite.
 pub mod Unrolling
-pub mod Writing
+pub mod inner

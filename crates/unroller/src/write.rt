@@ -9,7 +9,7 @@ ghost use lib.ListN.{length, take, drop};
 ghost use lib.Seq.{sets};
 ghost use Rattle.format.specs.Forest.{Forest};
 ghost use Rattle.format.specs.Machine.{times};
-ghost use Rattle.unroller.specs.Writing.{SequenceAt, ItemAt, PassedOver};
+ghost use Rattle.unroller.specs.inner.Writing.{SequenceAt, ItemAt, PassedOver};
 
 // How far the fold is read, and how far the output is written.
 pub struct Place {

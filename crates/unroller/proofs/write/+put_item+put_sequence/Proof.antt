@@ -9,7 +9,7 @@ use borrow.Fn.Kinds.{In}
 use borrow.Fn.PlainCycle.{Measures, is, falls, and}
 use Rattle.format.specs.Forest.{Forest}
 use Rattle.walk.proofs.operand.Reads as operand-reads
-use Rattle.unroller.specs.Writing.{SequenceAt}
+use Rattle.unroller.specs.inner.Writing.{SequenceAt}
 use Rattle.unroller.proofs.Places.{RepeatAt, GroupAt, item-there, item-repeat, item-node, item-group}
 use Rattle.unroller.proofs.Walks.{opened-length, step-put, group-inside, group-next, group-room, group-put, repeat-some, repeat-next, repeat-room, repeat-put, Along, along-none, along-length, along-ends, along-item, along-further, along-more}
 use Rattle.unroller.proofs.write.copy_on.Reads as copy-on-reads
