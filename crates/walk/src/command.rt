@@ -257,10 +257,11 @@ pub fn leave_repeat(s: &[u8], a: Terms, at: usize, o: Operands, t: Tally, i: Tal
     if s[at] == Format::GROUP_END {
         return refused(4, at, t);
     }
+    let width = o.width;
     if i.siblings == 0 {
         return refused(5, at, t);
     }
-    if i.siblings != o.width {
+    if i.siblings != width {
         return refused(9, at, t);
     }
     let passed = after_passes(o.count, t, i);

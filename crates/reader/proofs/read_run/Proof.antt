@@ -4,6 +4,10 @@ use Rattle.reader.proofs.Answers.{run-refused, run-read}
 use Rattle.reader.proofs.read_run.Statement.{statement}
 use Rattle.reader.proofs.read_run.Tie as tie
 
+-- The function's start, from behind the walk.
+abbrev start : tie.After-whole → tie.Start
+start c = c .before .before .before .before
+
 limits-requires : tie.Need-limits-requires
 limits-requires c κs = search needs
 
@@ -15,13 +19,13 @@ whole-requires c κs = rw (c .before .limits .ensures) (search needs)
 
 returns : tie.Need-returns
 returns c =
-    let bounds = c .before .before .before .before .limits .ensures in
-    run-refused (c .before .before .before .before .before .before .args .run .now) (c .before .before .whole .result) (rw bounds at (c .before .before .whole .ensures)) (c .if1 .taken)
+    let w = c .before .before in
+    run-refused (start w .args .run .now) (w .whole .result) (rw (w .before .before .limits .ensures) at (w .whole .ensures)) (c .if1 .taken)
 
 returns-2 : tie.Need-returns-2
 returns-2 c =
-    let bounds = c .before .before .before .before .before .limits .ensures in
-    run-read (c .before .before .before .before .before .before .before .args .run .now) (c .before .before .before .whole .result) (rw bounds at (c .before .before .before .whole .ensures)) (c .before .if1 .left)
+    let w = c .before .before .before in
+    run-read (start w .args .run .now) (w .whole .result) (rw (w .before .before .limits .ensures) at (w .whole .ensures)) (c .before .if1 .left)
 
 pub read-run-spec : {M : Type 1} → statement M
 read-run-spec = tie.close (tie.spec limits-requires slice-aggregate-whole whole-requires returns returns-2)

@@ -47,23 +47,43 @@ item-calls t =
 abbrev sequence-calls : ℕ → sequence-lts.Claims
 sequence-calls t = (item-below t, put-item.Post)
 
--- What each branch of an item knows of it.
+-- The function's start, from each branch of an item: a repeat, a step or a group, a group; and the branch, from behind the sequence
+-- that it holds.
 module _ (t : ℕ) where
+  abbrev repeat-from : item-lts.Then1 (item-calls t) (item-start t) put-item.Post → item-lts.Start (item-calls t) (item-start t) put-item.Post
+  repeat-from c = c .before .before .before .before
+
+  abbrev node-from : item-lts.Else1 (item-calls t) (item-start t) put-item.Post → item-lts.Start (item-calls t) (item-start t) put-item.Post
+  node-from c = c .before .before .before .before
+
+  abbrev no-step : item-lts.Else2 (item-calls t) (item-start t) put-item.Post → item-lts.Else1 (item-calls t) (item-start t) put-item.Post
+  no-step c = c .before .before
+
+  abbrev counted : item-lts.After-put-sequence (item-calls t) (item-start t) put-item.Post → item-lts.After-operand (item-calls t) (item-start t) put-item.Post
+  counted c = c .before .before
+
+  abbrev copied : item-lts.After-copy-on (item-calls t) (item-start t) put-item.Post → item-lts.After-put-sequence (item-calls t) (item-start t) put-item.Post
+  copied c = c .before .before .before .before
+
+  abbrev grouped : item-lts.After-put-sequence2 (item-calls t) (item-start t) put-item.Post → item-lts.Else2 (item-calls t) (item-start t) put-item.Post
+  grouped c = c .before .before
+
+  -- What each branch knows of its item.
   abbrev Its-repeat : item-lts.Start (item-calls t) (item-start t) put-item.Post → Type 0
   Its-repeat S = RepeatAt (S .args .s .now) (length (S .args .out .now)) (S .args .w) (S .pre .1 .0)
 
   abbrev Its-group : item-lts.Start (item-calls t) (item-start t) put-item.Post → Type 0
   Its-group S = GroupAt (S .args .s .now) (length (S .args .out .now)) (S .args .w) (S .pre .1 .0)
 
-  its-repeat : (c : item-lts.Then1 (item-calls t) (item-start t) put-item.Post) → Its-repeat (c .before .before .before .before)
-  its-repeat c = let S = c .before .before .before .before in item-repeat (S .pre .1 .1) (c .if1 .taken)
+  its-repeat : (c : item-lts.Then1 (item-calls t) (item-start t) put-item.Post) → Its-repeat (repeat-from c)
+  its-repeat c = let S = repeat-from c in item-repeat (S .pre .1 .1) (c .if1 .taken)
 
   its-node : (c : item-lts.Else1 (item-calls t) (item-start t) put-item.Post)
-      → let S = c .before .before .before .before in (S .args .w .at + 2 ≤ length (S .args .s .now)) × (S .args .w .to + 2 ≤ length (S .args .out .now))
-  its-node c = let S = c .before .before .before .before in item-node (S .pre .1 .1) (c .if1 .left)
+      → let S = node-from c in (S .args .w .at + 2 ≤ length (S .args .s .now)) × (S .args .w .to + 2 ≤ length (S .args .out .now))
+  its-node c = let S = node-from c in item-node (S .pre .1 .1) (c .if1 .left)
 
-  its-group : (c : item-lts.Else2 (item-calls t) (item-start t) put-item.Post) → Its-group (c .before .before .before .before .before .before)
-  its-group c = let S = c .before .before .before .before .before .before in item-group (S .pre .1 .1) (c .before .before .if1 .left) (c .if2 .left)
+  its-group : (c : item-lts.Else2 (item-calls t) (item-start t) put-item.Post) → Its-group (node-from (no-step c))
+  its-group c = let S = node-from (no-step c) in item-group (S .pre .1 .1) (no-step c .if1 .left) (c .if2 .left)
 
   item-shared-slice-read-c : item-lts.Need-shared-slice-read-c (item-calls t) (item-start t) put-item.Post
   item-shared-slice-read-c c = let S = c .before .before .before in item-there (S .pre .1 .1)
@@ -79,38 +99,40 @@ module _ (t : ℕ) where
 
   item-put-sequence-requires : item-lts.Need-put-sequence-requires (item-calls t) (item-start t) put-item.Post
   item-put-sequence-requires c κs =
-      let S = c .before .before .before .before .before .before in
+      let S = repeat-from (c .before .before) in
       let q = its-repeat (c .before .before) in
       (omega (arith, S .pre .0, q .there), (q .body, q .inside))
 
   item-sub-copy-on : item-lts.Need-sub-copy-on (item-calls t) (item-start t) put-item.Post
   item-sub-copy-on c =
       let p = c .before .before .before in
-      let S = p .before .before .before .before .before .before .before in
-      repeat-some (S .args .out .now) (its-repeat (p .before .before .before)) (p .before .before .operand .ensures .0)
+      let n = counted p in
+      repeat-some (repeat-from (n .before) .args .out .now) (its-repeat (n .before)) (n .operand .ensures .0)
 
   item-copy-on-requires : item-lts.Need-copy-on-requires (item-calls t) (item-start t) put-item.Post
   item-copy-on-requires c κs =
       let p = c .before .before .before in
-      let S = p .before .before .before .before .before .before .before in
-      repeat-room (S .args .out .now) (its-repeat (p .before .before .before)) (p .before .before .operand .ensures .0) (p .put-sequence .ensures)
+      let n = counted p in
+      repeat-room (repeat-from (n .before) .args .out .now) (its-repeat (n .before)) (n .operand .ensures .0) (p .put-sequence .ensures)
 
   item-add-t16 : item-lts.Need-add-t16 (item-calls t) (item-start t) put-item.Post
   item-add-t16 c =
-      let p = c .before .before .before .before .before .before .before in
-      let S = p .before .before .before .before .before .before .before in
-      omega (arith, repeat-next (S .args .out .now) (its-repeat (p .before .before .before)) (p .before .before .operand .ensures .0) (p .put-sequence .ensures))
+      let p = copied (c .before .before .before) in
+      let n = counted p in
+      omega (arith, repeat-next (repeat-from (n .before) .args .out .now) (its-repeat (n .before)) (n .operand .ensures .0) (p .put-sequence .ensures))
 
   item-same-length : item-lts.Need-same-length (item-calls t) (item-start t) put-item.Post
   item-same-length c =
-      c .before .before .before .copy-on .kept .0 ∙ c .before .before .before .before .before .before .before .put-sequence .kept .1 .0
+      let d = c .before .before .before in
+      d .copy-on .kept .0 ∙ copied d .put-sequence .kept .1 .0
 
   item-returns : item-lts.Need-returns (item-calls t) (item-start t) put-item.Post
   item-returns c =
-      let p = c .before .before .before .before .before .before .before in
-      let S = p .before .before .before .before .before .before .before in
-      let e = c .before .before .before .copy-on .ensures in
-      λ f i. repeat-put (S .args .out .now) (item-repeat i (p .before .before .before .if1 .taken)) (p .before .before .operand .ensures .0) (p .put-sequence .ensures) (e .0) (e .1)
+      let d = c .before .before .before in
+      let p = copied d in
+      let n = counted p in
+      let e = d .copy-on .ensures in
+      λ f i. repeat-put (repeat-from (n .before) .args .out .now) (item-repeat i (n .before .if1 .taken)) (n .operand .ensures .0) (p .put-sequence .ensures) (e .0) (e .1)
 
   item-slice-write-out : item-lts.Need-slice-write-out (item-calls t) (item-start t) put-item.Post
   item-slice-write-out c = omega (arith, its-node c .1)
@@ -135,49 +157,54 @@ module _ (t : ℕ) where
 
   item-same-length-2 : item-lts.Need-same-length-2 (item-calls t) (item-start t) put-item.Post
   item-same-length-2 c =
-      let S = c .before .before .before .before .before .before in
+      let S = node-from (c .before .before) in
       opened-length (S .args .s .now) (S .args .out .now) (S .args .w)
 
   item-returns-2 : item-lts.Need-returns-2 (item-calls t) (item-start t) put-item.Post
   item-returns-2 c =
-      let S = c .before .before .before .before .before .before in
+      let S = node-from (c .before .before) in
       λ f i. step-put (S .args .out .now) i (c .if2 .taken)
 
   item-put-sequence-requires-2 : item-lts.Need-put-sequence-requires-2 (item-calls t) (item-start t) put-item.Post
   item-put-sequence-requires-2 c κs =
-      let S = c .before .before .before .before .before .before .before in
+      let S = node-from (no-step (c .before)) in
       let q = its-group (c .before) in
       (omega (arith, S .pre .0, q .there), (q .body, group-inside (S .args .out .now) q))
 
   item-slice-write-out-3 : item-lts.Need-slice-write-out-3 (item-calls t) (item-start t) put-item.Post
   item-slice-write-out-3 c =
       let p = c .before .before in
-      let S = p .before .before .before .before .before .before .before .before in
-      group-room (S .args .out .now) (its-group (p .before .before)) (p .put-sequence2 .ensures)
+      let g = grouped p in
+      let S = node-from (no-step g) in
+      group-room (S .args .out .now) (its-group g) (p .put-sequence2 .ensures)
 
   item-add-t25-2 : item-lts.Need-add-t25-2 (item-calls t) (item-start t) put-item.Post
   item-add-t25-2 c =
       let p = c .before .before .before in
-      let S = p .before .before .before .before .before .before .before .before in
-      omega (arith, group-next (S .args .out .now) (its-group (p .before .before)) (p .put-sequence2 .ensures))
+      let g = grouped p in
+      let S = node-from (no-step g) in
+      omega (arith, group-next (S .args .out .now) (its-group g) (p .put-sequence2 .ensures))
 
   item-add-t23-2 : item-lts.Need-add-t23-2 (item-calls t) (item-start t) put-item.Post
   item-add-t23-2 c =
       let p = c .before .before .before in
-      let S = p .before .before .before .before .before .before .before .before in
-      omega (arith, group-room (S .args .out .now) (its-group (p .before .before)) (p .put-sequence2 .ensures), p .put-sequence2 .kept .1 .0, opened-length (S .args .s .now) (S .args .out .now) (S .args .w))
+      let g = grouped p in
+      let S = node-from (no-step g) in
+      omega (arith, group-room (S .args .out .now) (its-group g) (p .put-sequence2 .ensures), p .put-sequence2 .kept .1 .0, opened-length (S .args .s .now) (S .args .out .now) (S .args .w))
 
   item-same-length-3 : item-lts.Need-same-length-3 (item-calls t) (item-start t) put-item.Post
   item-same-length-3 c =
       let p = c .before .before .before in
-      let S = p .before .before .before .before .before .before .before .before in
+      let g = grouped p in
+      let S = node-from (no-step g) in
       simp length-set (p .put-sequence2 .kept .1 .0 ∙ opened-length (S .args .s .now) (S .args .out .now) (S .args .w))
 
   item-returns-3 : item-lts.Need-returns-3 (item-calls t) (item-start t) put-item.Post
   item-returns-3 c =
       let p = c .before .before .before in
-      let S = p .before .before .before .before .before .before .before .before in
-      λ f i. group-put (S .args .out .now) (item-group i (p .before .before .before .before .if1 .left) (p .before .before .if2 .left)) (p .put-sequence2 .ensures)
+      let g = grouped p in
+      let S = node-from (no-step g) in
+      λ f i. group-put (S .args .out .now) (item-group i (no-step g .if1 .left) (g .if2 .left)) (p .put-sequence2 .ensures)
 
 abbrev Inv-loop : sequence-lts.InvT-loop
 Inv-loop s out₀ p₀ out p = (f : Forest) → SequenceAt s (length out₀) p₀ f → Along s out₀ out p₀ p f
@@ -186,10 +213,20 @@ abbrev μ-loop : sequence-lts.MeasureT-loop
 μ-loop s out₀ p₀ out p = length s - p .at
 
 module _ (t : ℕ) where
+  -- The function's start, from the loop; and the loop, from where a byte is read that is no close of a group.
+  abbrev loop-from : sequence-lts.At-loop (sequence-calls t) (sequence-start t) put-sequence.Post Inv-loop μ-loop → sequence-lts.Start (sequence-calls t) (sequence-start t) put-sequence.Post Inv-loop μ-loop
+  loop-from c = c .before .before .before
+
+  abbrev more : sequence-lts.Else2 (sequence-calls t) (sequence-start t) put-sequence.Post Inv-loop μ-loop → sequence-lts.Then1 (sequence-calls t) (sequence-start t) put-sequence.Post Inv-loop μ-loop
+  more c = c .before .before
+
+  abbrev looped : sequence-lts.Then1 (sequence-calls t) (sequence-start t) put-sequence.Post Inv-loop μ-loop → sequence-lts.At-loop (sequence-calls t) (sequence-start t) put-sequence.Post Inv-loop μ-loop
+  looped c = c .before .before
+
   -- How far the walk over the required sequence has come.
   so-far : (c : sequence-lts.At-loop (sequence-calls t) (sequence-start t) put-sequence.Post Inv-loop μ-loop)
-      → let S = c .before .before .before in Along (S .args .s .now) (S .args .out .now) (c .loop .out) (S .args .w) (c .loop .p) (S .pre .1 .0)
-  so-far c = let S = c .before .before .before in c .loop .inv (S .pre .1 .0) (S .pre .1 .1)
+      → let S = loop-from c in Along (S .args .s .now) (S .args .out .now) (c .loop .out) (S .args .w) (c .loop .p) (S .pre .1 .0)
+  so-far c = let S = loop-from c in c .loop .inv (S .pre .1 .0) (S .pre .1 .1)
 
   sequence-loop-holds : sequence-lts.Need-loop-holds (sequence-calls t) (sequence-start t) put-sequence.Post Inv-loop μ-loop
   sequence-loop-holds c = let a = c .before .before .args in along-none (a .s .now) (a .out .now) (a .w)
@@ -198,33 +235,39 @@ module _ (t : ℕ) where
   sequence-shared-slice-read-c c = c .before .if1 .taken
 
   sequence-same-length : sequence-lts.Need-same-length (sequence-calls t) (sequence-start t) put-sequence.Post Inv-loop μ-loop
-  sequence-same-length c = along-length (so-far (c .before .before .before .before))
+  sequence-same-length c = along-length (so-far (looped (c .before .before)))
 
   sequence-returns : sequence-lts.Need-returns (sequence-calls t) (sequence-start t) put-sequence.Post Inv-loop μ-loop
   sequence-returns c =
-      λ f i. along-ends (c .before .before .before .before .loop .inv f i) (λ _. omega (arith, c .if2 .taken))
+      λ f i. along-ends (looped (c .before .before) .loop .inv f i) (λ _. omega (arith, c .if2 .taken))
 
   sequence-same-length-2 : sequence-lts.Need-same-length-2 (sequence-calls t) (sequence-start t) put-sequence.Post Inv-loop μ-loop
-  sequence-same-length-2 c = along-length (so-far (c .before .before .before .before .before))
+  sequence-same-length-2 c = along-length (so-far (looped (more (c .before))))
 
   sequence-returns-2 : sequence-lts.Need-returns-2 (sequence-calls t) (sequence-start t) put-sequence.Post Inv-loop μ-loop
   sequence-returns-2 c =
-      λ f i. along-ends (c .before .before .before .before .before .loop .inv f i) (λ _. omega (arith, c .if3 .taken))
+      λ f i. along-ends (looped (more (c .before)) .loop .inv f i) (λ _. omega (arith, c .if3 .taken))
 
   sequence-put-item-requires : sequence-lts.Need-put-item-requires (sequence-calls t) (sequence-start t) put-sequence.Post Inv-loop μ-loop
   sequence-put-item-requires c κs =
-      let a = so-far (c .before .before .before .before .before .before) in
-      (omega (arith, c .before .before .before .before .before .before .before .before .before .pre .0, a .put .passed, c .before .before .before .before .if1 .taken), along-item a (c .before .before .before .before .if1 .taken) (c .before .before .if2 .left) (c .before .if3 .left))
+      let e = c .before .before in
+      let m = more e in
+      let a = so-far (looped m) in
+      (omega (arith, loop-from (looped m) .pre .0, a .put .passed, m .if1 .taken), along-item a (m .if1 .taken) (e .if2 .left) (c .before .if3 .left))
 
   sequence-loop-less : sequence-lts.Need-loop-less (sequence-calls t) (sequence-start t) put-sequence.Post Inv-loop μ-loop
   sequence-loop-less c =
       let p = c .before .before in
-      omega (arith, p .before .before .before .before .before .if1 .taken, along-further (so-far (p .before .before .before .before .before .before .before)) (p .before .before .before .before .before .if1 .taken) (p .before .before .before .if2 .left) (p .before .before .if3 .left) (p .put-item .ensures))
+      let e = p .before .before .before in
+      let m = more e in
+      omega (arith, m .if1 .taken, along-further (so-far (looped m)) (m .if1 .taken) (e .if2 .left) (p .before .before .if3 .left) (p .put-item .ensures))
 
   sequence-loop-again : sequence-lts.Need-loop-again (sequence-calls t) (sequence-start t) put-sequence.Post Inv-loop μ-loop
   sequence-loop-again c =
       let p = c .before .before in
-      λ f i. along-more (p .before .before .before .before .before .before .before .loop .inv f i) (p .before .before .before .before .before .if1 .taken) (p .before .before .before .if2 .left) (p .before .before .if3 .left) (p .put-item .ensures)
+      let e = p .before .before .before in
+      let m = more e in
+      λ f i. along-more (looped m .loop .inv f i) (m .if1 .taken) (e .if2 .left) (p .before .before .if3 .left) (p .put-item .ensures)
 
   sequence-same-length-3 : sequence-lts.Need-same-length-3 (sequence-calls t) (sequence-start t) put-sequence.Post Inv-loop μ-loop
   sequence-same-length-3 c = along-length (so-far (c .before .before))

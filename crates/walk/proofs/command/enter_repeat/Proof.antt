@@ -99,7 +99,7 @@ returns-5 c =
     let w = c .before .before .before .before .before in
     let n = counted w in
     let S = begun n in
-    rw (c .refused5 .ensures) (λ table. repeat-deep (S .args .a) table (S .args .s .now) (S .args .d) (S .args .at) (S .args .t) (S .pre .0) (S .pre .1 .0) (folds (n .before .before)) (long (n .before)) (twice (w .before .before .before)) (narrow w) (c .before .if5 .taken) _ _, λ z. absurd (omega arith))
+    rw (c .refused5 .ensures) (λ table. repeat-deep (S .args .a) table (S .args .s .now) (S .args .d) (S .args .at) (S .args .t) (S .pre .0) (S .pre .1 .0) (folds (n .before .before)) (long (n .before)) (twice (w .before .before .before)) (narrow w) (omega (arith, c .before .if5 .taken)) _ _, λ z. absurd (omega arith))
 
 -- From where the depth is within the limit.
 abbrev shallow : tie.Else5 → tie.Else4
@@ -129,7 +129,7 @@ returns-6 c =
     let f = folds (n .before .before) in
     let l = long (n .before) in
     let m = twice (w .before .before .before) in (
-      λ table. repeat-on (S .args .a) table (S .args .s .now) (S .args .d) (S .args .at) (S .args .t) (S .pre .0) (S .pre .1 .0) f l m (narrow w) (e .if5 .left) _ (ap (λ (k : ℕ). S .args .a .first + S .args .a .each * (k - 2)) (n .operand .ensures .0)) (omega (arith, dear n, S .pre .1 .1 .first)),
+      λ table. repeat-on (S .args .a) table (S .args .s .now) (S .args .d) (S .args .at) (S .args .t) (S .pre .0) (S .pre .1 .0) f l m (narrow w) (omega (arith, e .if5 .left)) _ (ap (λ (k : ℕ). S .args .a .first + S .args .a .each * (k - 2)) (n .operand .ensures .0)) (omega (arith, dear n, S .pre .1 .1 .first)),
       λ z. (f, m, l),
     )
 

@@ -18,7 +18,7 @@ abbrev uncrossed : tie.Else3 → tie.Else2
 uncrossed c = c .before .before
 
 abbrev some : tie.Else4 → tie.Else3
-some c = c .before .before .before
+some c = c .before .before
 
 closes-repeat : (c : tie.Else2) → (let a = start (going c) .args in getD (a .s .now) (a .at) 0 ≡ 0x21)
 closes-repeat c = start (going c) .pre .0 .close (going c .if1 .left) (c .if2 .left)
@@ -57,7 +57,7 @@ refused-requires-4 c κs = search needs
 
 returns-4 : tie.Need-returns-4
 returns-4 c =
-    let e = c .before .before .before .before in
+    let e = c .before .before .before in
     let u = uncrossed e in
     let S = start (going u) in
     λ table d. rw (c .refused4 .ensures) (repeat-untrue (S .args .a) table (S .args .s .now) d (S .args .at) (S .args .t) (S .args .i) (S .pre .0) (S .pre .1 .1 .1 .1 .0 .1) (going u .if1 .left) (S .pre .1 .1 .1 .0 .0) (S .args .o .count) (S .args .o .width) (closes-repeat u) (e .if3 .left) (c .before .if4 .taken) _)
@@ -78,8 +78,8 @@ returns-5 c =
     let S = start (going u) in
     λ table d. rw (c .refused5 .ensures) (repeat-full (S .args .a) table (S .args .s .now) d (S .args .at) (S .args .t) (S .args .i) (S .pre .0) (S .pre .1 .1 .1 .1 .0 .1) (going u .if1 .left) (S .pre .1 .1 .1 .0 .0) (S .args .o .count) (S .args .o .width) (closes-repeat u) (e .if3 .left) (p .before .if4 .left) (rw (p .after-passes .ensures) at (c .before .if5 .taken)) _)
 
-add-t9 : tie.Need-add-t9
-add-t9 c = search needs
+add-t10 : tie.Need-add-t10
+add-t10 c = search needs
 
 returns-6 : tie.Need-returns-6
 returns-6 c =
@@ -107,5 +107,5 @@ leave-repeat-spec =
     after-passes-requires
     refused-requires-5
     returns-5
-    add-t9
+    add-t10
     returns-6)
