@@ -2,17 +2,18 @@
 use mathlib.Core.Path.{_≡_, refl, sym, _∙_}
 use mathlib.Core.Bool.{Bool, true, false, cond}
 use mathlib.Core.List.{List}
-use mathlib.Core.Logic.{_≢_}
+use mathlib.Core.Logic.{_≢_, _↔_, _⊎_, inl, inr, ⊎-elim}
 use Prim.Native.Nat.{ℕ, zero, suc, _≤_}
 use native.Mathlib.Omega.{arith}
 use lib.Dec.{eqb}
 use borrow.Author.Tests.{ltb-false}
 use Rattle.format.specs.Limits.{Limits}
 use Rattle.format.specs.Machine.{first-of, Outcome, refused, accepted, unless, place-of}
+use Rattle.format.specs.Reasons.{First, None}
 use Rattle.format.specs.Head.{Head, head-checks, headed}
 use Rattle.format.specs.declared.Tally.{Tally}
 use Rattle.format.proofs.Machine.{first-none}
-use Rattle.format.proofs.Refusals.{Each, found-each}
+use Rattle.format.proofs.Refusals.{Each, found-each, first-exactly, none-first}
 
 -- The place is 0 whatever the number.
 place-none : (n : ℕ) → place-of n 0 0 ≡ 0
@@ -62,3 +63,24 @@ module _ (L : Limits) (h : Head) (o : Outcome) where
       go (suc m) e =
           let same : suc m ≡ n = cc (out, headed-refused (suc m) (sym e) (omega arith)) in
           rw same at (found-each Q (head-checks L h) (suc m) (omega arith) e own)
+
+  -- A head's refusal is that of the first check that applies, at place 0; where none applies, what follows answers.
+  pub headed-exactly : (n e : ℕ) → n ≢ 0
+      → (headed L h o ≡ refused n e) ↔ ((First (head-checks L h) n × (e ≡ 0)) ⊎ (None (head-checks L h) × (o ≡ refused n e)))
+  unfolding head-checks
+  headed-exactly n e some = (found (first-of (head-checks L h)) refl, ⊎-elim own rest)
+    where
+      found : (m : ℕ) → first-of (head-checks L h) ≡ m → headed L h o ≡ refused n e
+          → (First (head-checks L h) n × (e ≡ 0)) ⊎ (None (head-checks L h) × (o ≡ refused n e))
+      found zero q out = inr (first-none (head-checks L h) (omega arith) q, sym (headed-passed (sym q)) ∙ out)
+      found (suc m) q out =
+          let z = sym (headed-refused (suc m) (sym q) (omega arith)) ∙ out in
+          let number : suc m ≡ n = cc z in
+          let place : 0 ≡ e = cc z in
+          inl (first-exactly (head-checks L h) n some .0 (q ∙ number), sym place)
+
+      own : First (head-checks L h) n × (e ≡ 0) → headed L h o ≡ refused n e
+      own f = headed-refused n (sym (first-exactly (head-checks L h) n some .1 (f .0))) some ∙ rw (f .1)
+
+      rest : None (head-checks L h) × (o ≡ refused n e) → headed L h o ≡ refused n e
+      rest f = headed-passed (sym (none-first (head-checks L h) (f .0))) ∙ f .1

@@ -32,6 +32,11 @@ found-first rs n f = rw (f .split) (go (f .above) (f .none-above))
 pub first-exactly : (rs : List Check) (n : ℕ) → n ≢ 0 → (first-of rs ≡ n) ↔ First rs n
 first-exactly rs n some = (first-found rs n some, found-first rs n)
 
+-- Where none applies, 0 is answered.
+pub none-first : (rs : List Check) → None rs → first-of rs ≡ 0
+none-first [] z = refl
+none-first (m when b ∷ rs) z = rw (z .0) (none-first rs (z .1))
+
 -- A command is refused by the first check of the table that applies to it.
 pub refusal-exactly : (R : Rules) (st : State) (c : ℕ) (rest : List ℕ) (n : ℕ) → n ≢ 0
     → (refusal R st c rest ≡ n) ↔ First (checks R st c rest) n

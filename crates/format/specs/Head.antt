@@ -17,7 +17,7 @@ unfoldable pub headed : Limits → Head → Outcome → Outcome
 unfolding head-checks
 headed L h next = unless (first-of (head-checks L h)) 0 0 next
 
--- The head of an entry point that takes a limit and no table: it hands as many labels as no check refuses.
+-- The head of an entry point that takes a limit and no table: for the table it hands a number of entries that no check refuses.
 abbrev pub limit-head : (limit : ℕ) → Head
 limit-head k = record { labels = limits .labels; limit = k }
 

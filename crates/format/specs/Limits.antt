@@ -1,5 +1,5 @@
--- The limits of the format and the lent prices.
-use Prim.Native.Nat.{ℕ, _+_, _-_, _*_}
+-- The limits of the format, the lent prices, and the size of the lent work.
+use Prim.Native.Nat.{ℕ, _+_, _-_, _*_, _/_}
 use mathlib.Core.List.{List}
 use lib.ListN.{getD}
 pub use Rattle.format.specs.declared.Limits.{Limits}
@@ -21,3 +21,7 @@ of-repeat P h = P .first + P .each * (h - 2)
 -- One lent table prices the labels of steps and groups alike.
 abbrev pub priced : List ℕ → ℕ → ℕ → Prices
 priced table first each = record { of-step = λ l. getD table l 0; of-group = λ l. getD table l 0; first = first; each = each }
+
+-- The entries that each of the two work slices must have for a run of n nodes: one for each stretch of numbers from 1 to n.
+abbrev pub cells : ℕ → ℕ
+cells n = n * (n + 1) / 2

@@ -33,7 +33,7 @@ pub record WellFormed (R : Rules) (s : List ℕ) : Type 0 where
   pub text : List ℕ
   pub reading : read R s ≡ accepted tally text
 
--- The run reader.
+-- What is answered about a run.
 abbrev pub as-run-reading : Outcome → RunReading
 as-run-reading (refused n p) = record { refusal = n; place = p; nodes = 0 }
 as-run-reading (accepted t x) = record { refusal = 0; place = 0; nodes = t .nodes }

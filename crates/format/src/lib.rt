@@ -1,7 +1,8 @@
-// The format: its limits and its commands, each named once. Readers, unroller and folder use these names and the
+// The format: its limits and its commands, each named once. All crates use these names and the
 // contracts cite them.
 
 ghost use mathlib.Core.Path.{_≡_};
+ghost use Prim.Native.Nat.{_<_};
 ghost use Rattle.format.specs.Limits.{limits};
 ghost use Rattle.format.specs.Machine.{first-of};
 ghost use Rattle.format.specs.Head.{head-checks};
@@ -17,7 +18,7 @@ pub struct Limits {
 }
 
 // What is checked before the first command, of what an entry point takes: the entries of the lent label table and the width
-// limit. Of what it does not take an entry point hands what no check refuses.
+// limit. For a subject that it does not take, an entry point hands a value that no check refuses.
 pub struct Head {
     pub labels: usize,
     pub limit: usize,
@@ -61,6 +62,19 @@ impl Format {
             labels: Format::LABELS,
         }
     }
+}
+
+// A byte as a number to count with.
+pub fn wide(x: u8) -> usize
+    ensures { λ r. ⌜ (r ≡ x) × (r < 256) ⌝ }
+{
+    x as usize
+}
+
+pub fn wide_cost(x: u16) -> u64
+    ensures { λ r. ⌜ (r ≡ x) × (r < 65536) ⌝ }
+{
+    x as u64
 }
 
 // The refusal of a head: 11 for the table, then 12 for the limit; 0 where neither applies.

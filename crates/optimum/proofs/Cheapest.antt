@@ -5,8 +5,7 @@ use native.Mathlib.Omega.{arith}
 use Rattle.format.specs.Limits.{Prices}
 use Rattle.format.specs.Forest.{Forest, end, step, group, repeat, siblings, nodes, cost, Plain, Allowed, Sound}
 use Rattle.optimum.specs.Optimal.{FoldOf, Optimal}
-use Rattle.optimum.specs.Cheapest.{Run, front, back, node, build, price, Bases, usual, own, Spans, Least}
-use Rattle.optimum.specs.Cheapest.{choose, cheapest-by, cheapest, best-cost}
+use Rattle.optimum.specs.Cheapest.{Run, front, back, node, build, price, Bases, usual, own, Spans, Least, choose, cheapest-by, cheapest, best-cost}
 use Rattle.optimum.proofs.Cut.{run-body}
 use Rattle.optimum.proofs.Powers.{spans-own, spans-usual}
 use Rattle.optimum.proofs.Pieces.{no-dearer, unique}

@@ -6,8 +6,7 @@ use native.Mathlib.Decide.{ℕ-discrete, decLt}
 use native.Mathlib.Omega.{arith}
 use Rattle.format.specs.Limits.{Prices}
 use Rattle.format.specs.Forest.{Forest, siblings, cost, Allowed}
-use Rattle.optimum.specs.Cheapest.{Power, Candidate, plain, power, build, price, Bases, rank, own, Least}
-use Rattle.optimum.specs.Cheapest.{Choice, offer, score, keep, lesser, power-dec, weigh, sweep, choose-count, choose}
+use Rattle.optimum.specs.Cheapest.{Power, Candidate, plain, power, build, price, Bases, rank, own, Least, Choice, offer, score, keep, lesser, power-dec, weigh, sweep, choose-count, choose}
 use Rattle.optimum.proofs.Powers.{reach}
 use Rattle.optimum.proofs.Least.{cost-build}
 

@@ -160,6 +160,10 @@ module _ (s : List ℕ) (small : Bytes s) (t : Tally) (x : List ℕ) (run : read
   unfolding tally-of
   run-nodes = ap (λ (y : Tally). y .nodes) (sym (spelled .counts)) ∙ ap nodes (sym tree-is)
 
+  -- A run has few nodes.
+  pub run-few : t .nodes ≤ limits .nodes
+  run-few = omega (arith, run-nodes, run-shape .total)
+
   -- The byte form of the cheapest fold is bytes.
   pub cheapest-small : (k : ℕ) → k ≤ limits .width → (P : Prices) → Bytes (bytes (cheapest (at-most k) P (tree-of s)))
   cheapest-small k narrow P =

@@ -8,8 +8,7 @@ use Rattle.format.specs.Order.{Before, here, there}
 use Rattle.format.proofs.Forests.{join-assoc, siblings-unroll, unroll-plain, plain-unroll, plain-copies, siblings-copies, sound-unroll}
 use Rattle.optimum.specs.Optimal.{FoldOf}
 use Rattle.optimum.specs.Cheapest.{Run, front, back, Power, Candidate, plain, power, build}
-use Rattle.optimum.proofs.Cut.{join-cut, front-join, back-join, siblings-back, siblings-front, nodes-cut, siblings-le-nodes}
-use Rattle.optimum.proofs.Cut.{run-front, run-back}
+use Rattle.optimum.proofs.Cut.{join-cut, front-join, back-join, siblings-back, siblings-front, nodes-cut, siblings-le-nodes, run-front, run-back}
 use Rattle.optimum.proofs.Powers.{reach}
 use Rattle.optimum.proofs.Rank.{Sooner, fewer, narrower}
 use Rattle.format.proofs.Order.{two-bytes-before}

@@ -12,8 +12,7 @@ use Rattle.optimum.proofs.Cut.{front-front, back-front, run-front, run-
 use Rattle.optimum.proofs.Powers.{reach}
 use Rattle.optimum.proofs.Rank.{Ranked, lower, sooner, equal, ranked, rank-le, rank-inj}
 use Rattle.optimum.proofs.Pieces.{no-dearer, step-no-worse, group-no-worse, repeat-no-worse}
-use Rattle.optimum.proofs.Items.{count-of, width-of, sooner-before, power-body-less, power-rest-less, Parts, whole, parts}
-use Rattle.optimum.proofs.Items.{candidate-of, count-build, width-build}
+use Rattle.optimum.proofs.Items.{count-of, width-of, sooner-before, power-body-less, power-rest-less, Parts, whole, parts, candidate-of, count-build, width-build}
 
 -- The price of a pair is the cost of the fold that it builds.
 pub cost-build : (P : Prices) (go : Forest → Forest) (t : Forest) (h w : ℕ)

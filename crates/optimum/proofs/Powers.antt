@@ -7,8 +7,7 @@ use native.Mathlib.Omega.{arith}
 use Rattle.format.specs.Forest.{Forest, join, copies, siblings, Plain, Allowed}
 use Rattle.format.proofs.Forests.{join-end, siblings-copies, plain-copies, copies-add}
 use Rattle.optimum.specs.Cheapest.{Run, front, back, node, Power, Candidate, plain, power, Bases, usual, own, Spans}
-use Rattle.optimum.proofs.Cut.{front-front, back-front, back-back, back-swap, front-add, front-join, back-join}
-use Rattle.optimum.proofs.Cut.{siblings-cut, siblings-front, siblings-front-le, run-front}
+use Rattle.optimum.proofs.Cut.{front-front, back-front, back-back, back-swap, front-add, front-join, back-join, siblings-cut, siblings-front, siblings-front-le, run-front}
 
 -- A sibling of a part.
 pub node-front : (j n : ℕ) (t : Forest) → j < n → node j (front n t) ≡ node j t

@@ -3,6 +3,8 @@
 use format::Format;
 use format::Limits;
 use format::Tally;
+use format::wide;
+use format::wide_cost;
 ghost use mathlib.Core.Path.{_≡_};
 ghost use mathlib.Core.Bool.{true};
 ghost use mathlib.Core.List.{List};
@@ -11,7 +13,7 @@ ghost use lib.ListN.{length, getD};
 ghost use Rattle.format.specs.Machine.{a-group, a-repeat, after-repeat};
 ghost use Rattle.walk.specs.Walk.{At, Room, RoomSomewhere, Halted, Sane, ItemRead, OpenRead, CloseRead, in-group-of, in-repeat-of, rules-of, word-at, repeat-at};
 
-// What the reader was asked: the limits, whether repeats may stand in the input, the width limit, and the repeat prices.
+// What a reader was asked: the limits, whether repeats may stand in the input, the width limit, and the repeat prices.
 pub struct Terms {
     pub limits: Limits,
     pub folds: bool,
@@ -37,19 +39,6 @@ pub struct Walk {
     pub refusal: u8,
     pub at: usize,
     pub tally: Tally,
-}
-
-// A byte as a number to count with.
-pub fn wide(x: u8) -> usize
-    ensures { λ r. ⌜ (r ≡ x) × (r < 256) ⌝ }
-{
-    x as usize
-}
-
-pub fn wide_cost(x: u16) -> u64
-    ensures { λ r. ⌜ (r ≡ x) × (r < 65536) ⌝ }
-{
-    x as u64
 }
 
 // The price of a label; 0 where the table does not have it.

@@ -9,8 +9,6 @@ pub use command::Walk;
 pub use command::operand;
 pub use command::price;
 use command::refused;
-pub use command::wide;
-pub use command::wide_cost;
 use format::Format;
 use format::Tally;
 use walk::sequence;
