@@ -8,12 +8,14 @@ use Rattle.format.specs.Forest.{siblings, nodes, at-most}
 use Rattle.format.specs.Tree.{tree-of}
 use Rattle.optimum.specs.Cheapest.{Run, back}
 use Rattle.optimum.proofs.Cut.{siblings-le-nodes, siblings-back}
-use Rattle.table.specs.Table.{Entered, Below, Filled, Kept, KeptOthers, cells, Falling, Stored}
+use Rattle.format.specs.Limits.{cells}
+use Rattle.solver.specs.Rows.{Entered, Matches, Growing, RowHeld, Shifted, RowReady, RowEntered, KeysReady}
+use Rattle.filling.specs.Filling.{Below, Filled, prices-of, Single, LevelReady, Scratch}
+use Rattle.table.specs.Table.{Kept, KeptOthers, Falling, Stored}
 use Rattle.table.specs.Listing.{Spelled, Placed, Numbered, Classed}
-use Rattle.filling.specs.Filling.{prices-of, Single, LevelReady, Scratch}
 use Rattle.solver.specs.declared.row.Row.{Row}
-use Rattle.solver.specs.Rows.{Matches, Growing, RowHeld, Shifted, RowReady, RowEntered, KeysReady}
-use Rattle.table.proofs.Tables.{number-last, falling-numbered, stored-entered, stored-kept, entered-none, kept-others-none, kept-others-then, kept-of-others, below-others}
+use Rattle.filling.proofs.Entries.{stored-entered, stored-kept, entered-none, kept-others-none, kept-others-then, kept-of-others, below-others}
+use Rattle.table.proofs.Tables.{number-last, falling-numbered}
 
 -- No more siblings than nodes.
 pub siblings-few : {s : List ℕ} {b limit : ℕ} {table prices costs choices : List ℕ} → LevelReady s b limit table prices costs choices
@@ -113,10 +115,7 @@ module _ {s : List ℕ} {b limit : ℕ} {table prices costs₀ choices₀ : List
             total = omega (arith, ready .total);
             some = omega arith;
             limited = refl;
-            priced = record {
-              ready = record { long = ready .prepared .long; low = ready .prepared .small };
-              price-of = ready .prepared .price-of;
-            };
+            priced = ready .prepared .priced;
             step-low = ready .prepared .low;
             group-low = ready .prepared .low;
             numbers-are = numbered;

@@ -1,4 +1,5 @@
 -- What the proofs of the functions share.
+pub mod Entries
 pub mod Singles
 pub mod Levels
 pub mod Recursion

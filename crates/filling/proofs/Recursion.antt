@@ -13,11 +13,12 @@ use Rattle.format.specs.Tree.{tree-of}
 use Rattle.format.proofs.Tree.{tree-of-bytes}
 use Rattle.optimum.specs.Cheapest.{front, back}
 use Rattle.optimum.proofs.Cut.{run-back, run-body}
-use Rattle.table.specs.Table.{Below, Filled, Kept, number}
+use Rattle.filling.specs.Filling.{Below, Filled, LevelReady}
+use Rattle.table.specs.Table.{Kept, number}
 use Rattle.table.specs.Listing.{Spelled, node-count}
-use Rattle.filling.specs.Filling.{LevelReady}
 use Rattle.table.proofs.Cells.{cells-mono}
-use Rattle.table.proofs.Tables.{number-within, number-after-group, kept-none, kept-then, below-none, below-step, below-whole, kept-in-group, below-group}
+use Rattle.filling.proofs.Entries.{kept-none, kept-then, below-none, below-step, below-whole, kept-in-group, below-group}
+use Rattle.table.proofs.Tables.{number-within, number-after-group}
 use Rattle.table.proofs.Listings.{Sibling, is-step, is-group, place-rest, sibling-first, Walked, walked-none, walked-on, walked-all, walked-within, walked-part, walked-long, walked-left, walked-more}
 
 -- After i siblings of the sequence that s spells: what lies below those passed is entered, and only entries of the sequence's

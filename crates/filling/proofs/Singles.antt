@@ -5,7 +5,7 @@ use Prim.Native.Nat.{ℕ, _+_, _-_, _<_}
 use native.Mathlib.Nat.{zero-add}
 use native.Mathlib.Omega.{arith}
 use lib.ListN.{getD}
-use Rattle.format.specs.Forest.{siblings}
+use Rattle.format.specs.Forest.{at-most, siblings}
 use Rattle.format.specs.Tree.{tree-of}
 use Rattle.optimum.specs.Cheapest.{front, back}
 use Rattle.optimum.proofs.Cut.{front-whole, siblings-le-nodes, run-back, run-body}
@@ -14,7 +14,8 @@ use Rattle.table.specs.Listing.{Spelled, Numbered}
 use Rattle.table.specs.Table.{cell, number, Falling}
 use Rattle.filling.specs.Filling.{Single}
 use Rattle.table.proofs.Cells.{cell-in}
-use Rattle.table.proofs.Tables.{number-first, number-last, falling-from, number-after-group, below-at}
+use Rattle.filling.proofs.Entries.{below-at}
+use Rattle.table.proofs.Tables.{number-first, number-last, falling-from, number-after-group}
 use Rattle.table.proofs.Listings.{Sibling, is-step, is-group}
 
 -- The cost of sibling i by itself, by its first byte c and its label l.
@@ -37,7 +38,7 @@ module _ (s : List ℕ) (i c l : ℕ) (x : Sibling (tree-of s) i c l) where
         by-form : Sibling (tree-of s) i c l → getD numbers (i + 1) 0 < getD numbers i 0 - 1
         by-form (is-step f p d) = absurd (other d)
         by-form (is-group g f p d) =
-            let r = rw p at (run-back i (z .run (record { widest = 0 }))) in
+            let r = rw p at (run-back i (z .run (at-most 0))) in
             omega (
               arith,
               numbered .numbered i (omega arith),

@@ -3,13 +3,13 @@ use mathlib.Core.Path.{_≡_}
 use mathlib.Core.List.{List}
 use Prim.Native.Nat.{ℕ, _+_, _-_, _<_, _≤_}
 use lib.ListN.{length, getD}
-use Rattle.format.specs.Limits.{Prices, of-repeat}
-use Rattle.format.specs.Forest.{Allowed, at-most, siblings, nodes}
+use Rattle.format.specs.Limits.{Prices, cells}
+use Rattle.format.specs.Forest.{Forest, end, step, group, repeat, Allowed, at-most, siblings, nodes}
 use Rattle.format.specs.Tree.{tree-of}
 use Rattle.optimum.specs.Cheapest.{node, best-cost}
-use Rattle.table.specs.Table.{Below, Filled, Kept, cells}
+use Rattle.table.specs.Table.{Kept}
 use Rattle.table.specs.Listing.{Spelled}
-use Rattle.solver.specs.Rows.{KeysReady, top-price}
+use Rattle.solver.specs.Rows.{Entered, Priced, KeysReady}
 use Rattle.filling.specs.declared.level.Level.{Level}
 
 -- The prices that a table of labels and a list of repeat prices give.
@@ -22,12 +22,22 @@ prices-of table prices =
       each = getD prices 3 0 - getD prices 2 0;
     }
 
--- The list has the price of each count, from labels of 16 bits and repeat prices of 16 bits.
+-- The list has the price of each count, and labels cost 16 bits at most.
 pub record Prepared (table prices : List ℕ) : Type 0 where
-  pub long : length prices ≡ 1025
-  pub price-of : (h : ℕ) → 2 ≤ h → h ≤ 1024 → getD prices h 0 ≡ of-repeat (prices-of table prices) h
-  pub small : (h : ℕ) → getD prices h 0 ≤ top-price
+  pub priced : Priced (prices-of table prices) prices
   pub low : (l : ℕ) → getD table l 0 < 65536
+
+-- The sequences inside a sequence's groups are entered, and theirs. What follows a group follows its children.
+abbrev pub Below : Allowed → Prices → ℕ → Forest → (costs choices : List ℕ) → Type 0
+Below A P b end cs ks = Unit
+Below A P b (step l f) cs ks = Below A P b f cs ks
+Below A P b (group l g f) cs ks = Entered A P (b + nodes f) g 0 cs ks × Below A P (b + nodes f) g cs ks × Below A P b f cs ks
+Below A P b (repeat h w g f) cs ks = Unit
+
+-- A whole tree is entered: its top sequence and all that lies below.
+pub record Filled (A : Allowed) (P : Prices) (b : ℕ) (t : Forest) (costs choices : List ℕ) : Type 0 where
+  pub top : Entered A P b t 0 costs choices
+  pub below : Below A P b t costs choices
 
 -- All that filling the stretches of one sequence rests on.
 pub record LevelReady (s : List ℕ) (b limit : ℕ) (table prices costs choices : List ℕ) : Type 0 where

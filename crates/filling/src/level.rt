@@ -10,8 +10,7 @@ use table::count_nodes;
 use table::list_siblings;
 ghost use Rattle.format.specs.Forest.{at-most};
 ghost use Rattle.format.specs.Tree.{tree-of};
-ghost use Rattle.table.specs.Table.{Below};
-ghost use Rattle.filling.specs.Filling.{prices-of, LevelReady, LevelFilled, LevelKept, Scratch};
+ghost use Rattle.filling.specs.Filling.{Below, prices-of, LevelReady, LevelFilled, LevelKept, Scratch};
 
 // Where a sequence stands: how many nodes of the run are behind it, and how wide a repeat may be.
 pub struct Level {

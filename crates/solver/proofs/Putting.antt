@@ -8,8 +8,8 @@ use native.Mathlib.Omega.{arith}
 use lib.ListN.{length, getD, set, length-set}
 use lib.Seq.{getD-set-same, getD-set-other}
 use Rattle.solver.specs.declared.row.Row.{Row}
-use Rattle.solver.specs.Rows.{Copied, Plainly, Pushing, Started, KeysReady, top-key, cost-base}
-use Rattle.table.specs.Keys.{key}
+use Rattle.table.specs.Keys.{top-key, cost-base, key}
+use Rattle.solver.specs.Rows.{Copied, Plainly, Pushing, Started, KeysReady}
 use Rattle.table.specs.Table.{key-at, rest-key}
 use Rattle.table.proofs.Listings.{entry-more, entry-all}
 

@@ -14,14 +14,12 @@ use Rattle.optimum.proofs.Cut.{back-back, run-back, siblings-back, siblings-le-
 use Rattle.optimum.proofs.Powers.{front-less, reach}
 use Rattle.optimum.proofs.Rank.{rank-usual}
 use Rattle.optimum.proofs.Least.{least-unique}
-use Rattle.table.specs.Keys.{cost-digit, choice-digits, cover}
+use Rattle.table.specs.Keys.{cost-digit, choice-digits, covered, cost-base}
 use Rattle.table.specs.Table.{Entry, Stored, stretch, entry-at, rest-key}
 use Rattle.solver.specs.declared.row.Row.{Row}
-use Rattle.solver.specs.Rows.{RowReady, RowFits, Shifted, Rowed, RowEntered, KeysReady, Advanced, Started, Settled}
-use Rattle.solver.specs.Rows.{Pushed, push, pass, Widened, offer, too-wide, unlike, Matched, BestKey, Keyed, Came, pair-key, offer-key, cost-base}
+use Rattle.solver.specs.Rows.{RowReady, RowFits, Shifted, Rowed, RowEntered, KeysReady, Advanced, Started, Settled, Pushed, push, pass, Widened, offer, too-wide, unlike, Matched, BestKey, Keyed, Came, pair-key, offer-key}
 use Rattle.solver.proofs.Offers.{copy-more, near-power, power-near}
-use Rattle.solver.proofs.Stretches.{Modest, fitting, cost-low, entry-best, best-entry, best-covers, best-low, best-is, best-keyed, best-one}
-use Rattle.solver.proofs.Stretches.{whole-price, whole-candidate, whole-power, first-candidate, first-price, first-key, keyed-best, keyed-plain}
+use Rattle.solver.proofs.Stretches.{Modest, fitting, cost-low, entry-best, best-entry, best-covers, best-low, best-is, best-keyed, best-one, whole-price, whole-candidate, whole-power, first-candidate, first-price, first-key, keyed-best, keyed-plain}
 
 -- A pair that may stand first, by its key.
 record Pair (A : Allowed) (P : Prices) (x : Forest) (k : ℕ) : Type 0 where
@@ -142,7 +140,7 @@ module _ {costs choices numbers : List ℕ} {row : Row} {prices same : List ℕ}
     best : BestKey A P (stretch t i d) k
     best = keyed-best modest i e d k (omega arith) (omega arith) (omega (arith, z .all)) (r .keyed d (omega arith) more)
 
-    covers : cover k ≡ best .count * best .width
+    covers : covered k ≡ best .count * best .width
     covers = best-covers modest i d k best
 
     its-cost : cost-digit k ≡ best-cost A P (stretch t i d)

@@ -12,9 +12,9 @@ use Rattle.optimum.proofs.Least.{price-piece, least-one, least-unique}
 use Rattle.optimum.proofs.Level.{plain-at, power-at, bound-at}
 use Rattle.optimum.proofs.Cover.{least-by-cover}
 use Rattle.optimum.proofs.Cheapest.{best-cost-run, best-cost-end, best-cost-least}
-use Rattle.table.specs.Keys.{packed, key, cost-digit, choice-digits, count-digit, width-digit, cover}
+use Rattle.table.specs.Keys.{packed, key, cost-digit, choice-digits, count-digit, width-digit, covered, cost-base}
 use Rattle.table.specs.Table.{Entry, stretch}
-use Rattle.solver.specs.Rows.{BestKey, Keyed, pair-key, cost-base}
+use Rattle.solver.specs.Rows.{BestKey, Keyed, pair-key}
 
 -- A run costs at most 65,535 for each node, where labels have prices of 16 bits.
 cost-most : (P : Prices) → ((l : ℕ) → P .of-step l < 65536) → ((l : ℕ) → P .of-group l < 65536) → (t : Forest) → Plain t
@@ -81,7 +81,7 @@ module _ {A : Allowed} {P : Prices} {t : Forest} (g : Modest A P t) (i : ℕ) wh
         let d = digits in
         record { costs = omega arith; count = b .count; width = b .width; chosen = omega arith; least = b .least }
 
-    pub best-covers : cover k ≡ b .count * b .width
+    pub best-covers : covered k ≡ b .count * b .width
     best-covers =
         let d = digits in
         let h : count-digit k ≡ b .count = omega arith in

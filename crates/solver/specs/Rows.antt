@@ -7,21 +7,10 @@ use lib.ListN.{length, getD}
 use Rattle.format.specs.Limits.{Prices, of-repeat}
 use Rattle.format.specs.Forest.{Forest, Allowed, siblings, nodes}
 use Rattle.optimum.specs.Cheapest.{Run, front, back, node, rank, usual, price, Candidate, Power, Least, best-cost}
-use Rattle.table.specs.Keys.{packed, key, cost-digit, cover}
-use Rattle.table.specs.Table.{Entry, Entered, Falling, Stored, entry-at, key-at, rest-key, stretch}
+use Rattle.table.specs.Keys.{packed, key, cost-digit, covered, cost-base, top-price, top-key}
+use Rattle.table.specs.Table.{Entry, cell, number, Falling, Stored, entry-at, key-at, rest-key, stretch}
 use Rattle.table.specs.Listing.{Numbered, Classed}
 use Rattle.solver.specs.declared.row.Row.{Row}
-
--- The bounds of the numbers of a row. Costs have 32 bits; no price of a count is higher than 65,535 times 16 bits; and a key is at most
--- that of two costs together.
-abbrev pub cost-base : ℕ
-cost-base = 4294967296
-
-abbrev pub top-price : ℕ
-top-price = 65535 * 65535
-
-abbrev pub top-key : ℕ
-top-key = key (2 * cost-base) 0
 
 -- A row's numbers fit the lists: it has a stretch, and those whose keys it takes over end within the sequence.
 pub record RowFits (row : Row) : Type 0 where
@@ -53,6 +42,11 @@ pub record Matched (T : Forest) (w k : ℕ) : Type 0 where
   pub shift : front k T ≡ front k (back w T)
   pub bound : k + w ≤ siblings T
   pub stop : k + w < siblings T → node k T ≡ node (k + w) T → ⊥
+
+-- All stretches of one sequence from sibling i on are entered.
+pub record Entered (A : Allowed) (P : Prices) (b : ℕ) (t : Forest) (i : ℕ) (costs choices : List ℕ) : Type 0 where
+  pub entry : (j d : ℕ) → i ≤ j → 0 < d → j + d ≤ siblings t
+      → Entry A P (stretch t j d) (getD costs (cell (number b t (j + d)) (number b t j)) 0) (getD choices (cell (number b t (j + d)) (number b t j)) 0)
 
 -- The matches at every width.
 pub record Matches (T : Forest) (same : List ℕ) : Type 0 where
@@ -143,9 +137,9 @@ pub record Plainly (costs choices numbers : List ℕ) (row : Row) (from : ℕ) (
 -- What a solved stretch of d siblings does to the keys of longer ones. It is followed by what is left where its key is that of a
 -- repeat that covers it,
 pub data Pushed (costs choices numbers : List ℕ) (row : Row) (d k : ℕ) (before after : List ℕ) : Type 0 where
-  push : (from : ℕ) → d < from → row .span < from → ((c : ℕ) → d < c → row .span < c → from ≤ c) → cover k ≡ d
+  push : (from : ℕ) → d < from → row .span < from → ((c : ℕ) → d < c → row .span < c → from ≤ c) → covered k ≡ d
       → Pushing costs choices numbers row d k from before after → Pushed costs choices numbers row d k before after
-  pass : (cover k ≡ d → ⊥) → after ≡ before → Pushed costs choices numbers row d k before after
+  pass : (covered k ≡ d → ⊥) → after ≡ before → Pushed costs choices numbers row d k before after
 
 -- and repeated where that is allowed and siblings match.
 pub data Widened (row : Row) (prices : List ℕ) (cost d match : ℕ) (before after : List ℕ) : Type 0 where

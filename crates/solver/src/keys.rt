@@ -7,8 +7,8 @@ use table::rest_key;
 ghost use mathlib.Core.Path.{_≡_};
 ghost use mathlib.Core.Logic.{_⊎_};
 ghost use Prim.Native.Nat.{_+_, _<_, _≤_};
-ghost use Rattle.table.specs.Keys.{cost-digit};
-ghost use Rattle.solver.specs.Rows.{top-key, RowFits, RowHeld, KeysReady, PricesReady, Copied, Plainly, Offering, Pushing};
+ghost use Rattle.table.specs.Keys.{cost-digit, top-key};
+ghost use Rattle.solver.specs.Rows.{RowFits, RowHeld, KeysReady, PricesReady, Copied, Plainly, Offering, Pushing};
 
 // Takes over the keys of the row that serves as far as siblings match.
 pub fn copy_row(costs: &[u32], choices: &[u32], numbers: &[usize], row: Row, keys: &mut [u64])

@@ -6,6 +6,7 @@ use crate::keys::push;
 use table::cost_digit;
 use table::covered;
 use table::key_of;
+use table::smaller;
 use table::store_row;
 ghost use mathlib.Core.Path.{_≡_};
 ghost use Prim.Native.Nat.{ℕ, _+_, _-_, _*_, _<_, _≤_};
@@ -143,15 +144,6 @@ fn settle(
             keys,
         );
     }
-}
-
-fn smaller(a: usize, b: usize) -> usize
-    ensures { λ r. ⌜ (r ≤ a) × (r ≤ b) × ((c : ℕ) → c ≤ a → c ≤ b → c ≤ r) ⌝ }
-{
-    if a < b {
-        return a;
-    }
-    b
 }
 
 // Solves a row, stretch by stretch. At no width do more than `span` siblings match, so no repeat covers more than twice as many, and

@@ -5,7 +5,8 @@ use native.Mathlib.Nat.{mul-add, suc-mul, mul-comm, mul-le-mul}
 use native.Mathlib.Numerals.{add-one}
 use native.Mathlib.Decide.{decLt}
 use native.Mathlib.Omega.{arith}
-use Rattle.table.specs.Table.{cell, cells}
+use Rattle.format.specs.Limits.{cells}
+use Rattle.table.specs.Table.{cell}
 
 -- The intervals that end at the last of n + 1 nodes are n + 1, and their entries follow all others.
 pub cells-next : (n : ℕ) → cells (n + 1) ≡ cells n + (n + 1)

@@ -7,7 +7,7 @@ use native.Mathlib.Decide.{decLt, ℕ-discrete}
 use native.Mathlib.Omega.{arith}
 use lib.ListN.{length, getD, set, take, drop, length-append, length-set}
 use lib.Seq.{take-at, drop-at, drop-length, getD-drop, getD-set-same, getD-set-other}
-use Rattle.format.specs.Forest.{Forest, end, step, group, repeat, Plain, siblings, nodes, bytes}
+use Rattle.format.specs.Forest.{at-most, Forest, end, step, group, repeat, Plain, siblings, nodes, bytes}
 use Rattle.format.specs.Machine.{is-node}
 use Rattle.format.specs.Parts.{node-part}
 use Rattle.format.specs.Tree.{tree-of}
@@ -135,8 +135,8 @@ pub data Sibling (t : Forest) (i c l : ℕ) : Type 0 where
   is-group : (g f : Forest) → back i t ≡ group l g f → c ≡ 0x11 → Sibling t i c l
 
 module _ (s : List ℕ) (z : Spelled s) where
-  run-any : Run (record { widest = 0 }) (tree-of s)
-  run-any = z .run (record { widest = 0 })
+  run-any : Run (at-most 0) (tree-of s)
+  run-any = z .run (at-most 0)
 
   pub spelled-count : node-count s 0 ≡ nodes (tree-of s)
   spelled-count = ap (λ (x : List ℕ). node-count x 0) (sym (z .form)) ∙ node-count-bytes (tree-of s) (run-any .plain)

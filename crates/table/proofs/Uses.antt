@@ -1,4 +1,4 @@
--- The stretches that a fold can use: from one of them on it comes to no others, and a table that has all stretches has these.
+-- The stretches that a fold can use: from one of them on it comes to no others.
 use mathlib.Core.Path.{_≡_, refl, sym, ap, _∙_}
 use mathlib.Core.List.{List}
 use Prim.Native.Nat.{ℕ, suc, _+_, _-_, _*_, _≤_}
@@ -7,11 +7,10 @@ use native.Mathlib.Omega.{arith}
 use Rattle.format.specs.Limits.{Prices}
 use Rattle.format.specs.Forest.{Forest, group, Allowed, siblings}
 use Rattle.optimum.specs.Cheapest.{Run, front, back, Power}
-use Rattle.optimum.proofs.Cut.{front-front, back-piece, siblings-piece, run-front, run-back, run-body}
+use Rattle.optimum.proofs.Cut.{front-front, back-piece, siblings-piece, run-front, run-back}
 use Rattle.optimum.proofs.Powers.{reach, front-less, shift-from-power}
-use Rattle.table.specs.Table.{Filled, number, stretch}
-use Rattle.table.specs.Used.{Used, to-end, again, Inside, itself, deeper, UsedFilled}
-use Rattle.table.proofs.Tables.{below-at}
+use Rattle.table.specs.Table.{number, stretch}
+use Rattle.table.specs.Used.{Used, to-end, again, itself, deeper, UsedFilled}
 
 -- What follows in a used stretch is used: it goes up to the same end, or stands again as far on.
 pub used-from : (t : Forest) (i j k : ℕ) → i ≤ k → k ≤ j → Used t i (j - i) → Used t k (j - k)
@@ -42,14 +41,3 @@ used-body {t = t} i d h w r l p =
 pub used-group : {A : Allowed} {P : Prices} {b : ℕ} {t : Forest} {costs choices : List ℕ} (i l : ℕ) (g f : Forest) → back i t ≡ group l g f
     → UsedFilled A P b t costs choices → UsedFilled A P (number b t (i + 1)) g costs choices
 used-group i l g f e u = record { entry = λ c h w. u .entry c h (deeper i l g f e w) }
-
--- A table that has all stretches.
-module _ (A : Allowed) (P : Prices) (costs choices : List ℕ) where
-  filled-inside : (b : ℕ) (t : Forest) (c : ℕ) (g : Forest) → Inside b t c g → Run A t → Filled A P b t costs choices → Filled A P c g costs choices
-  filled-inside b t c g itself r z = z
-  filled-inside b t c g (deeper i l h f e w) r z =
-      filled-inside (number b t (i + 1)) h c g w (run-body (rw e at (run-back i r))) (below-at A P costs choices b t i l h f r e (z .below))
-
-  pub used-filled : (b : ℕ) (t : Forest) → Run A t → Filled A P b t costs choices → UsedFilled A P b t costs choices
-  used-filled b t r z =
-      record { entry = λ c g w i d p q u. filled-inside b t c g w r z .top .entry i d (omega arith) p q }

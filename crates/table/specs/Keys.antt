@@ -29,5 +29,16 @@ abbrev pub width-digit : ℕ → ℕ
 width-digit k = k % usual .widths
 
 -- The siblings that the repeat in a key covers, 0 for the plain node.
-abbrev pub cover : ℕ → ℕ
-cover k = count-digit k * width-digit k
+abbrev pub covered : ℕ → ℕ
+covered k = count-digit k * width-digit k
+
+-- Bounds that no sum of these numbers passes: costs have 32 bits, the price of a count is at most 65,535 times 16 bits, and a key is at
+-- most that of two costs together.
+abbrev pub cost-base : ℕ
+cost-base = 4294967296
+
+abbrev pub top-price : ℕ
+top-price = 65535 * 65535
+
+abbrev pub top-key : ℕ
+top-key = key (2 * cost-base) 0

@@ -5,15 +5,12 @@ use mathlib.Core.Path.{_≡_}
 use mathlib.Core.List.{List}
 use Prim.Native.Nat.{ℕ, _+_, _-_, _*_, _/_, _<_, _≤_}
 use lib.ListN.{length, getD}
-use Rattle.format.specs.Limits.{Prices}
-use Rattle.format.specs.Forest.{Forest, end, step, group, repeat, Allowed, siblings, nodes, bytes}
+use Rattle.format.specs.Limits.{cells, Prices}
+use Rattle.format.specs.Forest.{Forest, end, Allowed, siblings, nodes, bytes}
 use Rattle.table.specs.Keys.{packed, key}
 use Rattle.optimum.specs.Cheapest.{front, back, usual, Least, best-cost}
 
--- The entries for n nodes, and the entry of the interval from p up to q.
-abbrev pub cells : ℕ → ℕ
-cells n = n * (n + 1) / 2
-
+-- The entry of the interval from p up to q.
 abbrev pub cell : (p q : ℕ) → ℕ
 cell p q = q * (q - 1) / 2 + p
 
@@ -32,23 +29,6 @@ pub record Entry (A : Allowed) (P : Prices) (t : Forest) (cost choice : ℕ) : T
   pub width : ℕ
   pub chosen : choice ≡ packed count width
   pub least : Least A P usual (best-cost A P) t count width
-
--- All stretches of one sequence from sibling i on are entered.
-pub record Entered (A : Allowed) (P : Prices) (b : ℕ) (t : Forest) (i : ℕ) (costs choices : List ℕ) : Type 0 where
-  pub entry : (j d : ℕ) → i ≤ j → 0 < d → j + d ≤ siblings t
-      → Entry A P (stretch t j d) (getD costs (cell (number b t (j + d)) (number b t j)) 0) (getD choices (cell (number b t (j + d)) (number b t j)) 0)
-
--- The sequences inside a sequence's groups are entered, and theirs. What follows a group follows its children.
-abbrev pub Below : Allowed → Prices → ℕ → Forest → (costs choices : List ℕ) → Type 0
-Below A P b end cs ks = Unit
-Below A P b (step l f) cs ks = Below A P b f cs ks
-Below A P b (group l g f) cs ks = Entered A P (b + nodes f) g 0 cs ks × Below A P (b + nodes f) g cs ks × Below A P b f cs ks
-Below A P b (repeat h w g f) cs ks = Unit
-
--- A whole tree is entered: its top sequence and all that lies below.
-pub record Filled (A : Allowed) (P : Prices) (b : ℕ) (t : Forest) (costs choices : List ℕ) : Type 0 where
-  pub top : Entered A P b t 0 costs choices
-  pub below : Below A P b t costs choices
 
 -- Only entries of intervals within [b, b + n) have changed.
 pub record Kept (b n : ℕ) (before after : List ℕ) : Type 0 where
@@ -73,18 +53,27 @@ pub record Stored (numbers : List ℕ) (i n : ℕ) (row : ℕ → ℕ) (before a
   pub entered : (d : ℕ) → 0 < d → d ≤ n → getD after (cell (getD numbers (i + d) 0) (getD numbers i 0)) 0 ≡ row d
   pub others : (x : ℕ) → ((d : ℕ) → 0 < d → d ≤ n → x ≡ cell (getD numbers (i + d) 0) (getD numbers i 0) → ⊥) → getD after x 0 ≡ getD before x 0
 
--- The cost or choice of the stretch from sibling i up to j, as the table has it.
+-- The cost or choice of the stretch from the sibling of number q up to sibling j, as the table has it; and from sibling i on.
+abbrev pub entry-from : (work numbers : List ℕ) (q j : ℕ) → ℕ
+entry-from work numbers q j = getD work (cell (getD numbers j 0) q) 0
+
 abbrev pub entry-at : (work numbers : List ℕ) (i j : ℕ) → ℕ
-entry-at work numbers i j = getD work (cell (getD numbers j 0) (getD numbers i 0)) 0
+entry-at work numbers i j = entry-from work numbers (getD numbers i 0) j
 
 -- The interval from the number of sibling j up to the number q has an entry in a table of that room.
 abbrev pub Held : (numbers : List ℕ) (q j room : ℕ) → Type 0
 Held numbers q j room = (j < length numbers) × (getD numbers j 0 < q) × (q ≤ 1024) × (cell (getD numbers j 0) q < room)
 
--- The key of the stretch from sibling i up to j, as the table has it, and what that stretch adds to the key of an item that it follows:
--- its cost alone.
+-- The key of that stretch, as the table has it.
+abbrev pub key-from : (costs choices numbers : List ℕ) (q j : ℕ) → ℕ
+key-from costs choices numbers q j = key (entry-from costs numbers q j) (entry-from choices numbers q j)
+
 abbrev pub key-at : (costs choices numbers : List ℕ) (i j : ℕ) → ℕ
-key-at costs choices numbers i j = key (entry-at costs numbers i j) (entry-at choices numbers i j)
+key-at costs choices numbers i j = key-from costs choices numbers (getD numbers i 0) j
+
+-- What that stretch adds to the key of an item that it follows: its cost alone.
+abbrev pub rest-from : (costs choices numbers : List ℕ) (q j : ℕ) → ℕ
+rest-from costs choices numbers q j = key (entry-from costs numbers q j) 0
 
 abbrev pub rest-key : (costs choices numbers : List ℕ) (i j : ℕ) → ℕ
-rest-key costs choices numbers i j = key (entry-at costs numbers i j) 0
+rest-key costs choices numbers i j = rest-from costs choices numbers (getD numbers i 0) j

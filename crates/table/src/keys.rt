@@ -1,12 +1,12 @@
 // Keys: cost, count and width as the digits of one number, the names and bases of the digits, and the keys that the table has.
-use crate::triangle::read;
+use crate::triangle::read_entry;
 ghost use mathlib.Core.Path.{_≡_};
-ghost use Prim.Native.Nat.{_<_, _≤_};
-ghost use lib.ListN.{length, getD};
-ghost use Rattle.table.specs.Keys.{packed, key, cost-digit, choice-digits, count-digit, width-digit, cover};
-ghost use Rattle.table.specs.Table.{Held, cell};
+ghost use Prim.Native.Nat.{_+_, _*_, _<_, _≤_};
+ghost use lib.ListN.{length};
+ghost use Rattle.table.specs.Keys.{packed, key, cost-digit, choice-digits, count-digit, width-digit, covered, cost-base, top-price};
+ghost use Rattle.table.specs.Table.{Held, key-from, rest-from};
 
-// The bases of the digits, from the last one on. A choice is the count and the width.
+// The bases of the digits, from the last one on. A choice is count and width together.
 pub struct Key {}
 
 impl Key {
@@ -20,14 +20,14 @@ impl Key {
 // The choice of a repeat, by count and width.
 pub fn choice_of(count: usize, width: usize) -> u64
     requires { ⌜ (count ≤ 1024) × (width ≤ 1024) ⌝ }
-    ensures { λ r. ⌜ (r ≡ packed count width) × (r ≤ 1049600) ⌝ }
+    ensures { λ r. ⌜ (r ≡ packed count width) × (r < cost-base) ⌝ }
 {
     (count as u64) * Key::WIDTHS + (width as u64)
 }
 
 // The key of a cost and a choice.
 pub fn key_of(cost: u64, choice: u64) -> u64
-    requires { ⌜ (cost ≤ 2203318091776) × (choice < 4294967296) ⌝ }
+    requires { ⌜ (cost ≤ 2 * cost-base + top-price) × (choice < cost-base) ⌝ }
     ensures { λ r. ⌜ r ≡ key cost choice ⌝ }
 {
     cost * Key::CHOICES + choice
@@ -40,7 +40,7 @@ pub fn cost_digit(key: u64) -> u64
 }
 
 pub fn choice_digits(key: u64) -> u64
-    ensures { λ r. ⌜ (r ≡ choice-digits key) × (r < 4294967296) ⌝ }
+    ensures { λ r. ⌜ (r ≡ choice-digits key) × (r < cost-base) ⌝ }
 {
     key % Key::CHOICES
 }
@@ -59,7 +59,7 @@ pub fn width_digit(key: u64) -> usize
 
 // The siblings that the repeat in a key covers, 0 for the plain node.
 pub fn covered(key: u64) -> usize
-    ensures { λ r. ⌜ r ≡ cover key ⌝ }
+    ensures { λ r. ⌜ r ≡ covered key ⌝ }
 {
     count_digit(key) * width_digit(key)
 }
@@ -68,16 +68,19 @@ pub fn covered(key: u64) -> usize
 pub fn key_at(costs: &[u32], choices: &[u32], numbers: &[usize], q: usize, j: usize) -> u64
     requires { ⌜ Held (now numbers) q j (length (now costs)) ⌝ }
     requires { ⌜ Held (now numbers) q j (length (now choices)) ⌝ }
-    ensures { λ r. ⌜ (r ≡ key (getD (now (costs .entry)) (cell (getD (now (numbers .entry)) j 0) q) 0) (getD (now (choices .entry)) (cell (getD (now (numbers .entry)) j 0) q) 0)) × (r < key 4294967296 4294967296) ⌝ }
+    ensures { λ r. ⌜ (r ≡ key-from (now (costs .entry)) (now (choices .entry)) (now (numbers .entry)) q j) × (r < key cost-base cost-base) ⌝ }
 {
-    key_of(read(costs, numbers, q, j), read(choices, numbers, q, j))
+    key_of(
+        read_entry(costs, numbers, q, j),
+        read_entry(choices, numbers, q, j),
+    )
 }
 
 // What that stretch adds to the key of an item that it follows: its cost. What a rest adds is said here alone, and by both slices.
 pub fn rest_key(costs: &[u32], choices: &[u32], numbers: &[usize], q: usize, j: usize) -> u64
     requires { ⌜ Held (now numbers) q j (length (now costs)) ⌝ }
     requires { ⌜ Held (now numbers) q j (length (now choices)) ⌝ }
-    ensures { λ r. ⌜ (r ≡ key (getD (now (costs .entry)) (cell (getD (now (numbers .entry)) j 0) q) 0) 0) × (r < 9007199254740992) ⌝ }
+    ensures { λ r. ⌜ (r ≡ rest-from (now (costs .entry)) (now (choices .entry)) (now (numbers .entry)) q j) × (r < key cost-base 0) ⌝ }
 {
-    key_of(read(costs, numbers, q, j), 0)
+    key_of(read_entry(costs, numbers, q, j), 0)
 }

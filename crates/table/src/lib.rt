@@ -21,13 +21,23 @@ pub use triangle::clear;
 pub use triangle::entries;
 pub use triangle::entry;
 pub use triangle::look;
-pub use triangle::read;
 pub use triangle::store_row;
 pub use triangle::widen;
+ghost use Prim.Native.Nat.{ℕ, _≤_};
 
 // The lists that a sequence is worked in: a place for each of its siblings and one behind the last.
 pub struct Lists {}
 
 impl Lists {
     pub const LENGTH: usize = Format::NODES + 1;
+}
+
+// The smaller of two numbers.
+pub fn smaller(a: usize, b: usize) -> usize
+    ensures { λ r. ⌜ (r ≤ a) × (r ≤ b) × ((c : ℕ) → c ≤ a → c ≤ b → c ≤ r) ⌝ }
+{
+    if a < b {
+        return a;
+    }
+    b
 }

@@ -5,11 +5,12 @@ ghost use mathlib.Core.Path.{_≡_};
 ghost use mathlib.Core.List.{_++_};
 ghost use Prim.Native.Nat.{ℕ, _+_, _/_, _<_, _≤_};
 ghost use lib.ListN.{length, getD, drop, replicate};
-ghost use Rattle.table.specs.Keys.{cost-digit, choice-digits};
-ghost use Rattle.table.specs.Table.{cell, cells, entry-at, Held, Falling, Stored};
+ghost use Rattle.table.specs.Keys.{key, cost-digit, choice-digits, cost-base};
+ghost use Rattle.format.specs.Limits.{cells};
+ghost use Rattle.table.specs.Table.{cell, entry-from, entry-at, Held, Falling, Stored};
 
 pub fn widen(x: u32) -> u64
-    ensures { λ r. ⌜ (r ≡ x) × (r < 4294967296) ⌝ }
+    ensures { λ r. ⌜ (r ≡ x) × (r < cost-base) ⌝ }
 {
     x as u64
 }
@@ -31,9 +32,9 @@ pub fn entry(p: usize, q: usize) -> usize
 }
 
 // The cost or choice of the stretch from the sibling of number q up to sibling j.
-pub fn read(w: &[u32], numbers: &[usize], q: usize, j: usize) -> u64
+pub fn read_entry(w: &[u32], numbers: &[usize], q: usize, j: usize) -> u64
     requires { ⌜ Held (now numbers) q j (length (now w)) ⌝ }
-    ensures { λ r. ⌜ (r ≡ getD (now (w .entry)) (cell (getD (now (numbers .entry)) j 0) q) 0) × (r < 4294967296) ⌝ }
+    ensures { λ r. ⌜ (r ≡ entry-from (now (w .entry)) (now (numbers .entry)) q j) × (r < cost-base) ⌝ }
 {
     widen(w[entry(numbers[j], q)])
 }
@@ -42,9 +43,9 @@ pub fn read(w: &[u32], numbers: &[usize], q: usize, j: usize) -> u64
 pub fn look(w: &[u32], numbers: &[usize], i: usize, j: usize) -> u64
     requires { ⌜ Falling (now numbers) j (length (now w)) ⌝ }
     requires { ⌜ i < j ⌝ }
-    ensures { λ r. ⌜ (r ≡ entry-at (now (w .entry)) (now (numbers .entry)) i j) × (r < 4294967296) ⌝ }
+    ensures { λ r. ⌜ (r ≡ entry-at (now (w .entry)) (now (numbers .entry)) i j) × (r < cost-base) ⌝ }
 {
-    read(w, numbers, numbers[i], j)
+    read_entry(w, numbers, numbers[i], j)
 }
 
 // Enters a row, costs and choices by the keys: the stretches of 1 to n siblings from sibling i on.
@@ -58,7 +59,7 @@ pub fn store_row(
 )
     requires { ⌜ Falling (now numbers) (i + n) (length (now costs)) × Falling (now numbers) (i + n) (length (now choices)) ⌝ }
     requires { ⌜ n < length (now keys) ⌝ }
-    requires { ⌜ ((d : ℕ) → 0 < d → d ≤ n → getD (now keys) d 0 < 9007199254740992) ⌝ }
+    requires { ⌜ ((d : ℕ) → 0 < d → d ≤ n → getD (now keys) d 0 < key cost-base 0) ⌝ }
     ensures costs { λ _. ⌜ Stored (now (numbers .entry)) i n (λ d. cost-digit (getD (now (keys .entry)) d 0)) (now (costs .entry)) (now (costs .exit)) ⌝ }
     ensures choices { λ _. ⌜ Stored (now (numbers .entry)) i n (λ d. choice-digits (getD (now (keys .entry)) d 0)) (now (choices .entry)) (now (choices .exit)) ⌝ }
 {

@@ -10,7 +10,7 @@ use borrow.Rule.Slice.PartMut.{putMid}
 use Rattle.format.specs.Limits.{limits}
 use Rattle.format.specs.Tree.{tree-of}
 use Rattle.format.proofs.Lists.{sets-append}
-use Rattle.table.specs.Keys.{count-digit, width-digit, cover}
+use Rattle.table.specs.Keys.{count-digit, width-digit, covered}
 use Rattle.table.specs.Table.{entry-at}
 use Rattle.table.specs.Used.{Used}
 use Rattle.writer.specs.Writing.{WriteReady, SpanReady, SpanFits, FoldWritten, SpanWritten, fold-bytes, span-bytes, most-bytes, open-bytes}
@@ -165,21 +165,21 @@ module _ {s choices offsets numbers : List ℕ} {i j to : ℕ} {before : List �
         let y = repeated ready in
         record {
           ready = narrow ready k (k + w) (omega arith) (omega arith);
-          fits = omega (arith, next-fits, ap length (y .spelled), length-append (part-of ready k (k + w)) (0x21 ∷ part-of ready (k + cover c) j));
+          fits = omega (arith, next-fits, ap length (y .spelled), length-append (part-of ready k (k + w)) (0x21 ∷ part-of ready (k + covered c) j));
         }
 
     pub putting-power : (now₁ : List ℕ) → now₁ ≡ sets now p (open-bytes (count-digit c) w)
         → (r : ℕ) (now₂ : List ℕ) → SpanWritten s choices offsets numbers k (k + w) (p + 5) now₁ now₂ r
-        → (now₃ : List ℕ) → now₃ ≡ set now₂ r 0x21 → Putting s choices offsets numbers i j to before (k + cover c) (r + 1) now₃
+        → (now₃ : List ℕ) → now₃ ≡ set now₂ r 0x21 → Putting s choices offsets numbers i j to before (k + covered c) (r + 1) now₃
     putting-power now₁ opens r now₂ l now₃ closes =
         record { ahead = omega (arith, x .putting .ahead); within = repeated ready .covers; along = along }
       where
-        along : (z : SpanReady s choices offsets numbers i j) → Along (span-bytes z) (part-of z (k + cover c) j) to before (r + 1) now₃
+        along : (z : SpanReady s choices offsets numbers i j) → Along (span-bytes z) (part-of z (k + covered c) j) to before (r + 1) now₃
         along z =
             let q = repeated z in
             let y = narrow z k (k + w) (omega arith) (omega arith) in
             let body = part-of z k (k + w) in
-            let rest = part-of z (k + cover c) j in
+            let rest = part-of z (k + covered c) j in
             let opened = along-more (x .putting .along z) (open-bytes (count-digit c) w) (body ++ 0x21 ∷ rest) (p + 5) now₁ (q .spelled) refl opens in
             let held = along-more opened body (0x21 ∷ rest) r now₂ refl (l .is-end y) (l .written y) in
             along-byte held 0x21 rest now₃ refl closes

@@ -4,11 +4,11 @@ use mathlib.Core.List.{List, [], _∷_}
 use Prim.Native.Nat.{ℕ, _+_, _-_, _*_, _≤_}
 use lib.ListN.{length, getD}
 use lib.Seq.{sets}
-use Rattle.format.specs.Limits.{Prices, limits}
+use Rattle.format.specs.Limits.{Prices, limits, cells}
 use Rattle.format.specs.Forest.{Allowed, siblings, nodes, bytes, two-bytes}
 use Rattle.format.specs.Tree.{tree-of}
 use Rattle.optimum.specs.Cheapest.{cheapest}
-use Rattle.table.specs.Table.{cells, stretch}
+use Rattle.table.specs.Table.{stretch}
 use Rattle.table.specs.Used.{UsedFilled}
 use Rattle.table.specs.Listing.{Spelled, Placed, Numbered}
 

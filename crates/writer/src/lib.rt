@@ -6,6 +6,7 @@ use table::count_digit;
 use table::covered;
 use table::list_siblings;
 use table::look;
+use table::smaller;
 use table::width_digit;
 ghost use mathlib.Core.Path.{_≡_};
 ghost use mathlib.Core.List.{[]};
@@ -125,13 +126,4 @@ fn put_byte(out: &mut [u8], at: usize, b: u8)
     if at < out.len() {
         out[at] = b;
     }
-}
-
-fn smaller(a: usize, b: usize) -> usize
-    ensures { λ r. ⌜ (r ≤ b) × (a ≤ b → r ≡ a) × (b ≤ a → r ≡ b) ⌝ }
-{
-    if a < b {
-        return a;
-    }
-    b
 }

@@ -11,13 +11,12 @@ use borrow.Fn.Kinds.{PK, In, Out}
 use borrow.Fn.PlainCycle.{Measures, is, falls, and}
 use Rattle.format.specs.Limits.{limits}
 use Rattle.format.specs.Tree.{tree-of}
-use Rattle.table.specs.Keys.{cover, width-digit}
+use Rattle.table.specs.Keys.{covered, width-digit}
 use Rattle.table.specs.Used.{to-end}
 use Rattle.table.proofs.Uses.{used-from}
 use Rattle.writer.specs.Writing.{most-bytes}
 use Rattle.writer.proofs.Spans.{Grouped, ready-few, span-falling, node-group}
-use Rattle.writer.proofs.Writings.{Putting, Turn, written-kept, putting-none, putting-all, left-fits, plain-fits, putting-plain, repeated, body-fits, putting-power}
-use Rattle.writer.proofs.Writings.{fold-fits, fold-written, node-bounds, step-written, Unclosed, inside-written, close-fits, closed}
+use Rattle.writer.proofs.Writings.{Putting, Turn, written-kept, putting-none, putting-all, left-fits, plain-fits, putting-plain, repeated, body-fits, putting-power, fold-fits, fold-written, node-bounds, step-written, Unclosed, inside-written, close-fits, closed}
 use Rattle.writer.proofs.put_fold.Reads as put-fold
 use Rattle.writer.proofs.put_fold.Kinds as put-fold-kinds
 use Rattle.writer.proofs.+put_fold+put_node+put_span.Lts-put_fold as fold
@@ -34,7 +33,7 @@ use Rattle.table.proofs.list_siblings.Reads as list-siblings
 use Rattle.table.proofs.look.Reads as look
 use Rattle.writer.proofs.put_byte.Reads as put-byte
 use Rattle.writer.proofs.put_open.Reads as put-open
-use Rattle.writer.proofs.smaller.Reads as smaller
+use Rattle.table.proofs.smaller.Reads as smaller
 use Rattle.writer.proofs.+put_fold+put_node+put_span.{statement}
 use Rattle.writer.proofs.+put_fold+put_node+put_span.Tie.{close}
 
@@ -239,10 +238,10 @@ module _ (t : ℕ) where
   node-shared-slice-read-put-fold c = let b = node-bounds (node-headed (c .before .before .before .before .before) .pre .1) in omega arith
 
   node-sub-put-fold-2 : Node node.Need-sub-put-fold-2
-  node-sub-put-fold-2 c = omega (arith, c .before .before .smaller .ensures .0)
+  node-sub-put-fold-2 c = omega (arith, c .before .before .smaller .ensures .1)
 
   node-part-put-fold-start-2 : Node node.Need-part-put-fold-start-2
-  node-part-put-fold-start-2 c = omega (arith, c .before .before .smaller .ensures .0)
+  node-part-put-fold-start-2 c = omega (arith, c .before .before .smaller .ensures .1)
 
   node-part-put-fold-end-2 : Node node.Need-part-put-fold-end-2
   node-part-put-fold-end-2 c = omega arith
@@ -267,7 +266,8 @@ module _ (t : ℕ) where
       let second = c₁ .before .before .before .before .put-byte2 in
       let lent = c .before .before .before .before .smaller in
       inside-written (S .pre .1) (S .args .out .now) (first .last .0) (second .last .0) (first .ensures) (second .ensures) (c₁ .if1 .left)
-      (lent .result) (lent .ensures .1) (lent .ensures .2) (c .put-fold .result) (c .put-fold .last .1 .1 .1 .0) (c .put-fold .ensures)
+      (lent .result) (λ h. omega (arith, lent .ensures .0, lent .ensures .2 _ (omega arith) h)) (λ h. omega (arith, lent .ensures .1, lent .ensures .2 _ h (omega arith)))
+      (c .put-fold .result) (c .put-fold .last .1 .1 .1 .0) (c .put-fold .ensures)
 
   close-place : (c : Node node.After-put-fold) → node-headed (node-inside (c .before) .before) .args .to + 2 + c .put-fold .result < most-bytes
   close-place c = close-fits (node-headed (node-inside (c .before) .before) .pre .1) (unclosed c)
@@ -382,7 +382,7 @@ module _ (t : ℕ) where
       let a = span-start (c₁ .before .before .before) .args in
       let l = c₁ .before .before .before .loop in
       Putting (a .s .now) (a .choices .now) (a .offsets .now) (a .numbers .now) (a .i) (a .j) (a .to) (a .out .now)
-      (l .k + cover (c₁ .before .look .result)) (c .before .before .before .before .put-span .result + 1) (c .put-byte .last .0))
+      (l .k + covered (c₁ .before .look .result)) (c .before .before .before .before .put-span .result + 1) (c .put-byte .last .0))
   repeat-put c =
       let span = c .before .before .before .before .put-span in
       let call = c .before .before .before .before .before in

@@ -14,7 +14,7 @@ use Rattle.table.proofs.count_nodes.Reads as count-nodes-reads
 use Rattle.reader.proofs.node_at.Reads as node-at-reads
 use Rattle.format.specs.Forest.{at-most}
 use Rattle.filling.specs.Filling.{prices-of, Scratch}
-use Rattle.table.proofs.Tables.{kept-then}
+use Rattle.filling.proofs.Entries.{kept-then}
 use Rattle.table.proofs.Listings.{spelled-count}
 use Rattle.filling.proofs.Recursion.{Through, Passing, Opening, through-none, passing, through-step, opening, through-group, through-all, through-ready}
 use Rattle.filling.proofs.level.+enter_tree.{statement}

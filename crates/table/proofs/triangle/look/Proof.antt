@@ -5,23 +5,23 @@ use Rattle.table.proofs.Tables.{falling-read}
 use Rattle.table.proofs.triangle.look.Statement.{statement}
 use Rattle.table.proofs.triangle.look.Tie as tie
 
-mul-read : tie.Need-mul-read
-mul-read c = search needs
+mul-read-entry : tie.Need-mul-read-entry
+mul-read-entry c = search needs
 
-shared-slice-read-read : tie.Need-shared-slice-read-read
-shared-slice-read-read c = search needs
+shared-slice-read-read-entry : tie.Need-shared-slice-read-read-entry
+shared-slice-read-read-entry c = search needs
 
-read-requires : tie.Need-read-requires
-read-requires c κs = let S = c .before .before .before in falling-read (S .args .i) (S .args .j) (S .pre .1) (omega arith) (S .pre .0)
+read-entry-requires : tie.Need-read-entry-requires
+read-entry-requires c κs = let S = c .before .before .before in falling-read (S .args .i) (S .args .j) (S .pre .1) (omega arith) (S .pre .0)
 
 returns : tie.Need-returns
-returns c = c .read .ensures
+returns c = c .read-entry .ensures
 
 pub look-spec : {M : Type 1} → statement M
 look-spec =
     tie.close
     (tie.spec
-    mul-read
-    shared-slice-read-read
-    read-requires
+    mul-read-entry
+    shared-slice-read-read-entry
+    read-entry-requires
     returns)
