@@ -16,10 +16,12 @@ use Rattle.optimum.specs.Cheapest.{back, cheapest, best-cost}
 use Rattle.optimum.proofs.Cut.{front-whole}
 use Rattle.optimum.proofs.Cheapest.{best-cost-end}
 use Rattle.table.specs.Used.{to-end, itself, UsedFilled}
-use Rattle.table.specs.Table.{Kept, cells, cell, number, stretch}
+use Rattle.format.specs.Limits.{cells}
+use Rattle.table.specs.Table.{Kept, cell, number, stretch}
 use Rattle.filling.specs.Filling.{prices-of, LevelReady}
 use Rattle.writer.specs.Writing.{WriteReady, FoldLength, FoldWritten}
-use Rattle.folder.specs.inner.Run.{RunFilled, RunWritten, RunFolded, room-answer, room-output}
+use Rattle.folder.specs.inner.Run.{RunFilled, RunWritten, RunFolded}
+use Rattle.folder.specs.Folding.{room-answer, room-output}
 use Rattle.table.proofs.Cells.{cell-in}
 use Rattle.table.proofs.Tables.{number-first, number-last}
 

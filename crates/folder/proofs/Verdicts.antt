@@ -10,7 +10,7 @@ use lib.Dec.{ltb}
 use lib.ListN.{length, getD, take, drop, List·getD-eq-default}
 use lib.Seq.{take-at}
 use borrow.Author.Tests.{ltb-false, ltb-true}
-use Rattle.format.specs.Limits.{limits, Prices, priced, of-repeat}
+use Rattle.format.specs.Limits.{limits, Prices, priced, of-repeat, cells}
 use Rattle.format.specs.Order.{Bytes}
 use Rattle.format.specs.Forest.{nodes, bytes, at-most}
 use Rattle.format.specs.Machine.{Outcome, refused, accepted, read}
@@ -26,11 +26,11 @@ use Rattle.format.proofs.Refusals.{refused-some, refused-small}
 use Rattle.optimum.specs.Cheapest.{cheapest, best-cost}
 use Rattle.optimum.specs.Verdict.{Verdict, refuses, folds, verdict}
 use Rattle.optimum.specs.Demands.{CheapestWithin, CheapestOver, MinimumTree}
-use Rattle.optimum.proofs.Demands.{run-form, run-shape, run-nodes, cheapest-small, cheapest-bytes}
+use Rattle.optimum.proofs.Demands.{run-form, run-shape, run-nodes, run-few, cheapest-small, cheapest-bytes}
 use Rattle.optimum.proofs.Minimum.{cheapest-minimum}
 use Rattle.table.specs.Listing.{Spelled}
+use Rattle.table.specs.Keys.{top-price}
 use Rattle.filling.specs.Filling.{Prepared, prices-of, LevelReady}
-use Rattle.table.specs.Table.{cells}
 use Rattle.folder.specs.Folding.{folding, short-work, fold-answer, fold-output, fold-work}
 use Rattle.folder.specs.inner.Prices.{PriceList}
 use Rattle.folder.specs.inner.Run.{RunFolded}
@@ -49,18 +49,19 @@ module _ (table prices : List ℕ) (first each : ℕ) (p : PriceList first each 
   pub prepared : first < 65536 → each < 65536 → ((l : ℕ) → getD table l 0 < 65536) → Prepared table prices
   prepared f e low =
       record {
-        long = p .long;
-        price-of = λ h a b. p .price-of h a b ∙ ap (λ (q : Prices). of-repeat q h) (sym prices-same);
-        small = small;
+        priced = record {
+          ready = record { long = p .long; low = small };
+          price-of = λ h a b. p .price-of h a b ∙ ap (λ (q : Prices). of-repeat q h) (sym prices-same);
+        };
         low = low;
       }
     where
-      counted : (h : ℕ) → 2 ≤ h → h ≤ 1024 → getD prices h 0 ≤ 4294836225
+      counted : (h : ℕ) → 2 ≤ h → h ≤ 1024 → getD prices h 0 ≤ top-price
       counted h a b =
           let m : each * (h - 2) ≤ 65535 * 1022 = mul-le-mul {n₁ = each} {m₁ = h - 2} {n₂ = 65535} {m₂ = 1022} (omega arith) (omega arith) in
           omega (arith, p .price-of h a b)
 
-      small : (h : ℕ) → getD prices h 0 ≤ 4294836225
+      small : (h : ℕ) → getD prices h 0 ≤ top-price
       small zero = omega (arith, p .none)
       small (suc zero) = omega (arith, p .one)
       small (suc (suc h)) = elim (decLe (suc (suc h)) 1024) [
@@ -146,7 +147,7 @@ module _ (s : List ℕ) (k : ℕ) (table : List ℕ) (first each : ℕ) (r : Run
       node-count-is = sym (run-nodes s small (a .tally) (a .text) accepts) ∙ a .all
 
       pub few : r .nodes ≤ 1024
-      few = omega (arith, node-count-is, run-shape s small (a .tally) (a .text) accepts .total)
+      few = omega (arith, a .all, run-few s small (a .tally) (a .text) accepts)
 
       pub level-ready : (prices costs choices : List ℕ) → cells (r .nodes) ≤ length costs → cells (r .nodes) ≤ length choices → Prepared table prices → LevelReady s 0 k table prices costs choices
       level-ready prices costs choices x y p =

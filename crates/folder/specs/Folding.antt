@@ -4,13 +4,12 @@ use mathlib.Core.List.{List, _++_}
 use Prim.Native.Nat.{ℕ}
 use lib.Dec.{ltb}
 use lib.ListN.{length, drop, replicate}
-use Rattle.format.specs.Limits.{priced}
+use Rattle.format.specs.Limits.{priced, cells}
 use Rattle.format.specs.Forest.{at-most}
 use Rattle.format.specs.Head.{full-head}
 use Rattle.format.specs.Readings.{run-outcome}
 use Rattle.format.specs.declared.Folded.{Folded}
 use Rattle.optimum.specs.Verdict.{Verdict, refuses, folds, verdict}
-use Rattle.table.specs.Table.{cells}
 
 -- The checks of table and limit, then the run's own refusals; or the cheapest fold.
 unfoldable pub folding : List ℕ → (limit : ℕ) → (table : List ℕ) → (first each : ℕ) → Verdict
@@ -22,21 +21,25 @@ folding s k table first each =
 abbrev pub short-work : (n costs choices : ℕ) → Bool
 short-work n a b = ltb a (cells n) || ltb b (cells n)
 
--- The answer: then 13 for the work slices, then 14 where the output is shorter than the fold.
+-- The answer and the output where the fold f of cost c is to be written: 14 where the output has no room for it, and then all stays
+-- as it was; else the fold in front and the rest as it was.
+abbrev pub room-answer : (room : ℕ) → (f : List ℕ) → (c : ℕ) → Folded
+room-answer o f c =
+    cond (ltb o (length f)) (record { refusal = 14; place = 0; length = 0; cost = 0 })
+    (record { refusal = 0; place = 0; length = length f; cost = c })
+
+abbrev pub room-output : (f out : List ℕ) → List ℕ
+room-output f out = cond (ltb (length out) (length f)) out (f ++ drop (length f) out)
+
+-- The answer: a refusal of the verdict's own, then 13 for the work slices, then 14.
 abbrev pub fold-answer : Verdict → (costs choices room : ℕ) → Folded
 fold-answer (refuses n p) a b o = record { refusal = n; place = p; length = 0; cost = 0 }
-fold-answer (folds n f c) a b o =
-    cond (short-work n a b) (record { refusal = 13; place = 0; length = 0; cost = 0 })
-    (cond (ltb o (length f)) (record { refusal = 14; place = 0; length = 0; cost = 0 })
-    (record { refusal = 0; place = 0; length = length f; cost = c }))
+fold-answer (folds n f c) a b o = cond (short-work n a b) (record { refusal = 13; place = 0; length = 0; cost = 0 }) (room-answer o f c)
 
--- The output afterwards: the fold in front and the rest as it was; all as it was after a refusal.
+-- The output afterwards: all as it was after a refusal.
 abbrev pub fold-output : Verdict → (costs choices : ℕ) → List ℕ → List ℕ
 fold-output (refuses n p) a b out = out
-fold-output (folds n f c) a b out =
-    cond (short-work n a b) out
-    (cond (ltb (length out) (length f)) out
-    (f ++ drop (length f) out))
+fold-output (folds n f c) a b out = cond (short-work n a b) out (room-output f out)
 
 -- A work slice afterwards: its first entries, as many as n nodes need, cleared and the others as they were; all as it was after
 -- a refusal other than 14.

@@ -1,3 +1,3 @@
--- The folder's answer, and what its outer functions promise.
+-- The folder's answer; in inner, what its functions promise one another.
 pub mod Folding
 pub mod inner

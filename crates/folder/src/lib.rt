@@ -5,13 +5,13 @@ mod run;
 
 use format::Folded;
 use format::Head;
+use format::wide_cost;
 use prices::prepare;
 use reader::admit;
 use run::fold_run;
 use run::refuse;
 use run::short_of;
 use table::Lists;
-use walk::wide_cost;
 ghost use mathlib.Core.Path.{_≡_};
 ghost use lib.ListN.{length, take};
 ghost use Rattle.format.specs.Limits.{priced};

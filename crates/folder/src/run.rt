@@ -12,10 +12,10 @@ use writer::put_fold;
 ghost use mathlib.Core.Path.{_≡_};
 ghost use Prim.Native.Nat.{ℕ, _<_, _≤_};
 ghost use lib.ListN.{length, getD};
-ghost use Rattle.format.specs.Limits.{Prices};
+ghost use Rattle.format.specs.Limits.{Prices, cells};
 ghost use Rattle.format.specs.Forest.{nodes, at-most};
 ghost use Rattle.format.specs.Tree.{tree-of};
-ghost use Rattle.table.specs.Table.{Kept, cells, cell};
+ghost use Rattle.table.specs.Table.{Kept, cell};
 ghost use Rattle.table.specs.Used.{UsedFilled};
 ghost use Rattle.filling.specs.Filling.{prices-of, LevelReady};
 ghost use Rattle.writer.specs.Writing.{WriteReady, FoldWritten};
@@ -46,7 +46,8 @@ pub fn short_of(n: usize, costs: usize, choices: usize) -> bool
     choices < needed
 }
 
-// Fills the table of the whole run, with all stretches that a fold can use. The lists that each sequence is worked in are lent to all of them in turn.
+// Fills the table of the whole run, with all stretches that a fold can use. The lists that each sequence is worked in are lent to
+// all of them in turn.
 fn fill(
     run: &[u8],
     limit: usize,

@@ -1,11 +1,7 @@
 -- `fold` meets its contract: admitted or refused, with work enough or not, and folded.
-use mathlib.Core.Path.{_≡_, sym, _∙_}
-use Prim.Native.Nat.{ℕ, _≤_}
-use native.Mathlib.Omega.{arith}
+use mathlib.Core.Path.{sym, _∙_}
 use borrow.Author.Needs.{needs}
-use lib.ListN.{length}
 use Rattle.format.specs.Order.{Bytes}
-use Rattle.table.specs.Table.{cells}
 use Rattle.folder.specs.Folding.{folding}
 use Rattle.folder.proofs.Verdicts.{Accepted, prices-priced, prepared, verdict-refused, verdict-folds, accepted-run, few, level-ready, node-count-is, demands, run-number, long-enough, met-refused, met-short, met-folded}
 use Rattle.folder.proofs.fold.Statement.{statement}

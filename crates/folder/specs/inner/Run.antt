@@ -1,17 +1,15 @@
 -- The steps that fold an accepted run: its table is filled, the fold is measured and written by it, and the table is cleared.
 use mathlib.Core.Path.{_≡_}
-use mathlib.Core.Bool.{cond}
 use mathlib.Core.List.{List, _++_}
 use Prim.Native.Nat.{ℕ, _≤_}
-use lib.Dec.{ltb}
 use lib.ListN.{length, drop, replicate}
-use Rattle.format.specs.Limits.{Prices}
+use Rattle.format.specs.Limits.{Prices, cells}
 use Rattle.format.specs.Forest.{nodes, bytes, at-most}
 use Rattle.format.specs.Tree.{tree-of}
 use Rattle.format.specs.declared.Folded.{Folded}
+use Rattle.folder.specs.Folding.{room-answer, room-output}
 use Rattle.optimum.specs.Cheapest.{cheapest, best-cost}
 use Rattle.table.specs.Listing.{Spelled}
-use Rattle.table.specs.Table.{cells}
 use Rattle.table.specs.Used.{UsedFilled}
 
 -- The table of an accepted run of n nodes is filled: it has the stretches that a fold can use.
@@ -22,15 +20,6 @@ pub record RunFilled (run : List ℕ) (n limit : ℕ) (P : Prices) (costs choice
   pub cost-room : cells n ≤ length costs
   pub choice-room : cells n ≤ length choices
   pub filled : UsedFilled (at-most limit) P 0 (tree-of run) costs choices
-
--- The answer and the output where the fold f of cost c is to be written: 14 where there is no room for it.
-abbrev pub room-answer : (room : ℕ) (f : List ℕ) (c : ℕ) → Folded
-room-answer room f c =
-    cond (ltb room (length f)) (record { refusal = 14; place = 0; length = 0; cost = 0 })
-    (record { refusal = 0; place = 0; length = length f; cost = c })
-
-abbrev pub room-output : (f out : List ℕ) → List ℕ
-room-output f out = cond (ltb (length out) (length f)) out (f ++ drop (length f) out)
 
 -- The cheapest fold is written where there is room, for whatever limit and prices the table was filled.
 pub record RunWritten (run : List ℕ) (n : ℕ) (costs choices out out′ : List ℕ) (r : Folded) : Type 0 where

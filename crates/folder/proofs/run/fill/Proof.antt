@@ -1,7 +1,7 @@
 -- `folder::run::fill` meets its contract: lists of zeros are ready to work in, and a table with all stretches has the used ones.
 use borrow.Author.Needs.{needs}
 use Rattle.format.specs.Forest.{at-most}
-use Rattle.table.proofs.Uses.{used-filled}
+use Rattle.filling.proofs.Entries.{used-filled}
 use Rattle.filling.proofs.Levels.{scratch-none}
 use Rattle.folder.proofs.run.fill.Statement.{statement}
 use Rattle.folder.proofs.run.fill.Tie as tie

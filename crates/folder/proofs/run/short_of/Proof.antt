@@ -2,7 +2,7 @@
 use borrow.Author.Needs.{needs}
 use borrow.Author.Tests.{lt-ltb, le-ltb}
 use native.Mathlib.Omega.{arith}
-use Rattle.table.specs.Table.{cells}
+use Rattle.format.specs.Limits.{cells}
 use Rattle.folder.proofs.run.short_of.Statement.{statement}
 use Rattle.folder.proofs.run.short_of.Tie as tie
 
