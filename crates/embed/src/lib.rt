@@ -2,11 +2,11 @@
 // answer is five numbers in a lent slice: refusal, place, nodes, length and cost, 0 where the function gives no such value.
 use folder::fold;
 use format::FoldReading;
+use format::wide;
 use reader::part;
 use reader::read_fold;
 use reader::read_run;
 use unroller::unroll;
-use walk::wide;
 ghost use mathlib.Core.Path.{_≡_};
 ghost use mathlib.Core.List.{_∷_};
 ghost use Prim.Native.Nat.{_≤_};

@@ -2,14 +2,14 @@
 -- work are enough: for 100 nodes and no more.
 use mathlib.Core.Path.{_≡_, ap}
 use mathlib.Core.List.{_∷_}
-use Prim.Native.Nat.{ℕ, _+_, _-_, _*_, _/_, _≤_, _<_}
+use Prim.Native.Nat.{ℕ, _+_, _-_, _*_, _≤_, _<_}
 use native.Mathlib.Nat.{mul-le-mul}
 use native.Mathlib.Omega.{arith}
 use lib.ListN.{length, length-append}
-use Rattle.format.specs.Forest.{Forest, end, step, group, repeat, Allowed, Sound, siblings, nodes, bytes, unroll}
+use Rattle.format.specs.Forest.{Forest, end, step, group, repeat, Allowed, Sound, nodes, bytes, unroll}
 use Rattle.format.proofs.Depth.{siblings-nodes}
 use Rattle.format.proofs.Forests.{nodes-unroll}
-use Rattle.table.specs.Table.{cells}
+use Rattle.format.specs.Limits.{cells}
 
 short-form : (A : Allowed) (f : Forest) → Sound A f → length (bytes f) ≤ 6 * nodes f - 4
 unfolding bytes nodes

@@ -6,7 +6,7 @@ use native.Mathlib.Omega.{arith}
 use Rattle.format.specs.Order.{Bytes}
 use Rattle.format.specs.Machine.{Outcome, refused, accepted, read}
 use Rattle.format.specs.Readings.{run-rules, as-run-reading, run-reading}
-use Rattle.optimum.proofs.Demands.{run-shape, run-nodes}
+use Rattle.optimum.proofs.Demands.{run-few}
 
 pub few-nodes : (s : List ℕ) → Bytes s → run-reading s .nodes ≤ 1024
 unfolding run-reading
@@ -14,4 +14,4 @@ few-nodes s small = by-outcome (read run-rules s) refl
   where
     by-outcome : (o : Outcome) → read run-rules s ≡ o → as-run-reading o .nodes ≤ 1024
     by-outcome (refused n p) e = omega arith
-    by-outcome (accepted t x) e = omega (arith, run-nodes s small t x e, run-shape s small t x e .total)
+    by-outcome (accepted t x) e = run-few s small t x e

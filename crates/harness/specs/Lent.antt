@@ -8,7 +8,7 @@ use lib.ListN.{length, take, drop, replicate}
 use Rattle.format.specs.Readings.{run-reading, measured}
 use Rattle.format.specs.declared.Folded.{Folded}
 use Rattle.format.specs.declared.Unrolled.{Unrolled}
-use Rattle.table.specs.Table.{cells}
+use Rattle.format.specs.Limits.{cells}
 use Rattle.unroller.specs.Unrolling.{unroll-answer, unroll-output}
 
 -- A slice of n entries as it is filled before a call.

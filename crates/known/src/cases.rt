@@ -61,7 +61,7 @@ fn wrote(c: Checked, out: &[u8], fold: &[u8], cost: u64) -> bool {
 }
 
 // What a run is folded at, and the cost that is known.
-struct Terms {
+struct Case {
     limit: usize,
     first: u16,
     each: u16,
@@ -72,7 +72,7 @@ struct Terms {
 fn known_in(
     name: &[u8],
     run: &[u8],
-    a: Terms,
+    a: Case,
     fold: &[u8],
     costs: &mut [u32],
     choices: &mut [u32],
@@ -103,7 +103,7 @@ fn known(name: &[u8], run: &[u8], limit: usize, first: u16, each: u16, fold: &[u
     known_in(
         name,
         run,
-        Terms {
+        Case {
             limit,
             first,
             each,
@@ -225,7 +225,7 @@ fn thousand_in(costs: &mut [u32], choices: &mut [u32]) {
     known_in(
         b"1024 a's",
         &run,
-        Terms {
+        Case {
             limit: 1024,
             first: 1,
             each: 0,

@@ -1,4 +1,5 @@
-// The refusals: the example of every row of document 01, by every entry point that the row concerns.
+// The refusals: the example of every refusal of document 01, by every entry point that it concerns. What is
+// printed calls each a row: a row of that table.
 use format::Format;
 use harness::fill_bytes;
 use harness::fold_checked;
@@ -116,7 +117,7 @@ fn refused_fold(refusal: u8, fold: &[u8], limit: usize, place: usize) {
     word(b"\n");
 }
 
-// Rows 1 to 10, as document 01 has them, and a few neighbours: an operand missing, the 11th open repeat.
+// Refusals 1 to 10, as document 01 has them, and a few neighbours: an operand missing, the 11th open repeat.
 pub fn commands() {
     bytes();
     closes();
@@ -125,7 +126,7 @@ pub fn commands() {
     nodes();
 }
 
-// Rows 1 to 3: a byte that is no command, one that is none of a run, and bytes that end too early.
+// Refusals 1 to 3: a byte that is no command, one that is none of a run, and bytes that end too early.
 fn bytes() {
     refused_run(1, b"\x13", 0);
     refused_fold(1, b"\x13", 1024, 0);
@@ -137,7 +138,7 @@ fn bytes() {
     refused_fold(3, b"\x20\x00\x01", 1024, 3);
 }
 
-// Rows 4 and 5: a close of nothing or of something else, and of an empty body.
+// Refusals 4 and 5: a close of nothing or of something else, and of an empty body.
 fn closes() {
     refused_run(4, b"\x12", 0);
     refused_fold(4, b"\x12", 1024, 0);
@@ -146,13 +147,13 @@ fn closes() {
     refused_fold(5, b"\x11\x05\x12", 1024, 2);
 }
 
-// Rows 6 and 7: a repeat's count and its width.
+// Refusals 6 and 7: a repeat's count and its width.
 fn repeats() {
     refused_fold(6, b"\x20\x00\x01\x00\x01\x10\x07\x21", 1024, 0);
     refused_fold(7, b"\x20\x00\x02\x00\x02\x10\x07\x10\x07\x21", 1, 0);
 }
 
-// Row 8: nine open groups, and eleven open repeats.
+// Refusal 8: nine open groups, and eleven open repeats.
 fn open() {
     let nine = b"\x11\x01\x11\x01\x11\x01\x11\x01\x11\x01\x11\x01\x11\x01\x11\x01\x11\x01";
     refused_run(8, nine, 16);
@@ -165,7 +166,7 @@ fn open() {
     );
 }
 
-// Rows 9 and 10: a body of another width, and too many nodes, at last 1,025 steps whose label is the byte of a step.
+// Refusals 9 and 10: a body of another width, and too many nodes, at last 1,025 steps whose label is the byte of a step.
 fn nodes() {
     refused_fold(9, b"\x20\x00\x02\x00\x02\x10\x07\x21", 1024, 7);
     refused_fold(10, b"\x20\x04\x01\x00\x01\x10\x07\x21", 1024, 7);
@@ -173,12 +174,12 @@ fn nodes() {
     refused_run(10, &run, 2048);
 }
 
-// An expected refusal at place 0, where rows 11 to 14 have theirs.
+// An expected refusal at place 0, where refusals 11 to 14 have theirs.
 fn placeless(refusal: u8) -> Expected {
     Expected { refusal, place: 0 }
 }
 
-// Rows 11 and 12. Each example would be refused by a later row too.
+// Refusals 11 and 12. Each example would be refused by a later check too.
 pub fn settings() {
     let table = [1u16; 256];
     short_table(&table[0..255]);
@@ -203,7 +204,7 @@ fn high_limit(table: &[u16]) {
     word(b"\n");
 }
 
-// Rows 13 and 14: work of 2 entries and of 3, output of 1 byte. A refused run comes before 13, and 13 before 14.
+// Refusals 13 and 14: work of 2 entries and of 3, output of 1 byte. A refused run comes before 13, and 13 before 14.
 pub fn room() {
     let mut two = [0u32; 2];
     let mut three = [0u32; 3];

@@ -13,11 +13,11 @@ use crate::search::retry;
 use crate::search::spent;
 use crate::search::start;
 use format::Format;
+use format::wide;
 use harness::product;
 use harness::put_byte;
 use harness::unrolls;
 use reader::read_fold;
-use walk::wide;
 
 // What the last command of a string leads to: whether the string still follows the run, the place reached in the run, the
 // place that what is open may reach, and the number of the command that opened it, 0 for none.

@@ -1,5 +1,5 @@
 // All strings of commands in byte order, and all folds of a run among them: what the trial holds the folder's fold against. It
-// knows nothing of the folder.
+// asks nothing of the folder.
 mod command;
 mod folds;
 mod search;

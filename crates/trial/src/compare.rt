@@ -1,5 +1,6 @@
 // The folder against the trial of every fold: the best of all folds of a run, by cost and then by byte order, at several
 // prices and limits.
+use format::wide;
 use harness::Checked;
 use harness::begins;
 use harness::fold_checked;
@@ -9,7 +10,6 @@ use reader::read_run;
 use std::num::wrapping_add_u64;
 use strings::fold_at;
 use strings::gather;
-use walk::wide;
 
 // Prices: of the labels 1 and 2, and of a repeat.
 struct Prices {

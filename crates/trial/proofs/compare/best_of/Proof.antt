@@ -1,7 +1,6 @@
 -- `trial::compare::best_of` is safe and ends: a fold less is left with each turn.
 use Prim.Native.Nat.{_-_}
 use borrow.Author.Needs.{needs}
-use lib.ListN.{length}
 use Rattle.trial.proofs.compare.best_of.Statement.{statement}
 use Rattle.trial.proofs.compare.best_of.Tie as tie
 

@@ -1,7 +1,6 @@
 -- `trial::compare::compare_all` is safe and ends: a setting less is left with each turn.
 use Prim.Native.Nat.{_-_}
 use borrow.Author.Needs.{needs}
-use lib.ListN.{length}
 use Rattle.trial.proofs.compare.compare_all.Statement.{statement}
 use Rattle.trial.proofs.compare.compare_all.Tie as tie
 
