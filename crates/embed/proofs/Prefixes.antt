@@ -21,6 +21,6 @@ either true true n s = taken n s
 either true false n s = refl
 either false u n s = refl
 
-pub part-there : (s : List ℕ) (p : ℕ) → take (length (part-of s p)) (drop p s) ≡ part-of s p
+pub part-taken : (s : List ℕ) (p : ℕ) → take (length (part-of s p)) (drop p s) ≡ part-of s p
 unfolding part-of node-part
-part-there s p = either (eqb (run-reading s .refusal) 0) (starts p 0 s) (node-size (drop p s)) (drop p s)
+part-taken s p = either (eqb (run-reading s .refusal) 0) (starts p 0 s) (node-size (drop p s)) (drop p s)

@@ -93,17 +93,17 @@ module _ (R : Rules) (st : State) where
   unfolding after put-step unroll bytes siblings nodes cost
   after-step l = same-state refl refl refl refl (omega arith) refl
 
-  pub after-group : (l : ℕ) (b : Forest)
+  pub counted-group : (l : ℕ) (b : Forest)
       → leave-group ((after R b (inside-group R l st)) .opens) (after R b (inside-group R l st)) ≡ after R (group l b end) st
   unfolding after leave-group enter-group unroll bytes siblings nodes cost
-  after-group l b =
+  counted-group l b =
       same-state refl (omega arith) (omega arith) (simp length-append (omega arith)) (omega arith) (simp append-assoc)
 
-  pub after-repeat : (h w : ℕ) (b : Forest) → 1 ≤ h → Even st
+  pub counted-repeat : (h w : ℕ) (b : Forest) → 1 ≤ h → Even st
       → leave-repeat ((after R b (inside-repeat R h w st)) .opens) (after R b (inside-repeat R h w st))
       ≡ after R (repeat h w b end) st
   unfolding after leave-repeat enter-repeat unroll siblings nodes cost
-  after-repeat h w b some even =
+  counted-repeat h w b some even =
       let x : List ℕ = bytes (unroll b) in
       let r : bytes (join (copies h (unroll b)) end) ≡ times h x =
       ap bytes (join-end (copies h (unroll b))) ∙ bytes-copies h (unroll b) in
@@ -128,7 +128,7 @@ module _ (R : Rules) (st : State) where
     even-inside-repeat h w = even
 
 -- Room for a sequence beside what is open and counted.
-pub record Room (R : Rules) (st : State) (f : Forest) : Type 0 where
+pub record RoomBeside (R : Rules) (st : State) (f : Forest) : Type 0 where
   pub groups : open-groups (st .opens) + group-depth f ≤ R .limits .groups
   pub repeats : open-repeats (st .opens) + repeat-depth f ≤ R .limits .repeats
   pub total : st .tally .nodes + nodes f ≤ R .limits .nodes
@@ -138,7 +138,7 @@ pub record Fits (R : Rules) (st : State) (f : Forest) : Type 0 where
   pub coded : Coded f
   pub sound : Sound (at-most (R .widest)) f
   pub plain : R .folds ≡ false → Plain f
-  pub room : Room R st f
+  pub room : RoomBeside R st f
 
 -- Two bytes put together again.
 pub word-again : (n : ℕ) → n / 256 * 256 + n % 256 ≡ n
@@ -241,7 +241,7 @@ module _ (R : Rules) where
       (scan-group R p st (bytes b ++ 0x12 ∷ r) l (group-opens R st l b f z (bytes b ++ 0x12 ∷ r))
       ∙ scan-forest b (p + 2) (inside-group R l st) (0x12 ∷ r) (group-body R st l b f z) (even-inside-group R st even l)
       ∙ scan-group-end R q inner r (group-closes R st l b f z r)
-      ∙ onward r refl (after-group R st l b)
+      ∙ onward r refl (counted-group R st l b)
       ∙ scan-forest f (q + 1) st1 s (group-rest R st l b f z) (even-after R st even (group l b end))
       ∙ onward s (omega (arith, length-append (bytes b) (0x12 ∷ bytes f))) (after-join R st (group l b end) f))
   scan-forest (repeat h w b f) p st s z even =
@@ -255,7 +255,7 @@ module _ (R : Rules) where
       ∙ onward o refl (same-operands h w st)
       ∙ scan-forest b (p + 5) (inside-repeat R h w st) (0x21 ∷ r) (repeat-body R st h w b f z) (even-inside-repeat R st even h w)
       ∙ scan-repeat-end R q inner r (repeat-closes R st h w b f z r)
-      ∙ onward r refl (after-repeat R st h w b (omega arith) even)
+      ∙ onward r refl (counted-repeat R st h w b (omega arith) even)
       ∙ scan-forest f (q + 1) st1 s (repeat-rest R st h w b f z) (even-after R st even (repeat h w b end))
       ∙ onward s (omega (arith, length-append (bytes b) (0x21 ∷ bytes f))) (after-join R st (repeat h w b end) f))
 
@@ -291,17 +291,17 @@ fits-join R st f g y z =
       room = omega (arith, group-depth-join f g, repeat-depth-join f g, nodes-join f g);
     }
 
-room-after : (R : Rules) (st : State) (f : Forest) → Room R st f → Room R (after R f st) end
+room-after : (R : Rules) (st : State) (f : Forest) → RoomBeside R st f → RoomBeside R (after R f st) end
 unfolding after nodes group-depth repeat-depth
 room-after R st f z = omega arith
 
 -- What a passed command leaves room for, and what its whole item then fits.
-module _ (R : Rules) (st : State) (room : Room R st end) where
+module _ (R : Rules) (st : State) (room : RoomBeside R st end) where
   step-fits : (l : ℕ) (s : List ℕ) → l < 256 → StepPasses R st s → Fits R st (step l end)
   unfolding nodes group-depth repeat-depth
   step-fits l s small z = record { coded = (small, tt); sound = tt; plain = λ e. tt; room = omega arith }
 
-  group-room : (l : ℕ) (s : List ℕ) → GroupPasses R st s → Room R (inside-group R l st) end
+  group-room : (l : ℕ) (s : List ℕ) → GroupPasses R st s → RoomBeside R (inside-group R l st) end
   unfolding enter-group group-depth repeat-depth nodes
   group-room l s z = omega arith
 
@@ -316,7 +316,7 @@ module _ (R : Rules) (st : State) (room : Room R st end) where
         room = omega arith;
       }
 
-  repeat-room : (h w : ℕ) (s : List ℕ) → RepeatPasses R st s → Room R (inside-repeat R h w st) end
+  repeat-room : (h w : ℕ) (s : List ℕ) → RepeatPasses R st s → RoomBeside R (inside-repeat R h w st) end
   unfolding enter-repeat group-depth repeat-depth nodes
   repeat-room h w s z = omega arith
 
@@ -344,7 +344,7 @@ module _ (R : Rules) (t : Tally) (x : List ℕ) where
   abbrev Accepts : ℕ → State → List ℕ → Type 0
   Accepts p st s = scan R p 0 st s ≡ accepted t x
 
-  module _ (p : ℕ) (st : State) (room : Room R st end) where
+  module _ (p : ℕ) (st : State) (room : RoomBeside R st end) where
     left-open : (o : Open) (os : List Open) → st .opens ≡ o ∷ os → Accepts p st [] → ⊥
     left-open o os top e =
         let f : refused 3 p ≡ accepted t x = rw top at (sym (scan-end R p st) ∙ e) in
@@ -380,7 +380,7 @@ module _ (R : Rules) (t : Tally) (x : List ℕ) where
   stopped p st s q even e = sym (scan-forest R (q .tree) p st (q .rest) (q .fits) even) ∙ rw (q .form) e
 
   -- No item begins at a stop.
-  none-read : (st : State) → Room R st end → (s : List ℕ) → Stops s → Begins R st s
+  none-read : (st : State) → RoomBeside R st end → (s : List ℕ) → Stops s → Begins R st s
   unfolding bytes
   none-read st room s stops =
       record {
@@ -394,9 +394,9 @@ module _ (R : Rules) (t : Tally) (x : List ℕ) where
   -- What is read of at most n bytes, from any state with room.
   abbrev Parses : ℕ → Type 0
   Parses n =
-      (p : ℕ) (st : State) (s : List ℕ) → length s ≤ n → Bytes s → Room R st end → Even st → Accepts p st s → Begins R st s
+      (p : ℕ) (st : State) (s : List ℕ) → length s ≤ n → Bytes s → RoomBeside R st end → Even st → Accepts p st s → Begins R st s
 
-  module _ (n : ℕ) (ih : Parses n) (p : ℕ) (st : State) (room : Room R st end) (even : Even st) where
+  module _ (n : ℕ) (ih : Parses n) (p : ℕ) (st : State) (room : RoomBeside R st end) (even : Even st) where
     -- Past a first item that fits.
     past : (f : Forest) (s whole : List ℕ) → bytes f ++ s ≡ whole → 0 < length (bytes f) → length whole ≤ suc n
         → Bytes whole → Fits R st f → Accepts p st whole → Begins R st whole

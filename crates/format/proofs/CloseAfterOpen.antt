@@ -27,7 +27,7 @@ data Leaves (c : ℕ) (st : State) : Type 0 where
   new-repeat : c ≡ 0x20 → in-group (st .opens) ≡ false → Leaves c st
   some-sibling : 0 < st .tally .siblings → Leaves c st
 
-record Kept (c : ℕ) (st : State) : Type 0 where
+record KeptCommand (c : ℕ) (st : State) : Type 0 where
   twice : Twice (st .opens)
   leaves : Leaves c st
 
@@ -47,20 +47,20 @@ only-check n some (m when false ∷ above) b below v w e =
     ((refl, z .0), z .1)
 
 module _ (R : Rules) (st : State) (rest : List ℕ) where
-  group-end-kept : (os : List Open) → Twice os → in-group os ≡ true → Kept 0x12 (leave-group os st)
+  group-end-kept : (os : List Open) → Twice os → in-group os ≡ true → KeptCommand 0x12 (leave-group os st)
   unfolding leave-group
   group-end-kept [] z inner = absurd (false≢true inner)
   group-end-kept (a-group o ∷ os) z inner = record { twice = z; leaves = some-sibling (omega arith) }
   group-end-kept (a-repeat h w o ∷ os) z inner = absurd (false≢true inner)
 
-  repeat-end-kept : (os : List Open) → Twice os → in-repeat os ≡ true → 0 < st .tally .siblings → Kept 0x21 (leave-repeat os st)
+  repeat-end-kept : (os : List Open) → Twice os → in-repeat os ≡ true → 0 < st .tally .siblings → KeptCommand 0x21 (leave-repeat os st)
   unfolding leave-repeat
   repeat-end-kept [] z inner some = absurd (false≢true inner)
   repeat-end-kept (a-group o ∷ os) z inner some = absurd (false≢true inner)
   repeat-end-kept (a-repeat h w o ∷ os) z inner some =
       record { twice = z .1; leaves = some-sibling (omega (arith, mul-le-mul-right (st .tally .siblings) (z .0))) }
 
-  kept : {c : ℕ} → Command c → Twice (st .opens) → refusal R st c rest ≡ 0 → Kept c (advance (R .prices) c rest st)
+  kept : {c : ℕ} → Command c → Twice (st .opens) → refusal R st c rest ≡ 0 → KeptCommand c (advance (R .prices) c rest st)
   unfolding advance
   kept step-byte z e = record { twice = z; leaves = some-sibling (omega arith) }
   kept group-byte z e = record { twice = z; leaves = new-group refl refl }

@@ -15,11 +15,11 @@ use Rattle.format.specs.Reasons.{None}
 use Rattle.format.specs.declared.Tally.{Tally}
 
 -- Checks whose numbers are not 0.
-abbrev pub Numbered : List Check → Type 0
-Numbered [] = Unit
-Numbered (n when b ∷ rs) = (0 < n) × Numbered rs
+abbrev pub Positive : List Check → Type 0
+Positive [] = Unit
+Positive (n when b ∷ rs) = (0 < n) × Positive rs
 
-pub first-none : (rs : List Check) → Numbered rs → first-of rs ≡ 0 → None rs
+pub first-none : (rs : List Check) → Positive rs → first-of rs ≡ 0 → None rs
 first-none [] m e = tt
 first-none (n when true ∷ rs) m e = absurd (omega arith)
 first-none (n when false ∷ rs) m e = (refl, first-none rs (m .1) e)

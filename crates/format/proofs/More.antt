@@ -147,7 +147,7 @@ at-most-four false true = omega arith
 at-most-four false false = omega arith
 
 -- A run that is refused whatever follows it.
-pub record Settled (s : List ℕ) : Type 0 where
+pub record SettledRefusal (s : List ℕ) : Type 0 where
   pub number : ℕ
   pub place : ℕ
   pub reading : read run-rules s ≡ refused number place
@@ -163,10 +163,10 @@ module _ (s : List ℕ) (long : 3077 ≤ length s) where
       not-missing run-rules st c (drop (suc p) s) (simp length-drop (omega arith)) f
   all-there e (left-open st r some m w) = let below = reached-below r in omega arith
 
-  pub long-settled : Settled s
+  pub long-settled : SettledRefusal s
   long-settled = go (read run-rules s) refl
     where
-      go : (o : Outcome) → read run-rules s ≡ o → Settled s
+      go : (o : Outcome) → read run-rules s ≡ o → SettledRefusal s
       go (refused n e) out =
           let other : n ≢ 3 = λ three. all-there e (refused-exactly run-rules s 3 e .0 (rw three at out)) in
           record { number = n; place = e; reading = out; not-three = other }

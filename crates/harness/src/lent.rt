@@ -11,7 +11,7 @@ ghost use mathlib.Core.Logic.{_↔_};
 ghost use Prim.Native.Nat.{_≤_};
 ghost use lib.ListN.{length, replicate};
 ghost use Rattle.folder.specs.Folding.{folding, fold-answer, fold-output, fold-work};
-ghost use Rattle.harness.specs.Lent.{filled-words, filled-bytes, Cleared, Untouched, Begins, used, Valued, Kept, unroll-says, unroll-leaves, Unrolls};
+ghost use Rattle.harness.specs.Lent.{filled-words, filled-bytes, Cleared, Untouched, Begins, used, Valued, LentAsSaid, unroll-says, unroll-leaves, Unrolls};
 
 // What stands in the lent slices before a call: of the work slices, and of the bytes.
 const WORD: u32 = 0xa5a5a5a5;
@@ -128,7 +128,7 @@ pub fn fold_checked(
     ensures written { λ _. ⌜ now (out .exit) ≡ fold-output (folding (now (run .entry)) limit (now (table .entry)) first each) (length (now (costs .entry))) (length (now (choices .entry))) (filled-bytes (length (now (out .entry)))) ⌝ }
     ensures costs_cleared { λ _. ⌜ now (costs .exit) ≡ fold-work (folding (now (run .entry)) limit (now (table .entry)) first each) (length (now (costs .entry))) (length (now (choices .entry))) (filled-words (length (now (costs .entry)))) ⌝ }
     ensures choices_cleared { λ _. ⌜ now (choices .exit) ≡ fold-work (folding (now (run .entry)) limit (now (table .entry)) first each) (length (now (costs .entry))) (length (now (choices .entry))) (filled-words (length (now (choices .entry)))) ⌝ }
-    ensures looked_at { λ r. ⌜ (r .right ≡ true) ↔ Kept (now (run .entry)) (r .answer) (now (costs .exit)) (now (choices .exit)) (now (out .exit)) ⌝ }
+    ensures looked_at { λ r. ⌜ (r .right ≡ true) ↔ LentAsSaid (now (run .entry)) (r .answer) (now (costs .exit)) (now (choices .exit)) (now (out .exit)) ⌝ }
 {
     fill_words(costs);
     fill_words(choices);
@@ -140,7 +140,7 @@ pub fn fold_checked(
 
 // Whether the answer and the slices are so.
 fn kept(run: &[u8], answer: Folded, costs: &[u32], choices: &[u32], out: &[u8]) -> bool
-    ensures { λ r. ⌜ (r ≡ true) ↔ Kept (now (run .entry)) answer (now (costs .entry)) (now (choices .entry)) (now (out .entry)) ⌝ }
+    ensures { λ r. ⌜ (r ≡ true) ↔ LentAsSaid (now (run .entry)) answer (now (costs .entry)) (now (choices .entry)) (now (out .entry)) ⌝ }
 {
     let n = used_entries(answer.refusal, read_run(run).nodes);
     if !cleared(costs, n) {

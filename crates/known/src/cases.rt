@@ -1,6 +1,6 @@
 // The known folds of document 01, the marked ones too: what the folder writes, read and unrolled back.
-use crate::runs::front;
 use crate::runs::spell;
+use crate::runs::steps_of;
 use format::Folded;
 use harness::Checked;
 use harness::begins;
@@ -123,7 +123,7 @@ fn letters(name: &[u8], limit: usize, first: u16, each: u16, fold: &[u8], cost: 
     spell(name, &mut run);
     known(
         name,
-        front(&run, name.len()),
+        steps_of(&run, name.len()),
         limit,
         first,
         each,
@@ -136,7 +136,7 @@ fn letters(name: &[u8], limit: usize, first: u16, each: u16, fold: &[u8], cost: 
 fn plain(name: &[u8], limit: usize, cost: u64) {
     let mut run = [0u8; 80];
     spell(name, &mut run);
-    let itself = front(&run, name.len());
+    let itself = steps_of(&run, name.len());
     known(name, itself, limit, 1, 0, itself, cost);
 }
 

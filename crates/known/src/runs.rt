@@ -22,7 +22,7 @@ fn put_step(run: &mut [u8], i: usize, letter: u8) {
 }
 
 // The first steps of a run.
-pub fn front(run: &[u8], steps: usize) -> &[u8] {
+pub fn steps_of(run: &[u8], steps: usize) -> &[u8] {
     if steps <= run.len() / 2 {
         return &run[0..2 * steps];
     }

@@ -50,14 +50,14 @@ module _ (A : Allowed) (t : Forest) (r : Run A t) (i : ℕ) (h : i < siblings t)
       }
 
 -- The matches below width w are grown, the others as they were.
-pub record Grown (kinds : List ℕ) (i w : ℕ) (before after : List ℕ) : Type 0 where
+pub record GrownBelow (kinds : List ℕ) (i w : ℕ) (before after : List ℕ) : Type 0 where
   pub long : length after ≡ 1025
   pub low : (v : ℕ) → 0 < v → v < w → getD after v 0 + i ≤ 1024
   pub more : (v : ℕ) → 0 < v → v < w → getD kinds i 0 ≡ getD kinds (i + v) 0 → getD after v 0 ≡ getD before v 0 + 1
   pub none : (v : ℕ) → 0 < v → v < w → (getD kinds i 0 ≡ getD kinds (i + v) 0 → ⊥) → getD after v 0 ≡ 0
   pub later : (v : ℕ) → w ≤ v → getD after v 0 ≡ getD before v 0
 
-pub grown-none : (kinds : List ℕ) (i : ℕ) (before : List ℕ) → length before ≡ 1025 → Grown kinds i 1 before before
+pub grown-none : (kinds : List ℕ) (i : ℕ) (before : List ℕ) → length before ≡ 1025 → GrownBelow kinds i 1 before before
 grown-none kinds i before long =
     record {
       long = long;
@@ -67,10 +67,10 @@ grown-none kinds i before long =
       later = λ v h. refl;
     }
 
-module _ (kinds : List ℕ) (i w : ℕ) (before after : List ℕ) (g : Grown kinds i w before after) (short : w < 1025) where
+module _ (kinds : List ℕ) (i w : ℕ) (before after : List ℕ) (g : GrownBelow kinds i w before after) (short : w < 1025) where
   -- One width more.
   pub grown-more : (x : ℕ) → getD before w 0 + i < 1024 → (getD kinds i 0 ≡ getD kinds (i + w) 0 → x ≡ getD after w 0 + 1)
-      → ((getD kinds i 0 ≡ getD kinds (i + w) 0 → ⊥) → x ≡ 0) → Grown kinds i (w + 1) before (set after w x)
+      → ((getD kinds i 0 ≡ getD kinds (i + w) 0 → ⊥) → x ≡ 0) → GrownBelow kinds i (w + 1) before (set after w x)
   grown-more x h p q =
       let same = g .later w (omega arith) in
       let few : x + i ≤ 1024 =

@@ -101,7 +101,7 @@ pub fn put_number(s: &mut [usize], i: usize, x: usize) {
 }
 
 // The first commands of a string, where command k starts at starts[k].
-pub fn front<'a>(string: &'a [u8], starts: &[usize], depth: usize) -> &'a [u8] {
+pub fn so_far<'a>(string: &'a [u8], starts: &[usize], depth: usize) -> &'a [u8] {
     let end = number_at(starts, depth);
     if end <= string.len() {
         return &string[0..end];

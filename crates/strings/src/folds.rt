@@ -3,9 +3,9 @@
 use crate::command::Command;
 use crate::command::byte_at;
 use crate::command::command_at;
-use crate::command::front;
 use crate::command::number_at;
 use crate::command::put_number;
+use crate::command::so_far;
 use crate::search::Search;
 use crate::search::deeper;
 use crate::search::left;
@@ -21,15 +21,15 @@ use reader::read_fold;
 
 // What the last command of a string leads to: whether the string still follows the run, the place reached in the run, the
 // place that what is open may reach, and the number of the command that opened it, 0 for none.
-struct Reached {
+struct Trace {
     alive: bool,
     at: usize,
     bound: usize,
     top: usize,
 }
 
-fn dead() -> Reached {
-    Reached {
+fn dead() -> Trace {
+    Trace {
         alive: false,
         at: 0,
         bound: 0,
@@ -37,8 +37,8 @@ fn dead() -> Reached {
     }
 }
 
-fn alive(at: usize, bound: usize, top: usize) -> Reached {
-    Reached {
+fn alive(at: usize, bound: usize, top: usize) -> Trace {
+    Trace {
         alive: true,
         at,
         bound,
@@ -47,14 +47,14 @@ fn alive(at: usize, bound: usize, top: usize) -> Reached {
 }
 
 // What the first k commands of a string lead to stands in three entries of `trail`, from 3 × k on.
-fn reached_at(trail: &[usize], k: usize) -> Reached {
+fn trace_at(trail: &[usize], k: usize) -> Trace {
     if k < trail.len() / 3 {
         return alive(trail[3 * k], trail[3 * k + 1], trail[3 * k + 2]);
     }
     dead()
 }
 
-fn put_reached(trail: &mut [usize], k: usize, r: Reached) {
+fn put_trace(trail: &mut [usize], k: usize, r: Trace) {
     if k < trail.len() / 3 {
         put_number(trail, 3 * k, r.at);
         put_number(trail, 3 * k + 1, r.bound);
@@ -63,7 +63,7 @@ fn put_reached(trail: &mut [usize], k: usize, r: Reached) {
 }
 
 // A step or the open of a group must stand in the run.
-fn node(run: &[u8], c: Command, r: Reached, top: usize) -> Reached {
+fn node(run: &[u8], c: Command, r: Trace, top: usize) -> Trace {
     let at = r.at;
     if at < r.bound {
         if at < run.len() {
@@ -78,7 +78,7 @@ fn node(run: &[u8], c: Command, r: Reached, top: usize) -> Reached {
 }
 
 // The close of a group too.
-fn group_end(run: &[u8], at: usize, outer: Reached) -> Reached {
+fn group_end(run: &[u8], at: usize, outer: Trace) -> Trace {
     if at < run.len() {
         if run[at] == Format::GROUP_END {
             return alive(at + 1, outer.bound, outer.top);
@@ -88,7 +88,7 @@ fn group_end(run: &[u8], at: usize, outer: Reached) -> Reached {
 }
 
 // The copies of a repeat share the room that is left, and each needs two bytes for each of its siblings.
-fn repeat(c: Command, r: Reached, top: usize) -> Reached {
+fn repeat(c: Command, r: Trace, top: usize) -> Trace {
     let count = wide(c.a);
     if count < 2 {
         return dead();
@@ -105,7 +105,7 @@ fn repeat(c: Command, r: Reached, top: usize) -> Reached {
 }
 
 // The close of a repeat: the copies must stand in the run. The body began where its open was reached.
-fn repeat_end(run: &[u8], count: u8, at: usize, outer: Reached) -> Reached {
+fn repeat_end(run: &[u8], count: u8, at: usize, outer: Trace) -> Trace {
     let from = outer.at;
     if run.len() < at {
         return dead();
@@ -132,16 +132,16 @@ fn close(
     run: &[u8],
     string: &[u8],
     kind: u8,
-    r: Reached,
+    r: Trace,
     starts: &[usize],
     trail: &[usize],
-) -> Reached {
+) -> Trace {
     let top = r.top;
     if top == 0 {
         return dead();
     }
     let opened = command_at(string, number_at(starts, top - 1));
-    let outer = reached_at(trail, top - 1);
+    let outer = trace_at(trail, top - 1);
     if kind == Format::GROUP_END {
         if opened.kind == Format::GROUP {
             return group_end(run, r.at, outer);
@@ -155,12 +155,12 @@ fn close(
 }
 
 // What the last of `depth` commands leads to.
-fn follow(run: &[u8], string: &[u8], depth: usize, starts: &[usize], trail: &[usize]) -> Reached {
+fn follow(run: &[u8], string: &[u8], depth: usize, starts: &[usize], trail: &[usize]) -> Trace {
     if depth == 0 {
         return alive(0, run.len(), 0);
     }
     let c = command_at(string, number_at(starts, depth - 1));
-    let r = reached_at(trail, depth - 1);
+    let r = trace_at(trail, depth - 1);
     if c.kind == Format::STEP {
         return node(run, c, r, r.top);
     }
@@ -246,12 +246,12 @@ fn weigh(
     starts: &mut [usize],
     pool: &mut [u8],
 ) -> Search {
-    let j = judge(run, front(string, starts, s.depth), at);
+    let j = judge(run, so_far(string, starts, s.depth), at);
     if j == 1 {
         return deeper(s, string, starts);
     }
     if j == 2 {
-        return keep(s, run, front(string, starts, s.depth), pool);
+        return keep(s, run, so_far(string, starts, s.depth), pool);
     }
     spent(s)
 }
@@ -273,7 +273,7 @@ fn turn(
     if !r.alive {
         return spent(s);
     }
-    put_reached(trail, s.depth, r);
+    put_trace(trail, s.depth, r);
     weigh(run, r.at, s, string, starts, pool)
 }
 

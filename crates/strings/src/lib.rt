@@ -6,9 +6,9 @@ mod search;
 
 pub use command::Command;
 pub use command::command_at;
-pub use command::front;
 pub use command::number_at;
 pub use command::put_number;
+pub use command::so_far;
 pub use folds::fold_at;
 pub use folds::gather;
 pub use search::Search;

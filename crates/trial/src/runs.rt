@@ -9,11 +9,11 @@ use reader::read_run;
 use strings::Search;
 use strings::command_at;
 use strings::deeper;
-use strings::front;
 use strings::left;
 use strings::number_at;
 use strings::put_number;
 use strings::retry;
+use strings::so_far;
 use strings::spent;
 use strings::start;
 
@@ -73,7 +73,7 @@ fn look(
     if most < n {
         return 0;
     }
-    judge(front(string, starts, s.depth))
+    judge(so_far(string, starts, s.depth))
 }
 
 // A run is tried.
@@ -117,7 +117,7 @@ fn try_all(
     let mut turns: usize = 100000000;
     while 0 < turns {
         let seen = look(s, groups, most, string, starts, nodes);
-        sums = tried(sums, settings, seen, front(string, starts, s.depth));
+        sums = tried(sums, settings, seen, so_far(string, starts, s.depth));
         s = turn(s, seen, string, starts);
         turns = left(turns, over(s, sums));
     }

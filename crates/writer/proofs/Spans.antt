@@ -253,12 +253,12 @@ Siblings s b offsets numbers m =
     (m ≡ siblings (tree-of s)) × (((length offsets ≡ 1025) × Placed s offsets) × ((length numbers ≡ 1025) × Numbered b (tree-of s) numbers))
 
 -- A sequence is the span of all its siblings.
-pub record Listed {s : List ℕ} {b : ℕ} {choices : List ℕ} (z : WriteReady s b choices) (offsets numbers : List ℕ) (m : ℕ) : Type 0 where
+pub record SpanListed {s : List ℕ} {b : ℕ} {choices : List ℕ} (z : WriteReady s b choices) (offsets numbers : List ℕ) (m : ℕ) : Type 0 where
   pub span : SpanReady s choices offsets numbers 0 m
   pub same : span-bytes span ≡ fold-bytes z
 
 pub listed : {s : List ℕ} {b : ℕ} {choices : List ℕ} (z : WriteReady s b choices) (offsets numbers : List ℕ) (m : ℕ)
-    → Siblings s b offsets numbers m → Listed z offsets numbers m
+    → Siblings s b offsets numbers m → SpanListed z offsets numbers m
 listed {s} {b} {choices} z offsets numbers m all =
     let t = tree-of s in
     let e : getD numbers (siblings t) 0 ≡ b = all .1 .1 .1 .numbered (siblings t) (omega arith) ∙ number-last b t (z .spelled .run (z .allowed) .plain) in

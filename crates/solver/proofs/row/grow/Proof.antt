@@ -4,13 +4,13 @@ use mathlib.Core.Logic.{⊎-elim}
 use Prim.Native.Nat.{_+_, _-_, _≤_}
 use native.Mathlib.Omega.{arith}
 use lib.ListN.{length-set}
-use Rattle.solver.proofs.Growths.{Grown, grown-none, grown-more, grown-all, Farthest, farthest-none, farthest-raised, farthest-kept, farthest-most}
+use Rattle.solver.proofs.Growths.{GrownBelow, grown-none, grown-more, grown-all, Farthest, farthest-none, farthest-raised, farthest-kept, farthest-most}
 use Rattle.solver.proofs.row.grow.Statement.{statement}
 use Rattle.solver.proofs.row.grow.Tie as tie
 
 abbrev Inv-loop : tie.InvT-loop
 Inv-loop kinds i m matches₀ kind most₀ far₀ w₀ matches most far w =
-    (1 ≤ w) × (i + w ≤ m) × Farthest w matches most far × Grown kinds i w matches₀ matches
+    (1 ≤ w) × (i + w ≤ m) × Farthest w matches most far × GrownBelow kinds i w matches₀ matches
 
 abbrev μ-loop : tie.MeasureT-loop
 μ-loop kinds i m matches₀ kind most₀ far₀ w₀ matches most far w = m - w

@@ -23,8 +23,8 @@ loop-holds c = search needs
 look-requires : tie.Need-look-requires Inv-loop μ-loop
 look-requires c κs = search needs
 
-front-requires : tie.Need-front-requires Inv-loop μ-loop
-front-requires c κs = search needs
+so-far-requires : tie.Need-so-far-requires Inv-loop μ-loop
+so-far-requires c κs = search needs
 
 tried-requires : tie.Need-tried-requires Inv-loop μ-loop
 tried-requires c κs = search needs
@@ -71,7 +71,7 @@ try-all-spec =
     nothing-requires
     loop-holds
     look-requires
-    front-requires
+    so-far-requires
     tried-requires
     turn-requires
     over-requires
