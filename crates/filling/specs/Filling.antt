@@ -1,4 +1,4 @@
--- What filling the table rests on: the prices, one sequence, and the lent arrays that it is worked in.
+-- What filling the table rests on, the prices, one sequence and the lent arrays that it is worked in, and what is then entered.
 use mathlib.Core.Path.{_≡_}
 use mathlib.Core.List.{List}
 use Prim.Native.Nat.{ℕ, _+_, _-_, _<_, _≤_}

@@ -10,7 +10,7 @@ use Rattle.format.specs.Limits.{cells}
 use Rattle.format.specs.Forest.{Forest, group, Plain, Allowed, siblings, nodes}
 use Rattle.optimum.specs.Cheapest.{Run, front, back}
 use Rattle.optimum.proofs.Cut.{back-whole, back-back, siblings-piece, siblings-le-nodes, nodes-cut, run-front, run-back}
-use Rattle.table.specs.Table.{cell, number, stretch, Falling, Stored}
+use Rattle.table.specs.Table.{cell, number, Falling, Stored}
 use Rattle.table.proofs.Cells.{cell-in, cell-same}
 
 -- Numbers that fall.

@@ -10,7 +10,7 @@ use Rattle.optimum.specs.Cheapest.{Run, front, back, Power}
 use Rattle.optimum.proofs.Cut.{front-front, back-piece, siblings-piece, run-front, run-back}
 use Rattle.optimum.proofs.Powers.{reach, front-less, shift-from-power}
 use Rattle.table.specs.Table.{number, stretch}
-use Rattle.table.specs.Used.{Used, to-end, again, itself, deeper, UsedFilled}
+use Rattle.table.specs.Used.{Used, to-end, again, deeper, UsedFilled}
 
 -- What follows in a used stretch is used: it goes up to the same end, or stands again as far on.
 pub used-from : (t : Forest) (i j k : ℕ) → i ≤ k → k ≤ j → Used t i (j - i) → Used t k (j - k)

@@ -4,7 +4,7 @@ use mathlib.Core.Bool.{cond}
 use mathlib.Core.List.{List, [], _∷_}
 use Prim.Native.Nat.{ℕ, zero, suc, _-_, _<_, _≤_}
 use lib.ListN.{length, getD}
-use Rattle.format.specs.Forest.{Forest, end, Allowed, siblings, nodes, bytes}
+use Rattle.format.specs.Forest.{Forest, Allowed, siblings, bytes}
 use Rattle.format.specs.Machine.{is-node}
 use Rattle.format.specs.Tree.{tree-of}
 use Rattle.optimum.specs.Cheapest.{Run, front, node}

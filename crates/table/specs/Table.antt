@@ -6,7 +6,7 @@ use mathlib.Core.List.{List}
 use Prim.Native.Nat.{ℕ, _+_, _-_, _*_, _/_, _<_, _≤_}
 use lib.ListN.{length, getD}
 use Rattle.format.specs.Limits.{cells, Prices}
-use Rattle.format.specs.Forest.{Forest, end, Allowed, siblings, nodes, bytes}
+use Rattle.format.specs.Forest.{Forest, Allowed, siblings, nodes}
 use Rattle.table.specs.Keys.{packed, key}
 use Rattle.optimum.specs.Cheapest.{front, back, usual, Least, best-cost}
 
