@@ -9,6 +9,7 @@ use Rattle.format.specs.Tree.{tree-of}
 use Rattle.optimum.specs.Cheapest.{node, best-cost}
 use Rattle.table.specs.Table.{Kept}
 use Rattle.table.specs.Listing.{Spelled}
+use Rattle.table.specs.Nodes.{SpanListed}
 use Rattle.solver.specs.Rows.{Entered, Priced, KeysReady}
 use Rattle.filling.specs.declared.level.Level.{Level}
 
@@ -47,13 +48,26 @@ pub record LevelReady (s : List ℕ) (b limit : ℕ) (table prices costs choices
   pub choice-room : cells (b + nodes (tree-of s)) ≤ length choices
   pub prepared : Prepared table prices
 
+-- The nodes of the run are listed, and among them the sequence, where the level says that it stands.
+pub record LevelListed (places nexts s : List ℕ) (level : Level) : Type 0 where
+  pub long-places : length places ≡ 1025
+  pub long-nexts : length nexts ≡ 1025
+  pub listed : SpanListed places nexts (level .span) (tree-of s)
+
+-- Where what the group of number q holds stands, and the width limit: from the group's first node on, which the next lower number has.
+pub record LevelInside (places : List ℕ) (q next limit : ℕ) (r : Level) : Type 0 where
+  pub starts : r .span .start ≡ getD places (q - 1) 0
+  pub begins : r .span .first + 1 ≡ q
+  pub ends : r .span .behind ≡ next
+  pub limited : r .limit ≡ limit
+
 -- The sequence is entered with all below it, and nothing outside its interval has changed.
 abbrev pub LevelFilled : (s : List ℕ) (level : Level) (table prices costs choices : List ℕ) → Type 0
 LevelFilled s level table prices costs choices =
-    Filled (at-most (level .limit)) (prices-of table prices) (level .behind) (tree-of s) costs choices
+    Filled (at-most (level .limit)) (prices-of table prices) (level .span .behind) (tree-of s) costs choices
 
 abbrev pub LevelKept : (s : List ℕ) (level : Level) (before after : List ℕ) → Type 0
-LevelKept s level before after = Kept (level .behind) (nodes (tree-of s)) before after
+LevelKept s level before after = Kept (level .span .behind) (nodes (tree-of s)) before after
 
 -- The cost of sibling i by itself, where the sequences inside the groups are entered.
 pub record Single (s table costs numbers : List ℕ) (i r : ℕ) : Type 0 where

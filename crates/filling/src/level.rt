@@ -1,25 +1,29 @@
 // Filling the table: the stretches of one sequence, after the sequences inside its groups.
 use crate::own::own_cost;
 use format::Format;
-use reader::node_at;
 use solver::Row;
 use solver::enter_row;
 use solver::grow;
+use table::Span;
 use table::classify;
-use table::count_nodes;
 use table::list_siblings;
+use table::part_of;
+ghost use Prim.Native.Nat.{_<_};
+ghost use lib.ListN.{length};
 ghost use Rattle.format.specs.Forest.{at-most};
 ghost use Rattle.format.specs.Tree.{tree-of};
-ghost use Rattle.filling.specs.Filling.{Below, prices-of, LevelReady, LevelFilled, LevelKept, Scratch};
+ghost use Rattle.filling.specs.Filling.{Below, prices-of, LevelReady, LevelListed, LevelInside, LevelFilled, LevelKept, Scratch};
 
-// Where a sequence stands: how many nodes of the run are behind it, and how wide a repeat may be.
+// Where a sequence stands in its run, and how wide a repeat may be.
 pub struct Level {
-    pub behind: usize,
+    pub span: Span,
     pub limit: usize,
 }
 
 // Enters all stretches of the sequence s, from the last sibling to the first. The sequences inside its groups are entered already.
 pub fn enter_level(
+    places: &[usize],
+    nexts: &[usize],
     s: &[u8],
     level: Level,
     table: &[u16],
@@ -32,14 +36,16 @@ pub fn enter_level(
     costs: &mut [u32],
     choices: &mut [u32],
 )
-    requires { ⌜ LevelReady (now s) (level .behind) (level .limit) (now table) (now prices) (now costs) (now choices) ⌝ }
-    requires { ⌜ Below (at-most (level .limit)) (prices-of (now table) (now prices)) (level .behind) (tree-of (now s)) (now costs) (now choices) ⌝ }
+    requires { ⌜ LevelReady (now s) (level .span .behind) (level .limit) (now table) (now prices) (now costs) (now choices) ⌝ }
+    requires { ⌜ Below (at-most (level .limit)) (prices-of (now table) (now prices)) (level .span .behind) (tree-of (now s)) (now costs) (now choices) ⌝ }
     requires { ⌜ Scratch (now offsets) (now numbers) (now kinds) (now matches) (now keys) ⌝ }
+    requires { ⌜ LevelListed (now places) (now nexts) (now s) level ⌝ }
     ensures scratch { λ _. ⌜ Scratch (now (offsets .exit)) (now (numbers .exit)) (now (kinds .exit)) (now (matches .exit)) (now (keys .exit)) ⌝ }
     ensures entered { λ _. ⌜ LevelFilled (now (s .entry)) level (now (table .entry)) (now (prices .entry)) (now (costs .exit)) (now (choices .exit)) ⌝ }
     ensures kept { λ _. ⌜ LevelKept (now (s .entry)) level (now (costs .entry)) (now (costs .exit)) × LevelKept (now (s .entry)) level (now (choices .entry)) (now (choices .exit)) ⌝ }
 {
-    let m = list_siblings(s, level.behind, offsets, numbers);
+    let stands = level.span;
+    let m = list_siblings(places, nexts, s, stands, offsets, numbers);
     classify(s, offsets, m, kinds);
     let mut i = m;
     while i > 0 {
@@ -59,8 +65,23 @@ pub fn enter_level(
     }
 }
 
+// Where what the group of number q holds stands: it is never empty, so it starts at the node of the next lower number.
+fn inside(places: &[usize], q: usize, next: usize, limit: usize) -> Level
+    requires { ⌜ (0 < q) × (q < length (now places)) ⌝ }
+    ensures { λ r. ⌜ LevelInside (now (places .entry)) q next limit r ⌝ }
+{
+    let span = Span {
+        start: places[q - 1],
+        first: q - 1,
+        behind: next,
+    };
+    Level { span, limit }
+}
+
 // Enters the whole tree that s spells: the parts of its groups first, by a call for each, and then its own stretches.
 pub fn enter_tree(
+    places: &[usize],
+    nexts: &[usize],
     s: &[u8],
     level: Level,
     table: &[u16],
@@ -73,25 +94,24 @@ pub fn enter_tree(
     costs: &mut [u32],
     choices: &mut [u32],
 )
-    requires { ⌜ LevelReady (now s) (level .behind) (level .limit) (now table) (now prices) (now costs) (now choices) ⌝ }
+    requires { ⌜ LevelReady (now s) (level .span .behind) (level .limit) (now table) (now prices) (now costs) (now choices) ⌝ }
     requires { ⌜ Scratch (now offsets) (now numbers) (now kinds) (now matches) (now keys) ⌝ }
+    requires { ⌜ LevelListed (now places) (now nexts) (now s) level ⌝ }
     ensures scratch { λ _. ⌜ Scratch (now (offsets .exit)) (now (numbers .exit)) (now (kinds .exit)) (now (matches .exit)) (now (keys .exit)) ⌝ }
     ensures entered { λ _. ⌜ LevelFilled (now (s .entry)) level (now (table .entry)) (now (prices .entry)) (now (costs .exit)) (now (choices .exit)) ⌝ }
     ensures kept { λ _. ⌜ LevelKept (now (s .entry)) level (now (costs .entry)) (now (costs .exit)) × LevelKept (now (s .entry)) level (now (choices .entry)) (now (choices .exit)) ⌝ }
 {
-    let mut at = 0;
-    let mut n = level.behind + count_nodes(s);
-    while at < s.len() {
-        let part = node_at(s, at);
-        let end = at + part.len();
-        n -= count_nodes(part);
-        if s[at] == Format::GROUP {
+    let span = level.span;
+    let mut q = span.first;
+    while span.behind < q {
+        let next = nexts[q];
+        let part = part_of(places, nexts, s, span, q);
+        if part[0] == Format::GROUP {
             enter_tree(
-                &s[at + 2..end - 1],
-                Level {
-                    behind: n,
-                    limit: level.limit,
-                },
+                places,
+                nexts,
+                &part[2..part.len() - 1],
+                inside(places, q, next, level.limit),
                 table,
                 prices,
                 offsets,
@@ -103,9 +123,11 @@ pub fn enter_tree(
                 choices,
             );
         }
-        at = end;
+        q = next;
     }
     enter_level(
+        places,
+        nexts,
         s,
         level,
         table,

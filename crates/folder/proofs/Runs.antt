@@ -1,6 +1,6 @@
 -- The steps that fold an accepted run: its filled table, the answer, and the table cleared.
 use mathlib.Core.Path.{_≡_, refl, sym, ap, _∙_}
-use mathlib.Core.List.{List, _++_}
+use mathlib.Core.List.{List, [], _++_, append-nil}
 use Prim.Native.Nat.{ℕ, _+_, _<_, _≤_}
 use native.Mathlib.Nat.{zero-add}
 use native.Mathlib.Decide.{ℕ-discrete}
@@ -9,7 +9,7 @@ use lib.ListN.{length, getD, drop, replicate, length-drop}
 use borrow.Author.Tests.{lt-ltb, le-ltb}
 use lib.Seq.{sets-eq, getD-drop, ext-getD}
 use Rattle.format.specs.Limits as limits
-use Rattle.format.specs.Forest.{Forest, end, step, group, repeat, Plain, siblings, nodes, bytes, at-most}
+use Rattle.format.specs.Forest.{Forest, end, Plain, siblings, nodes, bytes, at-most}
 use Rattle.format.specs.Tree.{tree-of}
 use Rattle.format.specs.declared.Folded.{Folded}
 use Rattle.optimum.specs.Cheapest.{back, cheapest, best-cost}
@@ -20,7 +20,8 @@ use Rattle.format.specs.Limits.{cells}
 use Rattle.table.specs.Table.{Kept, cell, number, stretch}
 use Rattle.filling.specs.Filling.{prices-of, LevelReady}
 use Rattle.writer.specs.Writing.{WriteReady, FoldLength, FoldWritten}
-use Rattle.folder.specs.inner.Run.{RunFilled, RunWritten, RunFolded}
+use Rattle.writer.proofs.Spans.{some-siblings, no-nodes}
+use Rattle.folder.specs.inner.Run.{RunFilled, RunListed, RunWritten, RunFolded}
 use Rattle.folder.specs.Folding.{room-answer, room-output}
 use Rattle.table.proofs.Cells.{cell-in}
 use Rattle.table.proofs.Tables.{number-first, number-last}
@@ -34,39 +35,33 @@ kept-tail n xs ys k =
     rw (getD-drop m ys i 0, getD-drop m xs i 0)
     (k .outside (m + i) (λ p q a b c e. let z = cell-in p q n b (omega arith) in omega arith)))
 
--- The whole sequence as a stretch; a run with a node has a sibling.
+-- The whole sequence as a stretch.
 whole-stretch : (t : Forest) → Plain t → stretch t 0 (siblings t) ≡ t
 unfolding back
 whole-stretch t p = front-whole (siblings t) t p refl
-
-has-siblings : (t : Forest) → Plain t → 0 < nodes t → 0 < siblings t
-unfolding nodes siblings
-has-siblings end p l = l
-has-siblings (step l f) p h = omega arith
-has-siblings (group l b f) p h = omega arith
-has-siblings (repeat h w b f) p l = absurd p
-
-no-nodes : (t : Forest) → Plain t → nodes t ≡ 0 → t ≡ end
-unfolding nodes
-no-nodes end p e = refl
-no-nodes (step l f) p e = absurd (omega arith)
-no-nodes (group l b f) p e = absurd (omega arith)
-no-nodes (repeat h w b f) p e = absurd p
 
 -- What the writer rests on, and the cost of the whole.
 module _ {s : List ℕ} {n limit : ℕ} {P : limits.Prices} {costs choices : List ℕ} (w : RunFilled s n limit P costs choices) where
   abbrev f : List ℕ
   f = bytes (cheapest (at-most limit) P (tree-of s))
 
-  pub write-ready : WriteReady s 0 choices
-  write-ready =
+  pub write-ready : {places nexts : List ℕ} → RunListed s places nexts → WriteReady s places nexts choices n 0
+  write-ready l =
       record {
+        tree = tree-of s;
+        is-run = w .spelled .run;
+        place = 0;
+        rest = [];
+        stands = rw append-nil (sym (w .spelled .form));
+        long-places = l .long-places;
+        long-nexts = l .long-nexts;
+        listed = l .listed;
+        counted = omega (arith, w .all);
+        total = w .few;
+        room = w .choice-room;
         allowed = at-most limit;
         prices-are = P;
         costs = costs;
-        spelled = w .spelled;
-        total = omega (arith, w .all, w .few);
-        room = rw (zero-add (nodes (tree-of s)), w .all) (w .choice-room);
         filled = w .filled;
       }
 
@@ -80,18 +75,19 @@ module _ {s : List ℕ} {n limit : ℕ} {P : limits.Prices} {costs choices : Lis
             let z : t ≡ end = no-nodes t (run .plain) (w .all ∙ e) in
             none e ∙ (sym (best-cost-end (at-most limit) P) ∙ ap (best-cost (at-most limit) P) (sym z))
         | no e ↦
-            let some-siblings : 0 < m = has-siblings t (run .plain) (omega (arith, w .all)) in
-            let x = w .filled .entry 0 t itself 0 m some-siblings (omega arith) (to-end (omega arith)) in
+            let more : 0 < m = some-siblings t (run .plain) (omega (arith, w .all)) in
+            let x = w .filled .entry 0 t itself 0 m more (omega arith) (to-end (omega arith)) in
             let first : number 0 t 0 ≡ n = number-first 0 t ∙ (zero-add (nodes t) ∙ w .all) in
             let last : number 0 t (0 + m) ≡ 0 = ap (number 0 t) (zero-add m) ∙ number-last 0 t (run .plain) in
             let c : getD costs (cell 0 n) 0 ≡ best-cost (at-most limit) P (stretch t 0 m) = rw (first, last) at (x .costs) in
             some (omega arith) ∙ (c ∙ ap (best-cost (at-most limit) P) (whole-stretch t (run .plain)))
       ]
 
-  module _ (len : ℕ) (is-length : FoldLength s 0 choices len) (out : List ℕ) where
+  module _ {places nexts : List ℕ} (listed : RunListed s places nexts) (len : ℕ) (is-length : FoldLength s places nexts choices n 0 len)
+      (out : List ℕ) where
     len-is : len ≡ length f
     unfolding write-ready
-    len-is = is-length .is-length write-ready
+    len-is = is-length .is-length (write-ready listed)
 
     pub answer-short : length out < len → (r : Folded) → r ≡ record { refusal = 14; place = 0; length = 0; cost = 0 } → (c : ℕ)
         → (r ≡ room-answer (length out) f c) × (out ≡ room-output f out)
@@ -99,32 +95,35 @@ module _ {s : List ℕ} {n limit : ℕ} {P : limits.Prices} {costs choices : Lis
         let e = lt-ltb (length out) (length f) (omega (arith, len-is)) in
         (q ∙ rw e, rw e)
 
-    pub answer-whole : len ≤ length out → (c : ℕ) → c ≡ best-cost (at-most limit) P (tree-of s) → (out′ : List ℕ) (r : ℕ) → FoldWritten s 0 choices out out′ r
+    pub answer-whole : len ≤ length out → (c : ℕ) → c ≡ best-cost (at-most limit) P (tree-of s) → (out′ : List ℕ) (r : ℕ)
+        → FoldWritten s places nexts choices n 0 out out′ r
         → (record { refusal = 0; place = 0; length = len; cost = c } ≡ room-answer (length out) f (best-cost (at-most limit) P (tree-of s)))
         × (out′ ≡ room-output f out)
     unfolding write-ready
     answer-whole l c is-cost out′ r v =
         let e = le-ltb (length out) (length f) (omega (arith, len-is)) in
         let all = sets-eq f out 0 (omega (arith, len-is)) in
-        (rw (e, len-is, is-cost), rw e (v .written write-ready ∙ rw zero-add at all))
+        (rw (e, len-is, is-cost), rw e (v .written (write-ready listed) ∙ rw zero-add at all))
 
 -- The answer holds for whatever limit and prices the table was filled.
-pub written-short : {s : List ℕ} {n : ℕ} {costs choices : List ℕ} (len : ℕ) → FoldLength s 0 choices len → (out : List ℕ) → length out < len → (r : Folded)
-    → r ≡ record { refusal = 14; place = 0; length = 0; cost = 0 } → RunWritten s n costs choices out out r
-written-short len is-length out l r q =
-    record {
-      answered = λ limit P w. answer-short w len is-length out l r q _ .0;
-      written = λ limit P w. answer-short w len is-length out l r q 0 .1;
-    }
+module _ {s places nexts : List ℕ} (listed : RunListed s places nexts) {n : ℕ} {costs choices : List ℕ} (len : ℕ)
+    (is-length : FoldLength s places nexts choices n 0 len) (out : List ℕ) where
+  pub written-short : length out < len → (r : Folded) → r ≡ record { refusal = 14; place = 0; length = 0; cost = 0 }
+      → RunWritten s n costs choices out out r
+  written-short l r q =
+      record {
+        answered = λ limit P w. answer-short w listed len is-length out l r q _ .0;
+        written = λ limit P w. answer-short w listed len is-length out l r q 0 .1;
+      }
 
-pub written-whole : {s : List ℕ} {n : ℕ} {costs choices : List ℕ} (len : ℕ) → FoldLength s 0 choices len → (out : List ℕ) → len ≤ length out → (c : ℕ)
-    → (n ≡ 0 → c ≡ 0) → (0 < n → c ≡ getD costs (cell 0 n) 0) → (out′ : List ℕ) (r : ℕ) → FoldWritten s 0 choices out out′ r
-    → RunWritten s n costs choices out out′ (record { refusal = 0; place = 0; length = len; cost = c })
-written-whole len is-length out l c none some out′ r v =
-    record {
-      answered = λ limit P w. answer-whole w len is-length out l c (whole-is w c none some) out′ r v .0;
-      written = λ limit P w. answer-whole w len is-length out l c (whole-is w c none some) out′ r v .1;
-    }
+  pub written-whole : len ≤ length out → (c : ℕ) → (n ≡ 0 → c ≡ 0) → (0 < n → c ≡ getD costs (cell 0 n) 0) → (out′ : List ℕ) (r : ℕ)
+      → FoldWritten s places nexts choices n 0 out out′ r
+      → RunWritten s n costs choices out out′ (record { refusal = 0; place = 0; length = len; cost = c })
+  written-whole l c none some out′ r v =
+      record {
+        answered = λ limit P w. answer-whole w listed len is-length out l c (whole-is w c none some) out′ r v .0;
+        written = λ limit P w. answer-whole w listed len is-length out l c (whole-is w c none some) out′ r v .1;
+      }
 
 -- The table is filled and the fold written; cleared, it leaves all as the folder says.
 module _ {s : List ℕ} {n limit : ℕ} {table prices costs choices : List ℕ} (ready : LevelReady s 0 limit table prices costs choices) (all : nodes (tree-of s) ≡ n)

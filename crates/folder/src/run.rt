@@ -1,11 +1,13 @@
-// An accepted run: its table is filled, the fold is measured and written by it, and the table is cleared.
+// An accepted run: its nodes are listed, its table is filled, the fold is measured and written by both, and the table is cleared.
 use filling::Level;
 use filling::enter_tree;
 use format::Folded;
 use table::Lists;
+use table::Span;
 use table::clear;
 use table::entries;
 use table::entry;
+use table::list_nodes;
 use table::widen;
 use writer::fold_length;
 use writer::put_fold;
@@ -15,12 +17,12 @@ ghost use lib.ListN.{length, getD};
 ghost use Rattle.format.specs.Limits.{Prices, cells};
 ghost use Rattle.format.specs.Forest.{nodes, at-most};
 ghost use Rattle.format.specs.Tree.{tree-of};
-ghost use Rattle.table.specs.Table.{Kept, cell};
+ghost use Rattle.table.specs.Table.{cell};
 ghost use Rattle.table.specs.Used.{UsedFilled};
-ghost use Rattle.filling.specs.Filling.{prices-of, LevelReady};
+ghost use Rattle.filling.specs.Filling.{prices-of, LevelReady, LevelListed, LevelKept};
 ghost use Rattle.writer.specs.Writing.{WriteReady, FoldWritten};
 ghost use Rattle.folder.specs.Folding.{short-work};
-ghost use Rattle.folder.specs.inner.Run.{RunFilled, RunWritten, RunFolded};
+ghost use Rattle.folder.specs.inner.Run.{RunFilled, RunListed, RunWritten, RunFolded};
 
 // A refusal: its values are 0.
 pub fn refuse(refusal: u8, place: usize) -> Folded
@@ -46,19 +48,22 @@ pub fn short_of(n: usize, costs: usize, choices: usize) -> bool
     choices < needed
 }
 
-// Fills the table of the whole run, with all stretches that a fold can use. The lists that each sequence is worked in are lent to
-// all of them in turn.
+// Fills the table of the run, whose nodes are listed, with all stretches that a fold can use. The lists that each sequence is worked
+// in are lent to all of them in turn.
 fn fill(
     run: &[u8],
-    limit: usize,
+    level: Level,
+    places: &[usize],
+    nexts: &[usize],
     table: &[u16],
     prices: &[u64],
     costs: &mut [u32],
     choices: &mut [u32],
 )
-    requires { ⌜ LevelReady (now run) 0 limit (now table) (now prices) (now costs) (now choices) ⌝ }
-    ensures filled { λ _. ⌜ UsedFilled (at-most limit) (prices-of (now (table .entry)) (now (prices .entry))) 0 (tree-of (now (run .entry))) (now (costs .exit)) (now (choices .exit)) ⌝ }
-    ensures kept { λ _. ⌜ Kept 0 (nodes (tree-of (now (run .entry)))) (now (costs .entry)) (now (costs .exit)) × Kept 0 (nodes (tree-of (now (run .entry)))) (now (choices .entry)) (now (choices .exit)) ⌝ }
+    requires { ⌜ LevelReady (now run) (level .span .behind) (level .limit) (now table) (now prices) (now costs) (now choices) ⌝ }
+    requires { ⌜ LevelListed (now places) (now nexts) (now run) level ⌝ }
+    ensures filled { λ _. ⌜ UsedFilled (at-most (level .limit)) (prices-of (now (table .entry)) (now (prices .entry))) (level .span .behind) (tree-of (now (run .entry))) (now (costs .exit)) (now (choices .exit)) ⌝ }
+    ensures kept { λ _. ⌜ LevelKept (now (run .entry)) level (now (costs .entry)) (now (costs .exit)) × LevelKept (now (run .entry)) level (now (choices .entry)) (now (choices .exit)) ⌝ }
 {
     let mut offsets = [0usize; Lists::LENGTH];
     let mut numbers = [0usize; Lists::LENGTH];
@@ -66,8 +71,10 @@ fn fill(
     let mut matches = [0usize; Lists::LENGTH];
     let mut keys = [0u64; Lists::LENGTH];
     enter_tree(
+        places,
+        nexts,
         run,
-        Level { behind: 0, limit },
+        level,
         table,
         prices,
         &mut offsets,
@@ -91,24 +98,40 @@ fn whole_cost(costs: &[u32], n: usize) -> u64
     widen(costs[entry(0, n)])
 }
 
-// Writes the fold of the whole run, behind which nothing follows, and answers its length.
-fn write_run(run: &[u8], choices: &[u32], out: &mut [u8]) -> usize
-    requires { ⌜ WriteReady (now run) 0 (now choices) ⌝ }
-    ensures { λ r. ⌜ FoldWritten (now (run .entry)) 0 (now (choices .entry)) (now (out .entry)) (now (out .exit)) r ⌝ }
+// Writes the fold of the whole run of n nodes, behind which nothing follows, and answers its length.
+fn write_run(
+    run: &[u8],
+    n: usize,
+    places: &[usize],
+    nexts: &[usize],
+    choices: &[u32],
+    out: &mut [u8],
+) -> usize
+    requires { ⌜ WriteReady (now run) (now places) (now nexts) (now choices) n 0 ⌝ }
+    ensures { λ r. ⌜ FoldWritten (now (run .entry)) (now (places .entry)) (now (nexts .entry)) (now (choices .entry)) n 0 (now (out .entry)) (now (out .exit)) r ⌝ }
 {
-    put_fold(run, 0, choices, out)
+    put_fold(run, places, nexts, choices, n, 0, out)
 }
 
-// The fold of a run whose n nodes are entered, written where it fits: its length is known before a byte is written.
-fn put_run(run: &[u8], n: usize, costs: &[u32], choices: &[u32], out: &mut [u8]) -> Folded
+// The fold of a run whose n nodes are listed and entered, written where it fits: its length is known before a byte is written.
+fn put_run(
+    run: &[u8],
+    n: usize,
+    places: &[usize],
+    nexts: &[usize],
+    costs: &[u32],
+    choices: &[u32],
+    out: &mut [u8],
+) -> Folded
+    requires { ⌜ RunListed (now run) (now places) (now nexts) ⌝ }
     requires { ⌜ ((limit : ℕ) × ((P : Prices) × RunFilled (now run) n limit P (now costs) (now choices))) ⌝ }
     ensures { λ r. ⌜ RunWritten (now (run .entry)) n (now (costs .entry)) (now (choices .entry)) (now (out .entry)) (now (out .exit)) r ⌝ }
 {
-    let length = fold_length(run, 0, choices);
+    let length = fold_length(run, places, nexts, choices, n, 0);
     if out.len() < length {
         return refuse(14, 0);
     }
-    write_run(run, choices, out);
+    write_run(run, n, places, nexts, choices, out);
     let cost = whole_cost(costs, n);
     Folded {
         refusal: 0,
@@ -133,8 +156,25 @@ pub fn fold_run(
     requires { ⌜ nodes (tree-of (now run)) ≡ n ⌝ }
     ensures { λ r. ⌜ RunFolded (now (run .entry)) n limit (prices-of (now (table .entry)) (now (prices .entry))) (now (costs .entry)) (now (costs .exit)) (now (choices .entry)) (now (choices .exit)) (now (out .entry)) (now (out .exit)) r ⌝ }
 {
-    fill(run, limit, table, prices, costs, choices);
-    let r = put_run(run, n, costs, choices, out);
+    let mut places = [0usize; Lists::LENGTH];
+    let mut nexts = [0usize; Lists::LENGTH];
+    list_nodes(run, n, &mut places, &mut nexts);
+    let span = Span {
+        start: 0,
+        first: n,
+        behind: 0,
+    };
+    fill(
+        run,
+        Level { span, limit },
+        &places,
+        &nexts,
+        table,
+        prices,
+        costs,
+        choices,
+    );
+    let r = put_run(run, n, &places, &nexts, costs, choices, out);
     let used = entries(n);
     clear(costs, used);
     clear(choices, used);

@@ -3,3 +3,6 @@ pub mod Cells
 pub mod Tables
 pub mod Listings
 pub mod Uses
+pub mod ByNumber
+pub mod Following
+pub mod Spots

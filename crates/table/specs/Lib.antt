@@ -3,3 +3,4 @@ pub mod Keys
 pub mod Table
 pub mod Listing
 pub mod Used
+pub mod Nodes

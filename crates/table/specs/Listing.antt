@@ -1,11 +1,9 @@
 -- The siblings of a sequence: where each stands in the bytes, its number, and the first one that equals it.
 use mathlib.Core.Path.{_≡_}
-use mathlib.Core.Bool.{cond}
-use mathlib.Core.List.{List, [], _∷_}
-use Prim.Native.Nat.{ℕ, zero, suc, _-_, _<_, _≤_}
+use mathlib.Core.List.{List}
+use Prim.Native.Nat.{ℕ, _<_, _≤_}
 use lib.ListN.{length, getD}
 use Rattle.format.specs.Forest.{Forest, Allowed, siblings, bytes}
-use Rattle.format.specs.Machine.{is-node}
 use Rattle.format.specs.Tree.{tree-of}
 use Rattle.optimum.specs.Cheapest.{Run, front, node}
 use Rattle.table.specs.Table.{number}
@@ -31,9 +29,3 @@ pub record FirstEqual (t : Forest) (i r : ℕ) : Type 0 where
 -- Each of the first m siblings has its first equal one.
 pub record Classed (t : Forest) (m : ℕ) (kinds : List ℕ) : Type 0 where
   pub class : (i : ℕ) → i < m → FirstEqual t i (getD kinds i 0)
-
--- The nodes that the commands of a run name, after `skip` operand bytes.
-unfoldable pub node-count : List ℕ → (skip : ℕ) → ℕ
-node-count [] k = 0
-node-count (c ∷ s) zero = cond (is-node c) (suc (node-count s 1)) (node-count s 0)
-node-count (c ∷ s) (suc k) = node-count s k

@@ -1,7 +1,8 @@
-// The table that folding fills: one entry for each stretch of siblings, in lent slices, and the listing of a sequence's siblings that
-// says which entry is whose.
+// The table that folding fills: one entry for each stretch of siblings, in lent slices, and the listings of a run's nodes and of a
+// sequence's siblings that say which entry is whose.
 mod keys;
 mod listing;
+mod nodes;
 mod triangle;
 
 use format::Format;
@@ -15,8 +16,10 @@ pub use keys::key_of;
 pub use keys::rest_key;
 pub use keys::width_digit;
 pub use listing::classify;
-pub use listing::count_nodes;
-pub use listing::list_siblings;
+pub use nodes::Span;
+pub use nodes::list_nodes;
+pub use nodes::list_siblings;
+pub use nodes::part_of;
 pub use triangle::clear;
 pub use triangle::entries;
 pub use triangle::entry;

@@ -1,62 +1,13 @@
-// The siblings of a sequence: where each starts in its bytes, and its number.
+// The siblings of a listed sequence: the part of each, and the first one that equals it.
 use check::same;
-use reader::node_at;
-use reader::opens_node;
 ghost use mathlib.Core.Path.{_≡_};
 ghost use mathlib.Core.Bool.{true};
-ghost use Prim.Native.Nat.{_+_, _<_, _≤_};
+ghost use Prim.Native.Nat.{_<_, _≤_};
 ghost use lib.ListN.{length};
-ghost use Rattle.format.specs.Forest.{siblings, nodes, bytes};
+ghost use Rattle.format.specs.Forest.{siblings, bytes};
 ghost use Rattle.format.specs.Tree.{tree-of};
 ghost use Rattle.optimum.specs.Cheapest.{node};
-ghost use Rattle.table.specs.Listing.{Spelled, Placed, Numbered, Classed, FirstEqual, node-count};
-
-// The nodes that the commands of a part name.
-pub fn count_nodes(s: &[u8]) -> usize
-    ensures { λ r. ⌜ (r ≡ node-count (now (s .entry)) 0) × (r ≤ length (now (s .entry))) ⌝ }
-{
-    let mut n = 0;
-    let mut skip = false;
-    let mut at = 0;
-    while at < s.len() {
-        if skip {
-            skip = false;
-        } else {
-            if opens_node(s[at]) {
-                n += 1;
-                skip = true;
-            }
-        }
-        at += 1;
-    }
-    n
-}
-
-// Lists the siblings of the sequence s, behind which b nodes of the run follow, and answers how many there are. The entry behind
-// the last one is the end.
-pub fn list_siblings(s: &[u8], b: usize, offsets: &mut [usize], numbers: &mut [usize]) -> usize
-    requires { ⌜ Spelled (now s) ⌝ }
-    requires { ⌜ b + nodes (tree-of (now s)) ≤ 1024 ⌝ }
-    requires { ⌜ (length (now offsets) ≡ 1025) × (length (now numbers) ≡ 1025) ⌝ }
-    ensures counted { λ r. ⌜ r ≡ siblings (tree-of (now (s .entry))) ⌝ }
-    ensures placed { λ _. ⌜ (length (now (offsets .exit)) ≡ 1025) × Placed (now (s .entry)) (now (offsets .exit)) ⌝ }
-    ensures numbered { λ _. ⌜ (length (now (numbers .exit)) ≡ 1025) × Numbered b (tree-of (now (s .entry))) (now (numbers .exit)) ⌝ }
-{
-    let mut m = 0;
-    let mut at = 0;
-    let mut n = b + count_nodes(s);
-    offsets[0] = 0;
-    numbers[0] = n;
-    while at < s.len() {
-        let part = node_at(s, at);
-        at += part.len();
-        n -= count_nodes(part);
-        m += 1;
-        offsets[m] = at;
-        numbers[m] = n;
-    }
-    m
-}
+ghost use Rattle.table.specs.Listing.{Spelled, Placed, Classed, FirstEqual};
 
 // The part of sibling i: a sub-slice of the sequence's bytes.
 pub fn sibling<'a>(s: &'a [u8], offsets: &[usize], i: usize) -> &'a [u8]

@@ -1,31 +1,30 @@
--- The cheapest fold of a span of siblings as bytes: by the table's choice, what stands first and what follows it; of a sibling
--- alone, by its bytes in the run; and how many these are at most.
+-- The cheapest fold of a sequence as bytes: by the table's choice, what stands first and what follows it; of a node alone, by its
+-- bytes in the run; and how many these are at most.
 use mathlib.Core.Path.{_≡_, refl, sym, ap, _∙_}
-use mathlib.Core.List.{List, [], _∷_, _++_}
+use mathlib.Core.List.{List, [], _∷_, _++_, append-assoc}
 use Prim.Native.Nat.{ℕ, zero, suc, _+_, _-_, _*_, _<_, _≤_}
-use native.Mathlib.Nat.{mul-le-mul, le-trans}
+use native.Mathlib.Nat.{mul-le-mul}
 use native.Mathlib.Decide.{decLe}
 use native.Mathlib.Omega.{arith}
-use lib.ListN.{length, length-append, length-drop, getD, take, drop}
-use lib.Seq.{take-at, drop-at, drop-drop, getD-drop}
+use lib.ListN.{length, length-append, length-drop, getD, drop}
+use lib.Seq.{drop-drop, getD-drop}
 use Rattle.format.specs.Limits.{Prices}
-use Rattle.format.specs.Forest.{Forest, end, step, group, repeat, join, siblings, nodes, bytes, two-bytes, Allowed, Sound, unroll}
-use Rattle.format.specs.Tree.{tree-of}
+use Rattle.format.specs.Forest.{Forest, end, step, group, repeat, join, siblings, nodes, bytes, two-bytes, Allowed, Plain, Sound, unroll}
 use Rattle.format.proofs.Forests.{bytes-join, nodes-unroll, siblings-unroll, plain-unroll}
-use Rattle.format.proofs.Tree.{tree-of-bytes}
 use Rattle.optimum.specs.Cheapest.{Run, front, back, Power, Candidate, plain, power, build, usual, Least, cheapest, best-cost}
-use Rattle.optimum.proofs.Cut.{join-cut, front-add, front-front, front-whole, back-piece, siblings-back, siblings-piece, siblings-le-nodes, nodes-cut, run-front, run-back, run-body}
+use Rattle.optimum.proofs.Cut.{front-whole, siblings-le-nodes, run-front, run-body}
 use Rattle.optimum.proofs.Powers.{reach, spans-usual}
 use Rattle.optimum.proofs.Least.{least-one}
 use Rattle.optimum.proofs.Cheapest.{cheapest-optimal, is-cheapest, least-builds, optimal-end}
 use Rattle.table.specs.Keys.{packed, count-digit, width-digit}
-use Rattle.table.specs.Table.{Entry, cell, number, stretch, Falling, entry-at}
-use Rattle.table.specs.Used.{Used, itself}
-use Rattle.table.specs.Listing.{Placed, Numbered}
-use Rattle.table.proofs.Cells.{cells-mono}
-use Rattle.table.proofs.Tables.{falling-numbered, number-last, number-within, number-after-group}
+use Rattle.table.specs.Table.{Entry, cell, number}
+use Rattle.table.specs.Used.{to-end, itself}
+use Rattle.table.proofs.Cells.{cell-in, cells-mono}
+use Rattle.table.proofs.Tables.{number-last, number-fall}
 use Rattle.table.proofs.Uses.{used-body, used-group}
-use Rattle.writer.specs.Writing.{WriteReady, SpanReady, fold-bytes, span-bytes, most-bytes}
+use Rattle.writer.specs.Writing.{WriteReady, NodeReady, fold-bytes, node-bytes, most-bytes, Follows, follow}
+use Rattle.writer.proofs.Laws.{listed-follow, listed-follows}
+use Rattle.writer.proofs.Parts.{body-part, rest-part}
 
 -- A sound fold has at most four bytes for each node that it unrolls to, and one of a single node has two: a repeat takes six
 -- bytes and stands for two nodes at least.
@@ -102,69 +101,6 @@ module _ (A : Allowed) (P : Prices) where
   cheapest-power t zero w r n i l = absurd (omega arith)
   cheapest-power t (suc h) w r n i l = by-least t (suc h) w r n l
 
--- The cheapest fold of the siblings from i up to j, as bytes.
-abbrev pub piece : Allowed → Prices → Forest → (i j : ℕ) → List ℕ
-piece A P t i j = bytes (cheapest A P (stretch t i (j - i)))
-
--- A repeat that the choice names: its count and width within bounds, and the bytes that begin with it.
-pub record Repeated (A : Allowed) (P : Prices) (t : Forest) (i j h w : ℕ) : Type 0 where
-  pub twice : 2 ≤ h
-  pub some : 0 < w
-  pub count : h ≤ 1024
-  pub width : w < 1024
-  pub covers : i + h * w ≤ j
-  pub wide : 2 * w ≤ h * w
-  pub used : Used t i w
-  pub spelled : piece A P t i j ≡ 0x20 ∷ two-bytes h (two-bytes w (piece A P t i (i + w) ++ 0x21 ∷ piece A P t (i + h * w) j))
-
-piece-none : (A : Allowed) (P : Prices) (t : Forest) (j : ℕ) → piece A P t j j ≡ []
-unfolding front bytes
-piece-none A P t j = let e : j - j ≡ 0 = omega arith in rw (e, cheapest-end A P)
-
-piece-whole : (A : Allowed) (P : Prices) (t : Forest) → Run A t → piece A P t 0 (siblings t) ≡ bytes (cheapest A P t)
-unfolding back
-piece-whole A P t r =
-    let e : siblings t - 0 ≡ siblings t = omega arith in
-    rw (e, front-whole (siblings t) t (r .plain) refl)
-
-module _ (A : Allowed) (P : Prices) (t : Forest) (r : Run A t) (few : siblings t ≤ 1024) (i j : ℕ) (h : i < j) (k : j ≤ siblings t) where
-  run-piece : Run A (stretch t i (j - i))
-  run-piece = run-front (j - i) (run-back i r)
-
-  few-piece : siblings (stretch t i (j - i)) ≡ j - i
-  few-piece = siblings-piece i (j - i) r (omega arith)
-
-  piece-plain : Least A P usual (best-cost A P) (stretch t i (j - i)) 0 0
-      → piece A P t i j ≡ piece A P t i (i + 1) ++ piece A P t (i + 1) j
-  piece-plain l =
-      let e : i + 1 - i ≡ 1 = omega arith in
-      let u = stretch t i (j - i) in
-      ap bytes (cheapest-plain A P u run-piece (omega (arith, few-piece)) l)
-      ∙ bytes-join (cheapest A P (front 1 u)) (cheapest A P (back 1 u))
-      ∙ rw (e, front-front 1 (j - i - 1) (j - i) (back i t) (omega arith), back-piece i (i + 1) 1 (j - (i + 1)) (j - i) t refl (omega arith))
-
-  piece-power : (c w : ℕ) → Power A (stretch t i (j - i)) c w → Least A P usual (best-cost A P) (stretch t i (j - i)) c w
-      → Repeated A P t i j c w
-  unfolding bytes
-  piece-power c w p l =
-      let e : i + w - i ≡ w = omega arith in
-      let u = stretch t i (j - i) in
-      let q = reach p in
-      let two = p .repeats .twice in
-      let d = few-piece in
-      record {
-        twice = two;
-        some = q .some;
-        count = omega arith;
-        width = omega arith;
-        covers = omega arith;
-        wide = q .width;
-        used = used-body i (j - i) c w r (omega arith) p;
-        spelled =
-            ap bytes (cheapest-power A P u c w run-piece (omega arith) two l)
-            ∙ rw (e, front-front w (j - i - w) (j - i) (back i t) (omega arith), back-piece i (i + c * w) (c * w) (j - (i + c * w)) (j - i) t refl (omega arith));
-      }
-
 -- The choice 0 is the plain node, and any other a repeat with its count and width as digits.
 least-plain : (A : Allowed) (P : Prices) (t : Forest) (h w : ℕ) → packed h w ≡ 0 → Least A P usual (best-cost A P) t h w
     → Least A P usual (best-cost A P) t 0 0
@@ -177,125 +113,166 @@ power-of : {A : Allowed} {t : Forest} {h w : ℕ} → (packed h w ≡ 0 → ⊥)
 power-of n plain = absurd (n refl)
 power-of n (power p) = p
 
--- The cheapest fold of the siblings from k up to m, for the table and the prices of a span, as bytes.
-abbrev pub part-of : {s choices offsets numbers : List ℕ} {i j : ℕ} → SpanReady s choices offsets numbers i j → (k m : ℕ) → List ℕ
-part-of {s = s} z k m = piece (z .ready .allowed) (z .ready .prices-are) (tree-of s) k m
+-- A sequence with a node has a first one.
+pub some-siblings : (t : Forest) → Plain t → 0 < nodes t → 0 < siblings t
+unfolding nodes siblings
+some-siblings end p h = h
+some-siblings (step l f) p h = omega arith
+some-siblings (group l g f) p h = omega arith
+some-siblings (repeat k w g f) p h = absurd p
 
--- What holds for a span holds for a narrower one.
-abbrev pub narrow : {s choices offsets numbers : List ℕ} {i j : ℕ} → SpanReady s choices offsets numbers i j → (k m : ℕ) → k ≤ m → m ≤ j
-    → SpanReady s choices offsets numbers k m
-narrow z k m h l =
-    record {
-      ready = z .ready;
-      long-offsets = z .long-offsets;
-      placed = z .placed;
-      long-numbers = z .long-numbers;
-      numbered = z .numbered;
-      order = h;
-      end = le-trans l (z .end);
-    }
+pub no-nodes : (t : Forest) → Plain t → nodes t ≡ 0 → t ≡ end
+unfolding nodes
+no-nodes end p e = refl
+no-nodes (step l f) p e = absurd (omega arith)
+no-nodes (group l g f) p e = absurd (omega arith)
+no-nodes (repeat k w g f) p e = absurd p
 
-module _ {s choices offsets numbers : List ℕ} {i j : ℕ} (z : SpanReady s choices offsets numbers i j) where
-  pub ready-few : siblings (tree-of s) ≤ 1024
-  ready-few =
-      omega (arith, siblings-le-nodes (tree-of s) (z .ready .spelled .run (z .ready .allowed) .plain), z .ready .total)
+module _ {run places nexts choices : List ℕ} {first behind : ℕ} (z : WriteReady run places nexts choices first behind) where
+  pub fold-small : length (fold-bytes z) ≤ most-bytes
+  fold-small =
+      omega (arith, cheapest-short (z .allowed) (z .prices-are) (z .tree) (z .is-run (z .allowed)), z .counted, z .total)
 
-  pub span-falling : Falling numbers j (length choices)
-  span-falling =
-      falling-numbered (z .ready .allowed) (getD numbers (siblings (tree-of s)) 0) (tree-of s) numbers (length choices) j (z .numbered .numbered)
-      (z .ready .spelled .run (z .ready .allowed)) (z .ready .total) (z .ready .room) (z .long-numbers) ready-few (z .end)
+  pub fold-none : first ≤ behind → fold-bytes z ≡ []
+  unfolding bytes
+  fold-none h =
+      rw (no-nodes (z .tree) (z .is-run (z .allowed) .plain) (omega (arith, z .counted)), cheapest-end (z .allowed) (z .prices-are))
 
-  span-short : length (span-bytes z) ≤ 4 * nodes (stretch (tree-of s) i (j - i))
-  span-short =
-      cheapest-short (z .ready .allowed) (z .ready .prices-are) (stretch (tree-of s) i (j - i))
-      (run-front (j - i) (run-back i (z .ready .spelled .run (z .ready .allowed))))
+  few : siblings (z .tree) ≤ 1024
+  few = omega (arith, siblings-le-nodes (z .tree) (z .is-run (z .allowed) .plain), z .counted, z .total)
 
-  pub span-small : length (span-bytes z) ≤ most-bytes
-  span-small =
-      omega (arith, span-short, nodes-cut i (tree-of s), nodes-cut (j - i) (back i (tree-of s)), z .ready .total)
+-- The plain node first, and what follows it.
+pub record Plainly {run places nexts choices : List ℕ} {q : ℕ} (n : NodeReady run places nexts choices q) : Type 0 where
+  pub rest : WriteReady run places nexts choices (getD nexts q 0) (n .behind)
+  pub falls : getD nexts q 0 < q
+  pub spelled : fold-bytes (n .ready) ≡ node-bytes n ++ fold-bytes rest
 
-  pub part-none : (k : ℕ) → part-of z k k ≡ []
-  part-none k = piece-none (z .ready .allowed) (z .ready .prices-are) (tree-of s) k
+-- A repeat first: its body, which ends at the number `stop`, and what follows it.
+pub record Repeated {run places nexts choices : List ℕ} {q : ℕ} (n : NodeReady run places nexts choices q) (h w stop : ℕ) : Type 0 where
+  pub wide : w ≤ h * w
+  pub body : WriteReady run places nexts choices q stop
+  pub ahead : n .behind < stop
+  pub to-rest : Follows nexts stop (h * w - w)
+  pub rest : WriteReady run places nexts choices (follow nexts stop (h * w - w)) (n .behind)
+  pub falls : follow nexts stop (h * w - w) < q
+  pub spelled : fold-bytes (n .ready) ≡ 0x20 ∷ two-bytes h (two-bytes w (fold-bytes body ++ 0x21 ∷ fold-bytes rest))
 
-  module _ (k c : ℕ) (h : k < j) (u : Used (tree-of s) k (j - k)) (e : c ≡ entry-at choices numbers k j) where
-    entry-of : (cost : ℕ) × Entry (z .ready .allowed) (z .ready .prices-are) (stretch (tree-of s) k (j - k)) cost c
-    entry-of =
-        let b = getD numbers (siblings (tree-of s)) 0 in
-        let t = tree-of s in
-        let last : k + (j - k) ≡ j = omega arith in
-        let at = z .ready .filled .entry b t itself k (j - k) (omega arith) (omega (arith, z .end)) u in (
-          getD (z .ready .costs) (cell (number b t j) (number b t k)) 0,
-          rw (e, z .numbered .numbered k (omega (arith, z .end)), z .numbered .numbered j (z .end)) (rw last at at),
+module _ {run places nexts choices : List ℕ} {q : ℕ} (n : NodeReady run places nexts choices q) where
+  abbrev A : Allowed
+  A = n .ready .allowed
+
+  abbrev P : Prices
+  P = n .ready .prices-are
+
+  abbrev tree : Forest
+  tree = n .ready .tree
+
+  abbrev size : ℕ
+  size = siblings tree
+
+  is-run : Run A tree
+  is-run = n .ready .is-run A
+
+  some : 0 < size
+  some = some-siblings tree (is-run .plain) (omega (arith, n .ready .counted, n .some))
+
+  pub node-cell : cell (n .behind) q < length choices
+  node-cell = omega (arith, cell-in (n .behind) q q (n .some) (omega arith), n .ready .room)
+
+  -- Sibling k as it is followed, and from there on.
+  followed : (i k q′ : ℕ) → i + k ≤ size → q′ ≡ number (n .behind) tree i
+      → (follow nexts q′ k ≡ number (n .behind) tree (i + k)) × Follows nexts q′ k
+  followed i k q′ h e =
+      let z = n .ready in (
+        rw e (listed-follow places nexts A (z .place) (n .behind) tree is-run (z .listed) k i h),
+        rw e (listed-follows places nexts A (z .place) (n .behind) tree is-run (z .listed) k i h (omega (arith, z .counted, z .total, z .long-nexts))),
+      )
+
+  first-number : q ≡ number (n .behind) tree 0
+  unfolding back
+  first-number = n .ready .counted
+
+  -- A repeat that may stand first, and that does.
+  module _ (h w : ℕ) (p : Power A tree h w) where
+    body-number : follow nexts q w ≡ number (n .behind) tree w
+    body-number =
+        let zero-w : 0 + w ≡ w = omega arith in
+        rw zero-w at (followed 0 w q (omega (arith, reach p)) first-number .0)
+
+    spelled-power : Least A P usual (best-cost A P) tree h w
+        → (x y : List ℕ) → x ≡ bytes (cheapest A P (front w tree)) → y ≡ bytes (cheapest A P (back (h * w) tree))
+        → fold-bytes (n .ready) ≡ 0x20 ∷ two-bytes h (two-bytes w (x ++ 0x21 ∷ y))
+    unfolding bytes
+    spelled-power l x y e f = ap bytes (cheapest-power A P tree h w is-run (few (n .ready)) (p .repeats .twice) l) ∙ rw (e, f)
+
+    powered : (stop : ℕ) → stop ≡ follow nexts q w → Least A P usual (best-cost A P) tree h w → Repeated n h w stop
+    unfolding back
+    powered stop e l =
+        let x = reach p in
+        let b = n .behind in
+        let all : w + (h * w - w) ≡ h * w = omega arith in
+        let to : stop ≡ number b tree w = e ∙ body-number in
+        let g = followed w (h * w - w) stop (omega arith) to in
+        let from : follow nexts stop (h * w - w) ≡ number b tree (h * w) = rw all at (g .0) in
+        let used = used-body 0 size h w is-run (omega arith) (rw (front-whole size tree (is-run .plain) refl) p) in
+        let body = body-part (n .ready) w stop (omega arith) used to in
+        let rest = rest-part (n .ready) (h * w) (follow nexts stop (h * w - w)) (x .covers) from in
+        record {
+          wide = omega arith;
+          body = body .ready;
+          ahead = omega (arith, number-fall A b w size tree is-run (omega arith) (omega arith), number-last b tree (is-run .plain));
+          to-rest = g .1;
+          rest = rest .ready;
+          falls = omega (arith, number-fall A b 0 (h * w) tree is-run (omega arith) (x .covers), first-number);
+          spelled = spelled-power l (fold-bytes (body .ready)) (fold-bytes (rest .ready)) (body .same) (rest .same);
+        }
+
+  -- The table's choice.
+  module _ (c : ℕ) (e : c ≡ getD choices (cell (n .behind) q) 0) where
+    entry : (cost : ℕ) × Entry A P tree cost c
+    unfolding back
+    entry =
+        let b = n .behind in
+        let x = n .ready .filled .entry b tree itself 0 size some (omega arith) (to-end (omega arith)) in
+        let zero-size : 0 + size ≡ size = omega arith in (
+          getD (n .ready .costs) (cell b q) 0,
+          rw e (rw (front-whole size tree (is-run .plain) refl, zero-size, number-last b tree (is-run .plain), ← first-number) at x),
         )
 
-    pub span-plain : c ≡ 0 → part-of z k j ≡ part-of z k (k + 1) ++ part-of z (k + 1) j
-    span-plain n =
-        let A = z .ready .allowed in
-        let P = z .ready .prices-are in
-        let x = entry-of .1 in
-        piece-plain A P (tree-of s) (z .ready .spelled .run A) ready-few k j h (z .end)
-        (least-plain A P (stretch (tree-of s) k (j - k)) (x .count) (x .width) (omega (arith, x .chosen)) (x .least))
+    pub node-plain : c ≡ 0 → Plainly n
+    unfolding follow
+    node-plain h =
+        let b = n .behind in
+        let x = entry .1 in
+        let next : getD nexts q 0 ≡ number b tree 1 = followed 0 1 q (omega (arith, some)) first-number .0 in
+        let rest = rest-part (n .ready) 1 (getD nexts q 0) (omega (arith, some)) next in
+        record {
+          rest = rest .ready;
+          falls = omega (arith, number-fall A b 0 1 tree is-run (omega arith) (omega (arith, some)), first-number);
+          spelled =
+              ap bytes (cheapest-plain A P tree is-run (few (n .ready)) (least-plain A P tree (x .count) (x .width) (omega (arith, x .chosen)) (x .least)))
+              ∙ bytes-join (cheapest A P (front 1 tree)) (cheapest A P (back 1 tree))
+              ∙ rw (rest .same);
+        }
 
-    pub span-power : (c ≡ 0 → ⊥) → Repeated (z .ready .allowed) (z .ready .prices-are) (tree-of s) k j (count-digit c) (width-digit c)
-    span-power n =
-        let A = z .ready .allowed in
-        let P = z .ready .prices-are in
-        let x = entry-of .1 in
-        let p = power-of (λ y. n (omega (arith, x .chosen))) (x .least .candidate) in
-        let q = piece-power A P (tree-of s) (z .ready .spelled .run A) ready-few k j h (z .end) (x .count) (x .width) p (x .least) in
-        let a : count-digit c ≡ x .count = omega (arith, x .chosen, q .width, q .count) in
-        let b : width-digit c ≡ x .width = omega (arith, x .chosen, q .width) in
-        rw (a, b) q
+    -- A repeat, with its count and width as digits.
+    module _ (other : c ≡ 0 → ⊥) where
+      chosen : Power A tree (entry .1 .count) (entry .1 .width)
+      chosen = power-of (λ y. other (omega (arith, entry .1 .chosen))) (entry .1 .least .candidate)
 
--- The siblings of a sequence as `list_siblings` ensures them: how many, where they start, and their numbers.
-abbrev pub Siblings : (s : List ℕ) → (b : ℕ) → (offsets numbers : List ℕ) → ℕ → Type 0
-Siblings s b offsets numbers m =
-    (m ≡ siblings (tree-of s)) × (((length offsets ≡ 1025) × Placed s offsets) × ((length numbers ≡ 1025) × Numbered b (tree-of s) numbers))
+      is-count : count-digit c ≡ entry .1 .count
+      is-count = let r = reach chosen in omega (arith, entry .1 .chosen, few (n .ready))
 
--- A sequence is the span of all its siblings.
-pub record SpanListed {s : List ℕ} {b : ℕ} {choices : List ℕ} (z : WriteReady s b choices) (offsets numbers : List ℕ) (m : ℕ) : Type 0 where
-  pub span : SpanReady s choices offsets numbers 0 m
-  pub same : span-bytes span ≡ fold-bytes z
+      is-width : width-digit c ≡ entry .1 .width
+      is-width = let r = reach chosen in omega (arith, entry .1 .chosen, few (n .ready))
 
-pub listed : {s : List ℕ} {b : ℕ} {choices : List ℕ} (z : WriteReady s b choices) (offsets numbers : List ℕ) (m : ℕ)
-    → Siblings s b offsets numbers m → SpanListed z offsets numbers m
-listed {s} {b} {choices} z offsets numbers m all =
-    let t = tree-of s in
-    let e : getD numbers (siblings t) 0 ≡ b = all .1 .1 .1 .numbered (siblings t) (omega arith) ∙ number-last b t (z .spelled .run (z .allowed) .plain) in
-    let ready : WriteReady s (getD numbers (siblings (tree-of s)) 0) choices = record {
-      allowed = z .allowed;
-      prices-are = z .prices-are;
-      costs = z .costs;
-      spelled = z .spelled;
-      total = rw e (z .total);
-      room = rw e (z .room);
-      filled = rw e (z .filled);
-    } in
-    let span : SpanReady s choices offsets numbers 0 m = record {
-      ready = ready;
-      long-offsets = all .1 .0 .0;
-      placed = all .1 .0 .1;
-      long-numbers = all .1 .1 .0;
-      numbered = rw e (all .1 .1 .1);
-      order = omega arith;
-      end = omega (arith, all .0);
-    } in
-    record { span = span; same = rw (all .0) (piece-whole (z .allowed) (z .prices-are) t (z .spelled .run (z .allowed))) }
+      pub node-body : (w : ℕ) → w ≡ width-digit c → Follows nexts q w
+      node-body w e = let r = reach chosen in rw (e, is-width) (followed 0 (entry .1 .width) q (omega arith) first-number .1)
 
--- The next sibling by what is left of the sequence.
-data Next (t : Forest) (i : ℕ) : Type 0 where
-  a-step : (l : ℕ) (f : Forest) → back i t ≡ step l f → Next t i
-  a-group : (l : ℕ) (g f : Forest) → back i t ≡ group l g f → Next t i
-
-next : (A : Allowed) (t : Forest) (i : ℕ) → Run A t → i < siblings t → Next t i
-unfolding siblings
-next A t i r h = by-form (back i t) refl
-  where
-    by-form : (f : Forest) → back i t ≡ f → Next t i
-    by-form end e = absurd (omega (arith, siblings-back i t (r .plain) (omega arith), ap siblings e))
-    by-form (step l f) e = a-step l f e
-    by-form (group l g f) e = a-group l g f e
-    by-form (repeat k w g f) e = absurd (rw e at (run-back i r .plain))
+      pub node-power : (h w stop : ℕ) → h ≡ count-digit c → w ≡ width-digit c → stop ≡ follow nexts q w → Repeated n h w stop
+      node-power h w stop d e f =
+          rw (d, e, is-count, is-width)
+          (powered (entry .1 .count) (entry .1 .width) chosen stop (rw (e, is-width) at f) (entry .1 .least))
 
 -- Two bytes and what follows them, at a place.
 record Two (s : List ℕ) (at x y : ℕ) (rest : List ℕ) : Type 0 where
@@ -314,141 +291,118 @@ two-at s at x y rest e =
       size = omega (arith, length-drop at s, ap length e);
     }
 
--- The bytes between a group's label and its close, where sibling i is a group.
-abbrev pub children : (s offsets : List ℕ) → (i : ℕ) → List ℕ
-children s offsets i = take (getD offsets (i + 1) 0 - 1 - (getD offsets i 0 + 2)) (drop (getD offsets i 0 + 2) s)
+-- The first node by what it is.
+data Form (t : Forest) : Type 0 where
+  a-step : (l : ℕ) (f : Forest) → t ≡ step l f → Form t
+  a-group : (l : ℕ) (g f : Forest) → t ≡ group l g f → Form t
 
--- A group alone: what it holds is a part of the bytes, with a part of the table.
-pub record Grouped {s choices offsets numbers : List ℕ} {i : ℕ} (z : SpanReady s choices offsets numbers i (i + 1)) : Type 0 where
-  pub inside : WriteReady (children s offsets i) (getD numbers (i + 1) 0) choices
-  pub spelled : span-bytes z ≡ getD s (getD offsets i 0) 0 ∷ getD s (getD offsets i 0 + 1) 0 ∷ fold-bytes inside ++ 0x12 ∷ []
-  pub shorter : length (children s offsets i) < length s
-  pub ahead : getD offsets i 0 + 3 ≤ getD offsets (i + 1) 0
-  pub within : getD offsets (i + 1) 0 ≤ length s
+form-of : (t : Forest) → Plain t → 0 < nodes t → Form t
+unfolding nodes
+form-of end p h = absurd (omega arith)
+form-of (step l f) p h = a-step l f refl
+form-of (group l g f) p h = a-group l g f refl
+form-of (repeat k w g f) p h = absurd p
 
-module _ {s choices offsets numbers : List ℕ} {i : ℕ} (z : SpanReady s choices offsets numbers i (i + 1)) where
-  abbrev tree : Forest
-  tree = tree-of s
+-- A group alone: what it holds is a sequence with the numbers between its own and the next one's.
+pub record Grouped {run places nexts choices : List ℕ} {q : ℕ} (n : NodeReady run places nexts choices q) : Type 0 where
+  pub inside : WriteReady run places nexts choices (q - 1) (getD nexts q 0)
+  pub spelled : node-bytes n ≡ getD run (getD places q 0) 0 ∷ getD run (getD places q 0 + 1) 0 ∷ fold-bytes inside ++ 0x12 ∷ []
+  pub falls : getD nexts q 0 < q
 
-  abbrev place : ℕ
-  place = getD offsets i 0
+module _ {run places nexts choices : List ℕ} {q : ℕ} (n : NodeReady run places nexts choices q) where
+  abbrev at : ℕ
+  at = getD places q 0
 
-  run-any : (A : Allowed) → Run A tree
-  run-any A = z .ready .spelled .run A
+  form : Form (n .ready .tree)
+  form = form-of (n .ready .tree) (n .ready .is-run (n .ready .allowed) .plain) (omega (arith, n .ready .counted, n .some))
 
-  form : Next tree i
-  form = next (z .ready .allowed) tree i (run-any (z .ready .allowed)) (omega (arith, z .end))
+  module _ (l : ℕ) (f : Forest) (e : n .ready .tree ≡ step l f) where
+    at-step : Two run at 0x10 l (bytes f ++ n .ready .rest)
+    unfolding bytes nodes
+    at-step =
+        let here : q ≡ n .behind + (1 + nodes f) = n .ready .counted ∙ ap (λ (t : Forest). n .behind + nodes t) e in
+        let placed : at ≡ n .ready .place = rw (← here) at ((rw e at (n .ready .listed)) .0 .0) in
+        two-at run at 0x10 l (bytes f ++ n .ready .rest) (rw placed (n .ready .stands ∙ rw e))
 
-  rest-at : drop place s ≡ bytes (back i tree)
-  rest-at =
-      let cut : bytes (front i tree) ++ bytes (back i tree) ≡ s =
-      sym (bytes-join (front i tree) (back i tree)) ∙ ap bytes (join-cut i tree) ∙ z .ready .spelled .form in
-      ap (drop place) (sym cut)
-      ∙ drop-at (bytes (front i tree)) (bytes (back i tree)) place (sym (z .placed .offset i (omega (arith, z .end))))
-
-  module _ (l : ℕ) (f : Forest) (e : back i tree ≡ step l f) where
-    at-step : Two s place 0x10 l (bytes f)
-    unfolding bytes
-    at-step = two-at s place 0x10 l (bytes f) (rest-at ∙ ap bytes e)
-
-    spelled-step : span-bytes z ≡ 0x10 ∷ l ∷ []
+    spelled-step : node-bytes n ≡ 0x10 ∷ l ∷ []
     unfolding front bytes
-    spelled-step =
-        let one : i + 1 - i ≡ 1 = omega arith in
-        rw (one, e, cheapest-step (z .ready .allowed) (z .ready .prices-are) l)
+    spelled-step = rw (e, cheapest-step (n .ready .allowed) (n .ready .prices-are) l)
 
-  module _ (l : ℕ) (g f : Forest) (e : back i tree ≡ group l g f) where
-    at-group : Two s place 0x11 l (bytes g ++ 0x12 ∷ bytes f)
+  module _ (l : ℕ) (g f : Forest) (e : n .ready .tree ≡ group l g f) where
+    here : q ≡ n .behind + (1 + nodes g + nodes f)
+    unfolding nodes
+    here = n .ready .counted ∙ ap (λ (t : Forest). n .behind + nodes t) e
+
+    next : getD nexts q 0 ≡ n .behind + nodes f
+    next = rw (← here) at ((rw e at (n .ready .listed)) .0 .1)
+
+    placed : at ≡ n .ready .place
+    placed = rw (← here) at ((rw e at (n .ready .listed)) .0 .0)
+
+    at-group : Two run at 0x11 l ((bytes g ++ 0x12 ∷ bytes f) ++ n .ready .rest)
     unfolding bytes
-    at-group = two-at s place 0x11 l (bytes g ++ 0x12 ∷ bytes f) (rest-at ∙ ap bytes e)
+    at-group = two-at run at 0x11 l ((bytes g ++ 0x12 ∷ bytes f) ++ n .ready .rest) (rw placed (n .ready .stands ∙ rw e))
 
-    run-group : (A : Allowed) → Run A (group l g f)
-    run-group A = rw e at (run-back i (run-any A))
-
-    spelled-group : span-bytes z ≡ 0x11 ∷ l ∷ bytes (cheapest (z .ready .allowed) (z .ready .prices-are) g) ++ 0x12 ∷ []
+    spelled-group : node-bytes n ≡ 0x11 ∷ l ∷ bytes (cheapest (n .ready .allowed) (n .ready .prices-are) g) ++ 0x12 ∷ []
     unfolding front bytes
     spelled-group =
-        let one : i + 1 - i ≡ 1 = omega arith in
-        rw (one, e, cheapest-group (z .ready .allowed) (z .ready .prices-are) l g (run-front 1 (run-group (z .ready .allowed))))
+        rw (e, cheapest-group (n .ready .allowed) (n .ready .prices-are) l g (run-front 1 (rw e at (n .ready .is-run (n .ready .allowed)))))
 
-    next-offset : getD offsets (i + 1) 0 ≡ place + 3 + length (bytes g)
-    unfolding front bytes
-    next-offset =
-        let both : bytes (front (i + 1) tree) ≡ bytes (front i tree) ++ bytes (group l g end) =
-        ap bytes (front-add i 1 (i + 1) tree refl) ∙ bytes-join (front i tree) (front 1 (back i tree)) ∙ rw e in
-        omega (
-          arith,
-          z .placed .offset i (omega (arith, z .end)),
-          z .placed .offset (i + 1) (z .end),
-          ap length both,
-          length-append (bytes (front i tree)) (bytes (group l g end)),
-          length-append (bytes g) (0x12 ∷ []),
-        )
-
-    part-bytes : children s offsets i ≡ bytes g
-    part-bytes =
-        rw (at-group .behind)
-        (take-at (bytes g) (0x12 ∷ bytes f) (getD offsets (i + 1) 0 - 1 - (place + 2)) (omega (arith, next-offset)))
-
-    part-tree : tree-of (children s offsets i) ≡ g
-    part-tree = ap tree-of part-bytes ∙ tree-of-bytes g
-
-    inside-ready : WriteReady (children s offsets i) (getD numbers (i + 1) 0) choices
+    inside-ready : WriteReady run places nexts choices (q - 1) (getD nexts q 0)
+    unfolding back
     inside-ready =
-        let A = z .ready .allowed in
-        let b = getD numbers (siblings (tree-of s)) 0 in
-        let n = z .numbered .numbered (i + 1) (z .end) in
-        let last = number-after-group b i tree l g f e in
-        let all = number-within b i tree in
+        let after : number (n .behind) (n .ready .tree) 1 ≡ getD nexts q 0 = ap (λ (t : Forest). number (n .behind) t 1) e ∙ sym next in
         record {
-          allowed = A;
-          prices-are = z .ready .prices-are;
-          costs = z .ready .costs;
-          spelled = record { form = rw part-tree (sym part-bytes); run = λ B. rw part-tree (run-body (run-group B)) };
-          total = rw part-tree (omega (arith, z .ready .total));
-          room =
-              rw part-tree
-              (omega (arith, z .ready .room, cells-mono (getD numbers (i + 1) 0 + nodes g) (b + nodes tree) (omega arith)));
-          filled =
-              rw (part-tree, n)
-              (used-group i l g f e (z .ready .filled));
+          tree = g;
+          is-run = λ A. run-body (rw e at (n .ready .is-run A));
+          place = at + 2;
+          rest = 0x12 ∷ bytes f ++ n .ready .rest;
+          stands = at-group .behind ∙ append-assoc (bytes g) (0x12 ∷ bytes f) (n .ready .rest);
+          long-places = n .ready .long-places;
+          long-nexts = n .ready .long-nexts;
+          listed = rw (next, placed) ((rw e at (n .ready .listed)) .1);
+          counted = omega (arith, here, next);
+          total = omega (arith, n .ready .total);
+          room = omega (arith, n .ready .room, cells-mono (q - 1) q (omega arith));
+          allowed = n .ready .allowed;
+          prices-are = n .ready .prices-are;
+          costs = n .ready .costs;
+          filled = rw after at (used-group 0 l g f e (n .ready .filled));
         }
 
-    grouped : Grouped z
+    grouped : Grouped n
     unfolding inside-ready
     grouped =
         record {
           inside = inside-ready;
-          spelled = spelled-group ∙ rw (at-group .first, at-group .second, part-tree);
-          shorter = omega (arith, ap length part-bytes, at-group .size, length-append (bytes g) (0x12 ∷ bytes f));
-          ahead = omega (arith, next-offset);
-          within = omega (arith, next-offset, at-group .size, length-append (bytes g) (0x12 ∷ bytes f));
+          spelled = spelled-group ∙ rw (at-group .first, at-group .second);
+          falls = omega (arith, here, next);
         }
 
-  pub node-start : getD offsets i 0 + 2 ≤ length s
+  pub node-start : getD places q 0 + 2 ≤ length run
   node-start = by-form form
     where
-      by-form : Next tree i → place + 2 ≤ length s
+      by-form : Form (n .ready .tree) → at + 2 ≤ length run
       by-form (a-step l f e) = omega (arith, at-step l f e .size)
       by-form (a-group l g f e) = omega (arith, at-group l g f e .size)
 
-  pub node-two : 2 ≤ length (span-bytes z)
+  pub node-two : 2 ≤ length (node-bytes n)
   node-two = by-form form
     where
-      by-form : Next tree i → 2 ≤ length (span-bytes z)
+      by-form : Form (n .ready .tree) → 2 ≤ length (node-bytes n)
       by-form (a-step l f e) = omega (arith, ap length (spelled-step l f e))
       by-form (a-group l g f e) = omega (arith, ap length (spelled-group l g f e))
 
-  pub node-step : getD s (getD offsets i 0) 0 ≡ 0x10 → span-bytes z ≡ getD s (getD offsets i 0) 0 ∷ getD s (getD offsets i 0 + 1) 0 ∷ []
+  pub node-step : getD run (getD places q 0) 0 ≡ 0x10 → node-bytes n ≡ getD run (getD places q 0) 0 ∷ getD run (getD places q 0 + 1) 0 ∷ []
   node-step h = by-form form
     where
-      by-form : Next tree i → span-bytes z ≡ getD s place 0 ∷ getD s (place + 1) 0 ∷ []
+      by-form : Form (n .ready .tree) → node-bytes n ≡ getD run at 0 ∷ getD run (at + 1) 0 ∷ []
       by-form (a-step l f e) = spelled-step l f e ∙ rw (at-step l f e .first, at-step l f e .second)
       by-form (a-group l g f e) = absurd (omega (arith, at-group l g f e .first))
 
-  pub node-group : (getD s (getD offsets i 0) 0 ≡ 0x10 → ⊥) → Grouped z
+  pub node-group : (getD run (getD places q 0) 0 ≡ 0x10 → ⊥) → Grouped n
   node-group h = by-form form
     where
-      by-form : Next tree i → Grouped z
+      by-form : Form (n .ready .tree) → Grouped n
       by-form (a-step l f e) = absurd (h (at-step l f e .first))
       by-form (a-group l g f e) = grouped l g f e

@@ -1,20 +1,17 @@
 -- Writing bytes behind each other from a place on, as far as there is room, and a cheapest fold by such writes.
 use mathlib.Core.Path.{_≡_, refl, sym, ap, _∙_}
 use mathlib.Core.List.{List, [], _∷_, _++_, append-assoc, append-nil}
-use Prim.Native.Nat.{ℕ, zero, suc, _+_, _-_, _<_, _≤_}
+use Prim.Native.Nat.{ℕ, zero, suc, _+_, _-_, _*_, _<_, _≤_}
 use native.Mathlib.Decide.{decLe}
 use native.Mathlib.Omega.{arith}
 use lib.ListN.{length, length-append, length-set, length-drop, getD, set, take, drop, drop-of-length-le}
 use lib.Seq.{sets, length-sets, set-out, take-all}
 use borrow.Rule.Slice.PartMut.{putMid}
-use Rattle.format.specs.Limits.{limits}
-use Rattle.format.specs.Tree.{tree-of}
 use Rattle.format.proofs.Lists.{sets-append}
 use Rattle.table.specs.Keys.{count-digit, width-digit, covered}
-use Rattle.table.specs.Table.{entry-at}
-use Rattle.table.specs.Used.{Used}
-use Rattle.writer.specs.Writing.{WriteReady, SpanReady, SpanFits, FoldWritten, SpanWritten, fold-bytes, span-bytes, most-bytes, open-bytes}
-use Rattle.writer.proofs.Spans.{Repeated, part-of, narrow, part-none, ready-few, span-small, span-plain, span-power, Siblings, listed, children, node-start, node-two, node-step, node-group}
+use Rattle.table.specs.Table.{cell}
+use Rattle.writer.specs.Writing.{WriteReady, NodeReady, SpanFits, NodeFits, FoldWritten, SpanWritten, NodeWritten, Written, fold-bytes, node-bytes, most-bytes, open-bytes, Follows, follow}
+use Rattle.writer.proofs.Spans.{Plainly, Repeated, fold-small, fold-none, node-cell, node-plain, node-body, node-power, node-start, node-two, node-step, node-group}
 
 -- Nothing is stored past the end, and what is stored from a place on is stored in the part that begins there.
 sets-out : (vs l : List ℕ) (i : ℕ) → length l ≤ i → sets l i vs ≡ l
@@ -79,182 +76,225 @@ module _ {whole left : List ℕ} {to : ℕ} {before : List ℕ} {at : ℕ} {now 
   along-byte : (v : ℕ) (rest : List ℕ) (now′ : List ℕ) → left ≡ v ∷ rest → now′ ≡ set now at v → Along whole rest to before (at + 1) now′
   along-byte v rest now′ e g = along-more (v ∷ []) rest (at + 1) now′ e refl g
 
--- A span is written when nothing of it is left.
-all-written : {s choices offsets numbers : List ℕ} {i j to : ℕ} {before : List ℕ} {p : ℕ} {now : List ℕ}
-    → ((z : SpanReady s choices offsets numbers i j) → Along (span-bytes z) [] to before p now)
-    → SpanWritten s choices offsets numbers i j to before now p
-all-written {s} {choices} {offsets} {numbers} {i} {j} f =
-    let all : (z : SpanReady s choices offsets numbers i j) → f z .done ≡ span-bytes z = λ z. sym (append-nil (f z .done)) ∙ f z .splits in
-    record { is-end = λ z. rw (← (all z)) (f z .place); written = λ z. rw (← (all z)) (f z .list) }
+-- Bytes are written when nothing of them is left.
+all-written : {X : Type 0} {of-each : X → List ℕ} {to : ℕ} {before : List ℕ} {p : ℕ} {now : List ℕ}
+    → ((x : X) → Along (of-each x) [] to before p now) → Written of-each to before now p
+all-written {X} {of-each} f =
+    let all : (x : X) → f x .done ≡ of-each x = λ x. sym (append-nil (f x .done)) ∙ f x .splits in
+    record { is-end = λ x. rw (← (all x)) (f x .place); written = λ x. rw (← (all x)) (f x .list) }
 
 -- The output is as long as it was.
-pub written-kept : {s choices offsets numbers : List ℕ} {i j to : ℕ} {before after : List ℕ} {r : ℕ} → SpanReady s choices offsets numbers i j
-    → SpanWritten s choices offsets numbers i j to before after r → length after ≡ length before
-written-kept {to = to} {before} z w = ap length (w .written z) ∙ length-sets before to (span-bytes z)
+pub written-kept : {X : Type 0} {of-each : X → List ℕ} {to : ℕ} {before after : List ℕ} {r : ℕ} → X → Written of-each to before after r
+    → length after ≡ length before
+written-kept {of-each = of-each} {to} {before} x w = ap length (w .written x) ∙ length-sets before to (of-each x)
 
--- A span is being written up to sibling k, whose place is p.
-pub record Putting (s choices offsets numbers : List ℕ) (i j to : ℕ) (before : List ℕ) (k p : ℕ) (now : List ℕ) : Type 0 where
-  pub ahead : i ≤ k
-  pub within : k ≤ j
-  pub along : (z : SpanReady s choices offsets numbers i j) → Along (span-bytes z) (part-of z k j) to before p now
+-- What is left of a sequence begins at the number q, and its fold is to be written from the place p on.
+pub record Left {run places nexts choices : List ℕ} {first behind : ℕ} (z : WriteReady run places nexts choices first behind) (to : ℕ) (before : List ℕ) (q p : ℕ) (now : List ℕ) : Type 0 where
+  pub rest : WriteReady run places nexts choices q behind
+  pub along : Along (fold-bytes z) (fold-bytes rest) to before p now
 
-module _ {s choices offsets numbers : List ℕ} {i j to : ℕ} (before : List ℕ) (m : SpanFits s choices offsets numbers i j to) where
-  pub putting-none : Putting s choices offsets numbers i j to before i to before
+pub record Putting (run places nexts choices : List ℕ) (first behind to : ℕ) (before : List ℕ) (q p : ℕ) (now : List ℕ) : Type 0 where
+  pub ahead : q ≤ first
+  pub left : (z : WriteReady run places nexts choices first behind) → Left z to before q p now
+
+module _ {run places nexts choices : List ℕ} {first behind to : ℕ} (before : List ℕ) (m : SpanFits run places nexts choices first behind to) where
+  pub putting-none : Putting run places nexts choices first behind to before first to before
   putting-none =
-      record { ahead = omega arith; within = m .ready .order; along = λ z. along-none (span-bytes z) to before }
+      record { ahead = omega arith; left = λ z. record { rest = z; along = along-none (fold-bytes z) to before } }
 
-  module _ {k p : ℕ} {now : List ℕ} (q : Putting s choices offsets numbers i j to before k p now) where
-    pub putting-all : j ≤ k → SpanWritten s choices offsets numbers i j to before now p
-    putting-all h =
-        let e : k ≡ j = omega (arith, q .within) in
-        all-written (λ z. rw (e, part-none z j) at (q .along z))
+  module _ {q p : ℕ} {now : List ℕ} (x : Putting run places nexts choices first behind to before q p now) where
+    pub putting-all : q ≤ behind → SpanWritten run places nexts choices first behind to before now p
+    putting-all h = all-written (λ z. let l = x .left z in rw (fold-none (l .rest) h) at (l .along))
 
-    pub left-fits : p + length (part-of (m .ready) k j) ≤ most-bytes
-    left-fits = omega (arith, along-end (q .along (m .ready)), m .fits)
+    -- The next node has an entry in the table.
+    pub left-held : behind < q → (behind < q) × (q ≤ 1024) × (cell behind q < length choices)
+    left-held h =
+        let z = x .left (m .ready) .rest in
+        (h, z .total, node-cell (record { behind = behind; ready = z; some = h }))
 
--- Sibling k is next, and c is the table's choice.
-pub record Turn (s choices offsets numbers : List ℕ) (i j to : ℕ) (before : List ℕ) (k p : ℕ) (now : List ℕ) (c : ℕ) : Type 0 where
-  pub fits : SpanFits s choices offsets numbers i j to
-  pub putting : Putting s choices offsets numbers i j to before k p now
-  pub more : k < j
-  pub used : Used (tree-of s) k (j - k)
-  pub looked : c ≡ entry-at choices numbers k j
+-- The node of number q is next, and c is the table's choice.
+pub record Turn (run places nexts choices : List ℕ) (first behind to : ℕ) (before : List ℕ) (q p : ℕ) (now : List ℕ) (c : ℕ) : Type 0 where
+  pub fits : SpanFits run places nexts choices first behind to
+  pub putting : Putting run places nexts choices first behind to before q p now
+  pub more : behind < q
+  pub looked : c ≡ getD choices (cell behind q) 0
 
-module _ {s choices offsets numbers : List ℕ} {i j to : ℕ} {before : List ℕ} {k p : ℕ} {now : List ℕ} {c : ℕ}
-    (x : Turn s choices offsets numbers i j to before k p now c) where
-  abbrev ready : SpanReady s choices offsets numbers i j
-  ready = x .fits .ready
+module _ {run places nexts choices : List ℕ} {first behind to : ℕ} {before : List ℕ} {q p : ℕ} {now : List ℕ} {c : ℕ}
+    (x : Turn run places nexts choices first behind to before q p now c) where
+  abbrev pub next : WriteReady run places nexts choices q behind → NodeReady run places nexts choices q
+  next z = record { behind = behind; ready = z; some = x .more }
 
-  next-fits : p + length (part-of ready k j) ≤ most-bytes
-  next-fits = left-fits before (x .fits) (x .putting)
+  abbrev pub ready : WriteReady run places nexts choices q behind
+  ready = x .putting .left (x .fits .ready) .rest
+
+  ready-fits : p + length (fold-bytes ready) ≤ most-bytes
+  ready-fits = omega (arith, along-end (x .putting .left (x .fits .ready) .along), x .fits .fits)
 
   -- The plain node.
   module _ (f : c ≡ 0) where
-    split : (z : SpanReady s choices offsets numbers i j) → part-of z k j ≡ part-of z k (k + 1) ++ part-of z (k + 1) j
-    split z = span-plain z k c (x .more) (x .used) (x .looked) f
+    split : (z : WriteReady run places nexts choices q behind) → Plainly (next z)
+    split z = node-plain (next z) c (x .looked) f
 
-    pub plain-fits : SpanFits s choices offsets numbers k (k + 1) p
+    pub plainly : Plainly (next ready)
+    plainly = split ready
+
+    pub plain-fits : NodeFits run places nexts choices q p
     plain-fits =
+        let y = plainly in
         record {
-          ready = narrow ready k (k + 1) (omega arith) (omega (arith, x .more));
-          fits = omega (arith, next-fits, ap length (split ready), length-append (part-of ready k (k + 1)) (part-of ready (k + 1) j));
+          ready = next ready;
+          fits = omega (arith, ready-fits, ap length (y .spelled), length-append (node-bytes (next ready)) (fold-bytes (y .rest)));
         }
 
-    pub putting-plain : (r : ℕ) (now′ : List ℕ) → SpanWritten s choices offsets numbers k (k + 1) p now now′ r
-        → Putting s choices offsets numbers i j to before (k + 1) r now′
+    pub putting-plain : (r : ℕ) (now′ : List ℕ) → NodeWritten run places nexts choices q p now now′ r
+        → Putting run places nexts choices first behind to before (getD nexts q 0) r now′
     putting-plain r now′ l =
         record {
-          ahead = omega (arith, x .putting .ahead);
-          within = omega (arith, x .more);
-          along = λ z.
-              let y = narrow z k (k + 1) (omega arith) (omega (arith, x .more)) in
-              along-more (x .putting .along z) (part-of z k (k + 1)) (part-of z (k + 1) j) r now′ (split z) (l .is-end y) (l .written y);
+          ahead = omega (arith, x .putting .ahead, plainly .falls);
+          left = λ z.
+              let k = x .putting .left z in
+              let y = split (k .rest) in
+              let n = next (k .rest) in
+              record { rest = y .rest; along = along-more (k .along) (node-bytes n) (fold-bytes (y .rest)) r now′ (y .spelled) (l .is-end n) (l .written n) };
         }
 
-  -- A repeat: its open, what it holds, its close.
-  module _ (f : c ≡ 0 → ⊥) where
-    abbrev w : ℕ
-    w = width-digit c
+  -- A repeat: as far as its body has siblings, they are followed.
+  pub power-body : (c ≡ 0 → ⊥) → (w : ℕ) → w ≡ width-digit c → Follows nexts q w
+  power-body f w e = node-body (next ready) c (x .looked) f w e
 
-    pub repeated : (z : SpanReady s choices offsets numbers i j)
-        → Repeated (z .ready .allowed) (z .ready .prices-are) (tree-of s) k j (count-digit c) w
-    repeated z = span-power z k c (x .more) (x .used) (x .looked) f
+-- A repeat is next, by its count and width, and its body ends at the number `stop`.
+pub record Power (run places nexts choices : List ℕ) (first behind to : ℕ) (before : List ℕ) (q p : ℕ) (now : List ℕ) (c h w stop : ℕ) : Type 0 where
+  pub turn : Turn run places nexts choices first behind to before q p now c
+  pub other : c ≡ 0 → ⊥
+  pub count : h ≡ count-digit c
+  pub width : w ≡ width-digit c
+  pub ended : stop ≡ follow nexts q w
 
-    pub body-fits : SpanFits s choices offsets numbers k (k + w) (p + 5)
-    body-fits =
-        let y = repeated ready in
-        record {
-          ready = narrow ready k (k + w) (omega arith) (omega arith);
-          fits = omega (arith, next-fits, ap length (y .spelled), length-append (part-of ready k (k + w)) (0x21 ∷ part-of ready (k + covered c) j));
-        }
+-- Its open, what it holds, its close.
+module _ {run places nexts choices : List ℕ} {first behind to : ℕ} {before : List ℕ} {q p : ℕ} {now : List ℕ} {c h w stop : ℕ}
+    (x : Power run places nexts choices first behind to before q p now c h w stop) where
+  repeated : (z : WriteReady run places nexts choices q behind) → Repeated (next (x .turn) z) h w stop
+  repeated z = node-power (next (x .turn) z) c (x .turn .looked) (x .other) h w stop (x .count) (x .width) (x .ended)
 
-    pub putting-power : (now₁ : List ℕ) → now₁ ≡ sets now p (open-bytes (count-digit c) w)
-        → (r : ℕ) (now₂ : List ℕ) → SpanWritten s choices offsets numbers k (k + w) (p + 5) now₁ now₂ r
-        → (now₃ : List ℕ) → now₃ ≡ set now₂ r 0x21 → Putting s choices offsets numbers i j to before (k + covered c) (r + 1) now₃
-    putting-power now₁ opens r now₂ l now₃ closes =
-        record { ahead = omega (arith, x .putting .ahead); within = repeated ready .covers; along = along }
-      where
-        along : (z : SpanReady s choices offsets numbers i j) → Along (span-bytes z) (part-of z (k + covered c) j) to before (r + 1) now₃
-        along z =
-            let q = repeated z in
-            let y = narrow z k (k + w) (omega arith) (omega arith) in
-            let body = part-of z k (k + w) in
-            let rest = part-of z (k + covered c) j in
-            let opened = along-more (x .putting .along z) (open-bytes (count-digit c) w) (body ++ 0x21 ∷ rest) (p + 5) now₁ (q .spelled) refl opens in
-            let held = along-more opened body (0x21 ∷ rest) r now₂ refl (l .is-end y) (l .written y) in
-            along-byte held 0x21 rest now₃ refl closes
+  pub power-next : Repeated (next (x .turn) (ready (x .turn))) h w stop
+  power-next = repeated (ready (x .turn))
 
--- A sequence as the span of all its siblings.
-module _ {s : List ℕ} {b : ℕ} {choices : List ℕ} (offsets numbers : List ℕ) (m : ℕ) (all : Siblings s b offsets numbers m) where
-  pub fold-fits : WriteReady s b choices → SpanFits s choices offsets numbers 0 m 0
-  fold-fits z =
-      let q = listed z offsets numbers m all in record { ready = q .span; fits = omega (arith, span-small (q .span)) }
+  -- What it covers.
+  whole : (k : ℕ) → k ≡ covered c → k ≡ h * w
+  whole k e = e ∙ rw (x .count, x .width)
 
-  pub fold-written : (before after : List ℕ) (r : ℕ) → SpanWritten s choices offsets numbers 0 m 0 before after r
-      → FoldWritten s b choices before after r
-  fold-written before after r w =
+  module _ (k : ℕ) (e : k ≡ covered c) where
+    pub power-wide : w ≤ k
+    power-wide = rw (whole k e) (power-next .wide)
+
+    pub power-rest : Follows nexts stop (k - w)
+    power-rest = rw (whole k e) (power-next .to-rest)
+
+    pub power-falls : (q′ : ℕ) → q′ ≡ follow nexts stop (k - w) → q′ < q
+    power-falls q′ f = rw (f, whole k e) (power-next .falls)
+
+  pub body-fits : SpanFits run places nexts choices q stop (p + 5)
+  body-fits =
+      let y = power-next in
       record {
-        is-length = λ z. let q = listed z offsets numbers m all in omega (arith, w .is-end (q .span), ap length (q .same));
-        written = λ z. let q = listed z offsets numbers m all in w .written (q .span) ∙ ap (sets before 0) (q .same);
+        ready = y .body;
+        fits = omega (arith, ready-fits (x .turn), ap length (y .spelled), length-append (fold-bytes (y .body)) (0x21 ∷ fold-bytes (y .rest)));
       }
 
--- Where a sibling stands: in the lists, in the bytes, and in the output.
-pub record NodeBounds (s offsets numbers : List ℕ) (i to : ℕ) : Type 0 where
-  pub below : i < limits .nodes
-  pub start : getD offsets i 0 + 2 ≤ length s
+  module _ (now₁ : List ℕ) (r : ℕ) (now₂ : List ℕ) (l : SpanWritten run places nexts choices q stop (p + 5) now₁ now₂ r) where
+    pub power-close : r < most-bytes
+    power-close =
+        let y = power-next in
+        omega (
+          arith,
+          l .is-end (y .body),
+          ready-fits (x .turn),
+          ap length (y .spelled),
+          length-append (fold-bytes (y .body)) (0x21 ∷ fold-bytes (y .rest)),
+        )
+
+    pub putting-power : now₁ ≡ sets now p (open-bytes h w) → (now₃ : List ℕ) → now₃ ≡ set now₂ r 0x21
+        → (k q′ : ℕ) → k ≡ covered c → q′ ≡ follow nexts stop (k - w)
+        → Putting run places nexts choices first behind to before q′ (r + 1) now₃
+    putting-power opens now₃ closes k q′ e f =
+        rw (f, whole k e) (record { ahead = omega (arith, x .turn .putting .ahead, power-next .falls); left = left })
+      where
+        left : (z : WriteReady run places nexts choices first behind) → Left z to before (follow nexts stop (h * w - w)) (r + 1) now₃
+        left z =
+            let t = x .turn .putting .left z in
+            let y = repeated (t .rest) in
+            let body = fold-bytes (y .body) in
+            let rest = fold-bytes (y .rest) in
+            let opened = along-more (t .along) (open-bytes h w) (body ++ 0x21 ∷ rest) (p + 5) now₁ (y .spelled) refl opens in
+            let held = along-more opened body (0x21 ∷ rest) r now₂ refl (l .is-end (y .body)) (l .written (y .body)) in
+            record { rest = y .rest; along = along-byte held 0x21 rest now₃ refl closes }
+
+-- A sequence from its first place on.
+pub fold-fits : {run places nexts choices : List ℕ} {first behind : ℕ} → WriteReady run places nexts choices first behind
+    → SpanFits run places nexts choices first behind 0
+fold-fits z = record { ready = z; fits = omega (arith, fold-small z) }
+
+pub fold-written : {run places nexts choices : List ℕ} {first behind : ℕ} {before after : List ℕ} {r : ℕ}
+    → SpanWritten run places nexts choices first behind 0 before after r → FoldWritten run places nexts choices first behind before after r
+fold-written w = record { is-length = λ z. omega (arith, w .is-end z); written = w .written }
+
+-- Where a node stands: in the lists, in the run, and in the output.
+pub record NodeBounds (run places nexts : List ℕ) (q to : ℕ) : Type 0 where
+  pub most : q ≤ 1024
+  pub start : getD places q 0 + 2 ≤ length run
   pub place : to + 2 ≤ most-bytes
-  pub long-offsets : length offsets ≡ 1025
-  pub long-numbers : length numbers ≡ 1025
+  pub long-places : length places ≡ 1025
+  pub long-nexts : length nexts ≡ 1025
 
 -- All of a group is written but its close, at whose place the writer is.
-pub record Unclosed (s choices offsets numbers : List ℕ) (i to : ℕ) (before : List ℕ) (at : ℕ) (now : List ℕ) : Type 0 where
-  pub along : (z : SpanReady s choices offsets numbers i (i + 1)) → Along (span-bytes z) (0x12 ∷ []) to before at now
+pub record Unclosed (run places nexts choices : List ℕ) (q to : ℕ) (before : List ℕ) (at : ℕ) (now : List ℕ) : Type 0 where
+  pub along : (n : NodeReady run places nexts choices q) → Along (node-bytes n) (0x12 ∷ []) to before at now
 
--- A sibling alone: its two first bytes, and for a group what it holds and the close.
-module _ {s choices offsets numbers : List ℕ} {i to : ℕ} (m : SpanFits s choices offsets numbers i (i + 1) to) where
-  pub node-bounds : NodeBounds s offsets numbers i to
+-- A node alone: its two first bytes, and for a group what it holds and the close.
+module _ {run places nexts choices : List ℕ} {q to : ℕ} (m : NodeFits run places nexts choices q to) where
+  pub node-bounds : NodeBounds run places nexts q to
   node-bounds =
       record {
-        below = omega (arith, ready-few (m .ready), m .ready .end);
+        most = m .ready .ready .total;
         start = node-start (m .ready);
         place = omega (arith, m .fits, node-two (m .ready));
-        long-offsets = m .ready .long-offsets;
-        long-numbers = m .ready .long-numbers;
+        long-places = m .ready .ready .long-places;
+        long-nexts = m .ready .ready .long-nexts;
       }
 
   -- Its two first bytes are written.
-  module _ (before now₁ now : List ℕ) (first : now₁ ≡ set before to (getD s (getD offsets i 0) 0))
-      (second : now ≡ set now₁ (to + 1) (getD s (getD offsets i 0 + 1) 0)) where
-    head-written : (whole rest : List ℕ) → whole ≡ getD s (getD offsets i 0) 0 ∷ getD s (getD offsets i 0 + 1) 0 ∷ rest
+  module _ (before now₁ now : List ℕ) (first : now₁ ≡ set before to (getD run (getD places q 0) 0))
+      (second : now ≡ set now₁ (to + 1) (getD run (getD places q 0 + 1) 0)) where
+    head-written : (whole rest : List ℕ) → whole ≡ getD run (getD places q 0) 0 ∷ getD run (getD places q 0 + 1) 0 ∷ rest
         → Along whole rest to before (to + 2) now
     head-written whole rest e =
-        let a = getD s (getD offsets i 0) 0 in
-        let b = getD s (getD offsets i 0 + 1) 0 in
+        let a = getD run (getD places q 0) 0 in
+        let b = getD run (getD places q 0 + 1) 0 in
         let two : to + 1 + 1 ≡ to + 2 = omega arith in
         rw two at (along-byte (along-byte (along-none whole to before) a (b ∷ rest) now₁ e first) b rest now refl second)
 
-    pub step-written : getD s (getD offsets i 0) 0 ≡ 0x10 → SpanWritten s choices offsets numbers i (i + 1) to before now (to + 2)
-    step-written h = all-written (λ z. head-written (span-bytes z) [] (node-step z h))
+    pub step-written : getD run (getD places q 0) 0 ≡ 0x10 → NodeWritten run places nexts choices q to before now (to + 2)
+    step-written h = all-written (λ n. head-written (node-bytes n) [] (node-step n h))
 
-    pub inside-written : (getD s (getD offsets i 0) 0 ≡ 0x10 → ⊥)
+    pub inside-written : (getD run (getD places q 0) 0 ≡ 0x10 → ⊥)
         → (lent : ℕ) → (to + 2 ≤ length now → lent ≡ to + 2) → (length now ≤ to + 2 → lent ≡ length now)
         → (n : ℕ) (after : List ℕ)
-        → FoldWritten (children s offsets i) (getD numbers (i + 1) 0) choices (take (length now - lent) (drop lent now)) after n
-        → Unclosed s choices offsets numbers i to before (to + 2 + n) (putMid lent (length now - lent) now after)
+        → FoldWritten run places nexts choices (q - 1) (getD nexts q 0) (take (length now - lent) (drop lent now)) after n
+        → Unclosed run places nexts choices q to before (to + 2 + n) (putMid lent (length now - lent) now after)
     inside-written h lent inside past n after w = record { along = along }
       where
-        along : (z : SpanReady s choices offsets numbers i (i + 1))
-            → Along (span-bytes z) (0x12 ∷ []) to before (to + 2 + n) (putMid lent (length now - lent) now after)
-        along z =
-            let g = node-group z h in
-            let x = fold-bytes (g .inside) in
-            along-more (head-written (span-bytes z) (x ++ 0x12 ∷ []) (g .spelled)) x (0x12 ∷ []) (to + 2 + n) (putMid lent (length now - lent) now after)
-            refl (omega (arith, w .is-length (g .inside))) (lent-back x now after (to + 2) lent inside past (w .written (g .inside)))
+        along : (x : NodeReady run places nexts choices q)
+            → Along (node-bytes x) (0x12 ∷ []) to before (to + 2 + n) (putMid lent (length now - lent) now after)
+        along x =
+            let g = node-group x h in
+            let y = fold-bytes (g .inside) in
+            along-more (head-written (node-bytes x) (y ++ 0x12 ∷ []) (g .spelled)) y (0x12 ∷ []) (to + 2 + n) (putMid lent (length now - lent) now after)
+            refl (omega (arith, w .is-length (g .inside))) (lent-back y now after (to + 2) lent inside past (w .written (g .inside)))
 
-  pub close-fits : {before : List ℕ} {at : ℕ} {now : List ℕ} → Unclosed s choices offsets numbers i to before at now → at < most-bytes
+  pub close-fits : {before : List ℕ} {at : ℕ} {now : List ℕ} → Unclosed run places nexts choices q to before at now → at < most-bytes
   close-fits u = omega (arith, along-end (u .along (m .ready)), m .fits)
 
-pub closed : {s choices offsets numbers : List ℕ} {i to : ℕ} {before : List ℕ} {at : ℕ} {now : List ℕ}
-    → Unclosed s choices offsets numbers i to before at now → (now′ : List ℕ) → now′ ≡ set now at 0x12
-    → SpanWritten s choices offsets numbers i (i + 1) to before now′ (at + 1)
-closed u now′ e = all-written (λ z. along-byte (u .along z) 0x12 [] now′ refl e)
+pub closed : {run places nexts choices : List ℕ} {q to : ℕ} {before : List ℕ} {at : ℕ} {now : List ℕ}
+    → Unclosed run places nexts choices q to before at now → (now′ : List ℕ) → now′ ≡ set now at 0x12
+    → NodeWritten run places nexts choices q to before now′ (at + 1)
+closed u now′ e = all-written (λ n. along-byte (u .along n) 0x12 [] now′ refl e)

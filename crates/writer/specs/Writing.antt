@@ -1,66 +1,89 @@
 -- What the writer's functions rest on and promise: the bytes of the cheapest fold and their length, by the choices in the table.
 use mathlib.Core.Path.{_≡_}
-use mathlib.Core.List.{List, [], _∷_}
-use Prim.Native.Nat.{ℕ, _+_, _-_, _*_, _≤_}
-use lib.ListN.{length, getD}
+use mathlib.Core.List.{List, [], _∷_, _++_}
+use Prim.Native.Nat.{ℕ, zero, suc, _+_, _*_, _<_, _≤_}
+use lib.ListN.{length, getD, drop}
 use lib.Seq.{sets}
 use Rattle.format.specs.Limits.{Prices, limits, cells}
-use Rattle.format.specs.Forest.{Allowed, siblings, nodes, bytes, two-bytes}
-use Rattle.format.specs.Tree.{tree-of}
-use Rattle.optimum.specs.Cheapest.{cheapest}
-use Rattle.table.specs.Table.{stretch}
+use Rattle.format.specs.Forest.{Forest, Allowed, nodes, bytes, two-bytes}
+use Rattle.optimum.specs.Cheapest.{Run, front, cheapest}
 use Rattle.table.specs.Used.{UsedFilled}
-use Rattle.table.specs.Listing.{Spelled, Placed, Numbered}
+use Rattle.table.specs.Nodes.{NodesListed}
 
--- All that the length and the bytes of the cheapest fold rest on.
-pub record WriteReady (s : List ℕ) (b : ℕ) (choices : List ℕ) : Type 0 where
+-- All that the length and the bytes of the cheapest fold of a sequence rest on: the sequence stands in the run, its nodes are listed by
+-- their numbers, from `first` down to `behind`, and the table has the stretches of it that a fold can use.
+pub record WriteReady (run places nexts choices : List ℕ) (first behind : ℕ) : Type 0 where
+  pub tree : Forest
+  pub is-run : (A : Allowed) → Run A tree
+  pub place : ℕ
+  pub rest : List ℕ
+  pub stands : drop place run ≡ bytes tree ++ rest
+  pub long-places : length places ≡ 1025
+  pub long-nexts : length nexts ≡ 1025
+  pub listed : NodesListed places nexts place behind tree
+  pub counted : first ≡ behind + nodes tree
+  pub total : first ≤ 1024
+  pub room : cells first ≤ length choices
   pub allowed : Allowed
   pub prices-are : Prices
   pub costs : List ℕ
-  pub spelled : Spelled s
-  pub total : b + nodes (tree-of s) ≤ 1024
-  pub room : cells (b + nodes (tree-of s)) ≤ length choices
-  pub filled : UsedFilled allowed prices-are b (tree-of s) costs choices
+  pub filled : UsedFilled allowed prices-are behind tree costs choices
 
--- The same for a span of siblings.
-pub record SpanReady (s choices offsets numbers : List ℕ) (i j : ℕ) : Type 0 where
-  pub ready : WriteReady s (getD numbers (siblings (tree-of s)) 0) choices
-  pub long-offsets : length offsets ≡ 1025
-  pub placed : Placed s offsets
-  pub long-numbers : length numbers ≡ 1025
-  pub numbered : Numbered (getD numbers (siblings (tree-of s)) 0) (tree-of s) numbers
-  pub order : i ≤ j
-  pub end : j ≤ siblings (tree-of s)
+-- The same for the first node of a sequence, by itself.
+pub record NodeReady (run places nexts choices : List ℕ) (q : ℕ) : Type 0 where
+  pub behind : ℕ
+  pub ready : WriteReady run places nexts choices q behind
+  pub some : behind < q
 
--- The bytes of the cheapest fold of a sequence, and of a span of its siblings.
-abbrev pub fold-bytes : {s : List ℕ} {b : ℕ} {choices : List ℕ} → WriteReady s b choices → List ℕ
-fold-bytes {s = s} z = bytes (cheapest (z .allowed) (z .prices-are) (tree-of s))
+-- The bytes of the cheapest fold of a sequence, and of its first node.
+abbrev pub fold-bytes : {run places nexts choices : List ℕ} {first behind : ℕ} → WriteReady run places nexts choices first behind → List ℕ
+fold-bytes z = bytes (cheapest (z .allowed) (z .prices-are) (z .tree))
 
-abbrev pub span-bytes : {s choices offsets numbers : List ℕ} {i j : ℕ} → SpanReady s choices offsets numbers i j → List ℕ
-span-bytes {s = s} {i = i} {j = j} z =
-    bytes (cheapest (z .ready .allowed) (z .ready .prices-are) (stretch (tree-of s) i (j - i)))
+abbrev pub node-bytes : {run places nexts choices : List ℕ} {q : ℕ} → NodeReady run places nexts choices q → List ℕ
+node-bytes z = bytes (cheapest (z .ready .allowed) (z .ready .prices-are) (front 1 (z .ready .tree)))
 
 -- No fold has more bytes than four for each node, so no place behind one is further on.
 abbrev pub most-bytes : ℕ
 most-bytes = 4 * limits .nodes
 
--- A span of siblings whose fold ends at such a place when it begins at `to`.
-pub record SpanFits (s choices offsets numbers : List ℕ) (i j to : ℕ) : Type 0 where
-  pub ready : SpanReady s choices offsets numbers i j
-  pub fits : to + length (span-bytes ready) ≤ most-bytes
+-- A sequence, or a node, whose fold ends at such a place when it begins at `to`.
+pub record SpanFits (run places nexts choices : List ℕ) (first behind to : ℕ) : Type 0 where
+  pub ready : WriteReady run places nexts choices first behind
+  pub fits : to + length (fold-bytes ready) ≤ most-bytes
 
--- A length is that of the cheapest fold, for whatever tables and prices the choices were made.
-pub record FoldLength (s : List ℕ) (b : ℕ) (choices : List ℕ) (r : ℕ) : Type 0 where
-  pub is-length : (z : WriteReady s b choices) → r ≡ length (fold-bytes z)
+pub record NodeFits (run places nexts choices : List ℕ) (q to : ℕ) : Type 0 where
+  pub ready : NodeReady run places nexts choices q
+  pub fits : to + length (node-bytes ready) ≤ most-bytes
 
--- It is written from the place on, as far as there is room, and nothing else; the answer is the place behind it.
-pub record FoldWritten (s : List ℕ) (b : ℕ) (choices before after : List ℕ) (r : ℕ) : Type 0 where
-  pub is-length : (z : WriteReady s b choices) → r ≡ length (fold-bytes z)
-  pub written : (z : WriteReady s b choices) → after ≡ sets before 0 (fold-bytes z)
+-- A length is that of the cheapest fold, for whatever sequence, tables and prices the choices were made.
+pub record FoldLength (run places nexts choices : List ℕ) (first behind r : ℕ) : Type 0 where
+  pub is-length : (z : WriteReady run places nexts choices first behind) → r ≡ length (fold-bytes z)
 
-pub record SpanWritten (s choices offsets numbers : List ℕ) (i j to : ℕ) (before after : List ℕ) (r : ℕ) : Type 0 where
-  pub is-end : (z : SpanReady s choices offsets numbers i j) → r ≡ to + length (span-bytes z)
-  pub written : (z : SpanReady s choices offsets numbers i j) → after ≡ sets before to (span-bytes z)
+-- It is written at the front, as far as there is room, and nothing else; the answer is its length.
+pub record FoldWritten (run places nexts choices : List ℕ) (first behind : ℕ) (before after : List ℕ) (r : ℕ) : Type 0 where
+  pub is-length : (z : WriteReady run places nexts choices first behind) → r ≡ length (fold-bytes z)
+  pub written : (z : WriteReady run places nexts choices first behind) → after ≡ sets before 0 (fold-bytes z)
+
+-- The bytes that each of X has are written from the place `to` on, as far as there is room, and nothing else; the answer is the place
+-- behind them.
+pub record Written {X : Type 0} (of-each : X → List ℕ) (to : ℕ) (before after : List ℕ) (r : ℕ) : Type 0 where
+  pub is-end : (x : X) → r ≡ to + length (of-each x)
+  pub written : (x : X) → after ≡ sets before to (of-each x)
+
+abbrev pub SpanWritten : (run places nexts choices : List ℕ) (first behind to : ℕ) (before after : List ℕ) (r : ℕ) → Type 0
+SpanWritten run places nexts choices first behind = Written (λ (z : WriteReady run places nexts choices first behind). fold-bytes z)
+
+abbrev pub NodeWritten : (run places nexts choices : List ℕ) (q to : ℕ) (before after : List ℕ) (r : ℕ) → Type 0
+NodeWritten run places nexts choices q = Written (λ (z : NodeReady run places nexts choices q). node-bytes z)
+
+-- The number that is reached from q by going to the next one k times.
+unfoldable pub follow : (nexts : List ℕ) (q k : ℕ) → ℕ
+follow nexts q zero = q
+follow nexts q (suc k) = follow nexts (getD nexts q 0) k
+
+-- Each of these numbers but the last has a next one.
+pub record Follows (nexts : List ℕ) (q k : ℕ) : Type 0 where
+  pub within : (i : ℕ) → i < k → follow nexts q i < length nexts
 
 -- The open of a repeat.
 abbrev pub open-bytes : (h w : ℕ) → List ℕ

@@ -1,103 +1,144 @@
 // Writing the cheapest fold by the choices in the table. What has no room is left out and the place behind the fold is answered all
-// the same, so over an empty output the writer only measures.
+// the same, so over an empty output the writer only measures. A sequence goes by the numbers of its nodes: from that of its first one
+// down to the one that it ends at.
 use format::Format;
-use table::Lists;
 use table::count_digit;
 use table::covered;
-use table::list_siblings;
-use table::look;
+use table::entry;
 use table::smaller;
+use table::widen;
 use table::width_digit;
 ghost use mathlib.Core.Path.{_≡_};
 ghost use mathlib.Core.List.{[]};
-ghost use Prim.Native.Nat.{_+_, _-_, _<_, _≤_};
-ghost use lib.ListN.{set};
+ghost use Prim.Native.Nat.{_+_, _<_, _≤_};
+ghost use lib.ListN.{length, getD, set};
 ghost use lib.Seq.{sets};
 ghost use Rattle.format.specs.Forest.{two-bytes};
-ghost use Rattle.format.specs.Tree.{tree-of};
-ghost use Rattle.table.specs.Used.{Used};
-ghost use Rattle.writer.specs.Writing.{WriteReady, SpanFits, FoldLength, FoldWritten, SpanWritten, most-bytes, open-bytes};
+ghost use Rattle.table.specs.Table.{cell};
+ghost use Rattle.writer.specs.Writing.{WriteReady, SpanFits, NodeFits, FoldLength, FoldWritten, SpanWritten, NodeWritten, Follows, follow, most-bytes, open-bytes};
 
-// The length of the cheapest fold of the sequence s, behind which b nodes of the run follow.
-pub fn fold_length(s: &[u8], b: usize, choices: &[u32]) -> usize
-    requires { ⌜ WriteReady (now s) b (now choices) ⌝ }
-    ensures { λ r. ⌜ FoldLength (now (s .entry)) b (now (choices .entry)) r ⌝ }
+// The length of the cheapest fold of a sequence of the run, whose nodes are listed.
+pub fn fold_length(
+    run: &[u8],
+    places: &[usize],
+    nexts: &[usize],
+    choices: &[u32],
+    first: usize,
+    behind: usize,
+) -> usize
+    requires { ⌜ WriteReady (now run) (now places) (now nexts) (now choices) first behind ⌝ }
+    ensures { λ r. ⌜ FoldLength (now (run .entry)) (now (places .entry)) (now (nexts .entry)) (now (choices .entry)) first behind r ⌝ }
 {
     let mut none: [u8; 0] = [0; 0];
-    put_fold(s, b, choices, &mut none)
+    put_fold(run, places, nexts, choices, first, behind, &mut none)
 }
 
-// Writes the cheapest fold of the sequence s at the front of the output, and answers its length.
-pub fn put_fold(s: &[u8], b: usize, choices: &[u32], out: &mut [u8]) -> usize
-    requires { ⌜ WriteReady (now s) b (now choices) ⌝ }
-    ensures { λ r. ⌜ FoldWritten (now (s .entry)) b (now (choices .entry)) (now (out .entry)) (now (out .exit)) r ⌝ }
-{
-    let mut offsets = [0usize; Lists::LENGTH];
-    let mut numbers = [0usize; Lists::LENGTH];
-    let m = list_siblings(s, b, &mut offsets, &mut numbers);
-    put_span(s, choices, &offsets, &numbers, 0, m, out, 0)
-}
-
-// Writes the cheapest fold of the siblings from i up to j from the place `to` on, and answers the place behind it.
-fn put_span(
-    s: &[u8],
+// Writes the cheapest fold of a sequence at the front of the output, and answers its length.
+pub fn put_fold(
+    run: &[u8],
+    places: &[usize],
+    nexts: &[usize],
     choices: &[u32],
-    offsets: &[usize],
-    numbers: &[usize],
-    i: usize,
-    j: usize,
+    first: usize,
+    behind: usize,
+    out: &mut [u8],
+) -> usize
+    requires { ⌜ WriteReady (now run) (now places) (now nexts) (now choices) first behind ⌝ }
+    ensures { λ r. ⌜ FoldWritten (now (run .entry)) (now (places .entry)) (now (nexts .entry)) (now (choices .entry)) first behind (now (out .entry)) (now (out .exit)) r ⌝ }
+{
+    put_span(run, places, nexts, choices, first, behind, out, 0)
+}
+
+// Writes the cheapest fold of a sequence from the place `to` on, and answers the place behind it. What follows an item is a sequence
+// again, and so is the body of a repeat.
+fn put_span(
+    run: &[u8],
+    places: &[usize],
+    nexts: &[usize],
+    choices: &[u32],
+    first: usize,
+    behind: usize,
     out: &mut [u8],
     to: usize,
 ) -> usize
-    requires { ⌜ SpanFits (now s) (now choices) (now offsets) (now numbers) i j to ⌝ }
-    requires { ⌜ Used (tree-of (now s)) i (j - i) ⌝ }
-    ensures { λ r. ⌜ SpanWritten (now (s .entry)) (now (choices .entry)) (now (offsets .entry)) (now (numbers .entry)) i j to (now (out .entry)) (now (out .exit)) r ⌝ }
+    requires { ⌜ SpanFits (now run) (now places) (now nexts) (now choices) first behind to ⌝ }
+    ensures { λ r. ⌜ SpanWritten (now (run .entry)) (now (places .entry)) (now (nexts .entry)) (now (choices .entry)) first behind to (now (out .entry)) (now (out .exit)) r ⌝ }
 {
-    let mut k = i;
+    let mut q = first;
     let mut p = to;
-    while k < j {
-        let choice = look(choices, numbers, k, j);
+    while behind < q {
+        let choice = choice_at(choices, behind, q);
         if choice == 0 {
-            p = put_node(s, choices, offsets, numbers, k, out, p);
-            k += 1;
+            p = put_node(run, places, nexts, choices, q, out, p);
+            q = nexts[q];
         } else {
             let w = width_digit(choice);
+            let end = skip(nexts, q, w);
             put_open(out, p, count_digit(choice), w);
-            p = put_span(s, choices, offsets, numbers, k, k + w, out, p + 5);
+            p = put_span(run, places, nexts, choices, q, end, out, p + 5);
             put_byte(out, p, Format::REPEAT_END);
             p += 1;
-            k += covered(choice);
+            q = skip(nexts, end, covered(choice) - w);
         }
     }
     p
 }
 
-// Writes sibling i with the cheapest fold of what it holds: a group's children go into the rest of the lent output, the empty one at
-// its end where the output is full.
+// Writes the node of number q with the cheapest fold of what it holds: a group's children go into the rest of the lent output, the
+// empty one at its end where the output is full.
 fn put_node(
-    s: &[u8],
+    run: &[u8],
+    places: &[usize],
+    nexts: &[usize],
     choices: &[u32],
-    offsets: &[usize],
-    numbers: &[usize],
-    i: usize,
+    q: usize,
     out: &mut [u8],
     to: usize,
 ) -> usize
-    requires { ⌜ SpanFits (now s) (now choices) (now offsets) (now numbers) i (i + 1) to ⌝ }
-    ensures { λ r. ⌜ SpanWritten (now (s .entry)) (now (choices .entry)) (now (offsets .entry)) (now (numbers .entry)) i (i + 1) to (now (out .entry)) (now (out .exit)) r ⌝ }
+    requires { ⌜ NodeFits (now run) (now places) (now nexts) (now choices) q to ⌝ }
+    ensures { λ r. ⌜ NodeWritten (now (run .entry)) (now (places .entry)) (now (nexts .entry)) (now (choices .entry)) q to (now (out .entry)) (now (out .exit)) r ⌝ }
 {
-    let at = offsets[i];
-    put_byte(out, to, s[at]);
-    put_byte(out, to + 1, s[at + 1]);
-    if s[at] == Format::STEP {
+    let at = places[q];
+    put_byte(out, to, run[at]);
+    put_byte(out, to + 1, run[at + 1]);
+    if run[at] == Format::STEP {
         return to + 2;
     }
-    let end = offsets[i + 1] - 1;
     let start = to + 2;
     let lent = smaller(start, out.len());
-    let n = put_fold(&s[at + 2..end], numbers[i + 1], choices, &mut out[lent..]);
+    let n = put_fold(
+        run,
+        places,
+        nexts,
+        choices,
+        q - 1,
+        nexts[q],
+        &mut out[lent..],
+    );
     put_byte(out, start + n, Format::GROUP_END);
     start + n + 1
+}
+
+// The choice for the sequence from number q on that ends at number `behind`, as the table has it.
+fn choice_at(choices: &[u32], behind: usize, q: usize) -> u64
+    requires { ⌜ (behind < q) × (q ≤ 1024) × (cell behind q < length (now choices)) ⌝ }
+    ensures { λ r. ⌜ r ≡ getD (now (choices .entry)) (cell behind q) 0 ⌝ }
+{
+    widen(choices[entry(behind, q)])
+}
+
+// The number of the sibling k further on than that of number q, or of the end where there are no more.
+fn skip(nexts: &[usize], q: usize, k: usize) -> usize
+    requires { ⌜ Follows (now nexts) q k ⌝ }
+    ensures { λ r. ⌜ r ≡ follow (now (nexts .entry)) q k ⌝ }
+{
+    let mut at = q;
+    let mut left = k;
+    while 0 < left {
+        at = nexts[at];
+        left -= 1;
+    }
+    at
 }
 
 // Writes the open of a repeat: count and width follow it.

@@ -10,6 +10,7 @@ use Rattle.format.specs.declared.Folded.{Folded}
 use Rattle.folder.specs.Folding.{room-answer, room-output}
 use Rattle.optimum.specs.Cheapest.{cheapest, best-cost}
 use Rattle.table.specs.Listing.{Spelled}
+use Rattle.table.specs.Nodes.{NodesListed}
 use Rattle.table.specs.Used.{UsedFilled}
 
 -- The table of an accepted run of n nodes is filled: it has the stretches that a fold can use.
@@ -20,6 +21,12 @@ pub record RunFilled (run : List ℕ) (n limit : ℕ) (P : Prices) (costs choice
   pub cost-room : cells n ≤ length costs
   pub choice-room : cells n ≤ length choices
   pub filled : UsedFilled (at-most limit) P 0 (tree-of run) costs choices
+
+-- Its nodes are listed by their numbers.
+pub record RunListed (run places nexts : List ℕ) : Type 0 where
+  pub long-places : length places ≡ 1025
+  pub long-nexts : length nexts ≡ 1025
+  pub listed : NodesListed places nexts 0 0 (tree-of run)
 
 -- The cheapest fold is written where there is room, for whatever limit and prices the table was filled.
 pub record RunWritten (run : List ℕ) (n : ℕ) (costs choices out out′ : List ℕ) (r : Folded) : Type 0 where

@@ -1,7 +1,7 @@
 -- The proof of `enter_tree`, which calls itself on the bytes inside each group: they are fewer. Its loop passes the siblings, with
 -- all below those passed entered.
 use mathlib.Core.Path.{sym, _∙_}
-use Prim.Native.Nat.{ℕ, _-_, _<_}
+use Prim.Native.Nat.{ℕ, _<_, _≤_}
 use native.Mathlib.Omega.{arith}
 use lib.ListN.{length}
 use borrow.Fn.Kinds.{In}
@@ -10,31 +10,30 @@ use Rattle.filling.proofs.level.enter_tree.Reads as reads
 use Rattle.filling.proofs.level.enter_tree.Kinds as kinds
 use Rattle.filling.proofs.level.+enter_tree.Lts-enter_tree as lts
 use Rattle.filling.proofs.level.enter_level.Reads as enter-level-reads
-use Rattle.table.proofs.count_nodes.Reads as count-nodes-reads
-use Rattle.reader.proofs.node_at.Reads as node-at-reads
+use Rattle.filling.proofs.level.inside.Reads as inside-reads
+use Rattle.table.proofs.part_of.Reads as part-of-reads
 use Rattle.format.specs.Forest.{at-most}
 use Rattle.filling.specs.Filling.{prices-of, Scratch}
 use Rattle.filling.proofs.Entries.{kept-then}
-use Rattle.table.proofs.Listings.{spelled-count}
-use Rattle.filling.proofs.Recursion.{Through, Passing, Opening, through-none, passing, through-step, opening, through-group, through-all, through-ready}
+use Rattle.filling.proofs.Recursion.{Through, Opening, through-none, through-listed, through-less, passing, through-step, group-long, opening, through-group, through-all, through-ready}
 use Rattle.filling.proofs.level.+enter_tree.{statement}
 use Rattle.filling.proofs.level.+enter_tree.Tie.{close}
 
-abbrev μ-tree : Measures 10 kinds.ps ℕ
-μ-tree κs a = length (a .0 .now)
+abbrev μ-tree : Measures 12 kinds.ps ℕ
+μ-tree κs a = length (a .1 .1 .0 .now)
 
-abbrev asked : ℕ → In 10 kinds.ps
-asked t = and 10 kinds.ps (is 10 kinds.ps μ-tree t) reads.Pre
+abbrev asked : ℕ → In 12 kinds.ps
+asked t = and 12 kinds.ps (is 12 kinds.ps μ-tree t) reads.Pre
 
-abbrev asked-below : ℕ → In 10 kinds.ps
-asked-below t = and 10 kinds.ps (falls 10 kinds.ps _<_ μ-tree t) reads.Pre
+abbrev asked-below : ℕ → In 12 kinds.ps
+asked-below t = and 12 kinds.ps (falls 12 kinds.ps _<_ μ-tree t) reads.Pre
 
 abbrev calls : ℕ → lts.Claims
 calls t = (
-  count-nodes-reads.Asked,
-  count-nodes-reads.Learnt,
-  node-at-reads.Asked,
-  node-at-reads.Learnt,
+  part-of-reads.Asked,
+  part-of-reads.Learnt,
+  inside-reads.Asked,
+  inside-reads.Learnt,
   asked-below t,
   reads.Post,
   enter-level-reads.Asked,
@@ -42,46 +41,43 @@ calls t = (
 )
 
 abbrev Inv-loop : lts.InvT-loop
-Inv-loop s level table prices offsets₀ numbers₀ kinds₀ matches₀ keys₀ costs₀ choices₀ at₀ n₀ offsets numbers kinds matches keys costs choices at n =
-    Through (at-most (level .limit)) (prices-of table prices) s (level .behind) costs₀ choices₀ costs choices at n
+Inv-loop places nexts s level table prices offsets₀ numbers₀ kinds₀ matches₀ keys₀ costs₀ choices₀ span q₀ offsets numbers kinds matches keys costs choices q =
+    Through (at-most (level .limit)) (prices-of table prices) s (level .span .behind) costs₀ choices₀ costs choices q
     × Scratch offsets numbers kinds matches keys
 
 abbrev μ-loop : lts.MeasureT-loop
-μ-loop s level table prices offsets₀ numbers₀ kinds₀ matches₀ keys₀ costs₀ choices₀ at₀ n₀ offsets numbers kinds matches keys costs choices at n =
-    length s - at
+μ-loop places nexts s level table prices offsets₀ numbers₀ kinds₀ matches₀ keys₀ costs₀ choices₀ span q₀ offsets numbers kinds matches keys costs choices q = q
 
 module _ (t : ℕ) where
-  -- The function's start, from where its nodes are counted, and from the loop's head.
-  abbrev begun : lts.After-struct-known (calls t) (asked t) reads.Post Inv-loop μ-loop → lts.Start (calls t) (asked t) reads.Post Inv-loop μ-loop
-  begun c = c .before .before .before .before .before .before .before .before .before .before .before .before
+  -- The function's start, from where the loop begins, and from its head.
+  abbrev begun : lts.After-span (calls t) (asked t) reads.Post Inv-loop μ-loop → lts.Start (calls t) (asked t) reads.Post Inv-loop μ-loop
+  begun c = c .before .before .before .before .before .before .before .before .before .before .before .before .before
 
   abbrev start : lts.At-loop (calls t) (asked t) reads.Post Inv-loop μ-loop → lts.Start (calls t) (asked t) reads.Post Inv-loop μ-loop
   start c = begun (c .before)
 
-  -- The next sibling's part, from where its nodes are counted, and that, from the branch for a group.
-  abbrev part : lts.After-count-nodes2 (calls t) (asked t) reads.Post Inv-loop μ-loop → lts.After-node-at (calls t) (asked t) reads.Post Inv-loop μ-loop
-  part c = c .before
+  -- The loop's head, from its inside; that, from where the next sibling's part is known; and that, from the branch for a group.
+  abbrev head : lts.Then1 (calls t) (asked t) reads.Post Inv-loop μ-loop → lts.At-loop (calls t) (asked t) reads.Post Inv-loop μ-loop
+  head c = c .before .before
 
-  abbrev counted : lts.Then1 (calls t) (asked t) reads.Post Inv-loop μ-loop → lts.After-count-nodes2 (calls t) (asked t) reads.Post Inv-loop μ-loop
-  counted c = c .before .before
+  abbrev taken : lts.After-part-of (calls t) (asked t) reads.Post Inv-loop μ-loop → lts.Then1 (calls t) (asked t) reads.Post Inv-loop μ-loop
+  taken c = c .before .before
 
-  -- The call, from where it is over, and the branch that it was made in; the end of the loop, from where the level is entered.
+  abbrev part : lts.Then2 (calls t) (asked t) reads.Post Inv-loop μ-loop → lts.After-part-of (calls t) (asked t) reads.Post Inv-loop μ-loop
+  part c = c .before .before
+
+  -- The call, from where it is over, and the level that it was made at; the end of the loop, from where the level is entered.
   abbrev call : lts.After-slice-known14 (calls t) (asked t) reads.Post Inv-loop μ-loop → lts.After-enter-tree (calls t) (asked t) reads.Post Inv-loop μ-loop
   call c = c .before .before .before .before .before .before .before .before .before .before .before .before .before .before
 
-  abbrev called : lts.After-enter-tree (calls t) (asked t) reads.Post Inv-loop μ-loop → lts.Then1 (calls t) (asked t) reads.Post Inv-loop μ-loop
-  called c = c .before .before .before .before .before .before .before .before .before
+  abbrev called : lts.After-enter-tree (calls t) (asked t) reads.Post Inv-loop μ-loop → lts.After-inside (calls t) (asked t) reads.Post Inv-loop μ-loop
+  called c = c .before .before .before .before .before .before .before .before
 
-  abbrev through : lts.After-enter-level (calls t) (asked t) reads.Post Inv-loop μ-loop → lts.After-loop (calls t) (asked t) reads.Post Inv-loop μ-loop
+  abbrev group : lts.After-inside (calls t) (asked t) reads.Post Inv-loop μ-loop → lts.Then2 (calls t) (asked t) reads.Post Inv-loop μ-loop
+  group c = c .before .before
+
+  abbrev through : lts.After-enter-level (calls t) (asked t) reads.Post Inv-loop μ-loop → lts.Else1 (calls t) (asked t) reads.Post Inv-loop μ-loop
   through c = c .before .before .before .before .before .before .before .before
-
-  count-nodes-requires : lts.Need-count-nodes-requires (calls t) (asked t) reads.Post Inv-loop μ-loop
-  count-nodes-requires c κs = tt
-
-  add-n : lts.Need-add-n (calls t) (asked t) reads.Post Inv-loop μ-loop
-  add-n c =
-      let l = begun c .pre .1 .0 in
-      omega (arith, c .before .count-nodes .ensures, spelled-count _ (l .spelled), l .total)
 
   loop-holds : lts.Need-loop-holds (calls t) (asked t) reads.Post Inv-loop μ-loop
   loop-holds c =
@@ -89,102 +85,123 @@ module _ (t : ℕ) where
       let a = S .args in
       let A = at-most (a .level .limit) in
       let P = prices-of (a .table .now) (a .prices .now) in (
-        through-none A P (a .s .now) (S .pre .1 .0 .spelled) (a .level .behind) (a .costs .now) (a .choices .now) _ (c .before .count-nodes .ensures .0),
-        S .pre .1 .1,
+        through-none A P (a .s .now) (a .level .span .behind) (a .costs .now) (a .choices .now) (a .level .span .first) (S .pre .1 .1 .1 .listed .numbered),
+        S .pre .1 .1 .0,
       )
 
-  -- Where the part of the next sibling is known, and inside the branch for a group.
-  passes : (c : lts.After-node-at (calls t) (asked t) reads.Post Inv-loop μ-loop)
-      → (let L = c .before .before in
-      Passing (start L .args .s .now) (L .loop .at) (L .loop .n) (c .node-at .result .now))
+  -- The next sibling's number has its places in the lists; its part has a command and a label; a group's has a close, too.
+  listed : (c : lts.At-loop (calls t) (asked t) reads.Post Inv-loop μ-loop) → c .loop .q ≤ 1024
+  listed c = let S = start c in through-listed (S .pre .1 .0) (S .pre .1 .1 .1) (c .loop .inv .0)
+
+  passes : (c : lts.After-part-of (calls t) (asked t) reads.Post Inv-loop μ-loop) → 2 ≤ length (c .part-of .result .now)
   passes c =
-      let L = c .before .before in
-      passing (start L .pre .1 .0) (L .loop .inv .0) (c .before .loop-test .taken) (c .node-at .result .now) (c .node-at .ensures)
+      let I = taken c in
+      let S = start (head I) in
+      passing (S .pre .1 .0) (S .pre .1 .1 .1) (head I .loop .inv .0) (I .if1 .taken) (c .part-of .ensures) .0
 
-  opens : (c : lts.Then1 (calls t) (asked t) reads.Post Inv-loop μ-loop)
-      → (let N = counted c in
-      let L = part N .before .before in
-      let a = start L .args in
-      Opening (a .s .now) (L .loop .at) (L .loop .n - N .count-nodes2 .result) (part N .node-at .result .now) (a .level .limit) (a .table .now)
-      (a .prices .now) (L .loop .costs) (L .loop .choices))
-  opens c =
-      let N = counted c in
-      let p = part N in
-      let L = p .before .before in
-      opening (start L .pre .1 .0) (L .loop .inv .0) (p .before .loop-test .taken) (p .node-at .result .now) (p .node-at .ensures) (c .if1 .taken) _
-      (N .count-nodes2 .ensures .0)
+  closes : (c : lts.Then2 (calls t) (asked t) reads.Post Inv-loop μ-loop) → 3 ≤ length (part c .part-of .result .now)
+  closes c =
+      let I = taken (part c) in
+      let S = start (head I) in
+      group-long (S .pre .1 .0) (S .pre .1 .1 .1) (head I .loop .inv .0) (I .if1 .taken) (part c .part-of .ensures) (c .if2 .taken)
 
-  node-at-requires : lts.Need-node-at-requires (calls t) (asked t) reads.Post Inv-loop μ-loop
-  node-at-requires c κs = tt
+  mul-next : lts.Need-mul-next (calls t) (asked t) reads.Post Inv-loop μ-loop
+  mul-next c = omega (arith, listed (head c))
 
-  add-end : lts.Need-add-end (calls t) (asked t) reads.Post Inv-loop μ-loop
-  add-end c = omega (arith, passes c)
+  shared-slice-read-next : lts.Need-shared-slice-read-next (calls t) (asked t) reads.Post Inv-loop μ-loop
+  shared-slice-read-next c = let H = head (c .before) in omega (arith, listed H, start H .pre .1 .1 .1 .long-nexts)
 
-  count-nodes-requires-2 : lts.Need-count-nodes-requires-2 (calls t) (asked t) reads.Post Inv-loop μ-loop
-  count-nodes-requires-2 c κs = tt
+  part-of-requires : lts.Need-part-of-requires (calls t) (asked t) reads.Post Inv-loop μ-loop
+  part-of-requires c κs =
+      let H = head (c .before) in
+      let S = start H in
+      let z = S .pre .1 .1 .1 in
+      (S .pre .1 .0 .spelled, (z .listed, ((z .long-places, z .long-nexts), (c .before .if1 .taken, (_, H .loop .inv .0 .reached)))))
 
-  sub-n : lts.Need-sub-n (calls t) (asked t) reads.Post Inv-loop μ-loop
-  sub-n c = omega (arith, passes (part c), c .count-nodes2 .ensures)
-
-  shared-slice-read-if1 : lts.Need-shared-slice-read-if1 (calls t) (asked t) reads.Post Inv-loop μ-loop
-  shared-slice-read-if1 c = omega arith
-
-  add-enter-tree : lts.Need-add-enter-tree (calls t) (asked t) reads.Post Inv-loop μ-loop
-  add-enter-tree c = omega (arith, passes (part (counted c)))
+  shared-slice-read-if2 : lts.Need-shared-slice-read-if2 (calls t) (asked t) reads.Post Inv-loop μ-loop
+  shared-slice-read-if2 c = omega (arith, passes (c .before))
 
   sub-enter-tree : lts.Need-sub-enter-tree (calls t) (asked t) reads.Post Inv-loop μ-loop
-  sub-enter-tree c = omega (arith, passes (part (counted c)))
+  sub-enter-tree c = omega (arith, closes c)
 
   sub-enter-tree-2 : lts.Need-sub-enter-tree-2 (calls t) (asked t) reads.Post Inv-loop μ-loop
-  sub-enter-tree-2 c = omega (arith, opens c .long)
+  sub-enter-tree-2 c = omega (arith, closes c)
 
   part-enter-tree-start : lts.Need-part-enter-tree-start (calls t) (asked t) reads.Post Inv-loop μ-loop
-  part-enter-tree-start c = omega (arith, opens c .long)
+  part-enter-tree-start c = omega (arith, closes c)
 
   part-enter-tree-end : lts.Need-part-enter-tree-end (calls t) (asked t) reads.Post Inv-loop μ-loop
-  part-enter-tree-end c = omega (arith, passes (part (counted c)))
+  part-enter-tree-end c = omega (arith, closes c)
+
+  inside-requires : lts.Need-inside-requires (calls t) (asked t) reads.Post Inv-loop μ-loop
+  inside-requires c κs =
+      let I = taken (part (c .before)) in
+      let H = head I in
+      (omega (arith, I .if1 .taken), omega (arith, listed H, start H .pre .1 .1 .1 .long-places))
+
+  -- All that the call rests on.
+  opens : (c : lts.After-inside (calls t) (asked t) reads.Post Inv-loop μ-loop)
+      → (let p = part (group c) in
+      let H = head (taken p) in
+      let a = start H .args in
+      Opening (a .places .now) (a .nexts .now) (a .s .now) (p .part-of .result .now) (c .inside .result) (a .table .now) (a .prices .now) (H .loop .costs)
+      (H .loop .choices))
+  opens c =
+      let g = group c in
+      let I = taken (part g) in
+      let S = start (head I) in
+      opening (S .pre .1 .0) (S .pre .1 .1 .1) (head I .loop .inv .0) (I .if1 .taken) (part g .part-of .ensures) (g .if2 .taken) (c .inside .ensures)
 
   enter-tree-requires : lts.Need-enter-tree-requires (calls t) (asked t) reads.Post Inv-loop μ-loop
   enter-tree-requires c κs =
-      let g = c .before .before .before .before .before .before .before .before in
-      let o = opens g in
-      let L = part (counted g) .before .before in
-      (omega (arith, o .shorter, start L .pre .0), (o .ready, L .loop .inv .1))
+      let C = c .before .before .before .before .before .before .before in
+      let H = head (taken (part (group C))) in
+      let o = opens C in
+      (omega (arith, o .shorter, start H .pre .0), (o .ready, (H .loop .inv .1, o .listed)))
 
   loop-less : lts.Need-loop-less (calls t) (asked t) reads.Post Inv-loop μ-loop
-  loop-less c = omega (arith, passes (part (counted (called (call c)))))
+  loop-less c =
+      let I = taken (part (group (called (call c)))) in
+      let S = start (head I) in
+      let more = I .if1 .taken in
+      omega (arith, through-less (S .pre .1 .0) (S .pre .1 .1 .1) (head I .loop .inv .0) more)
 
   loop-again : lts.Need-loop-again (calls t) (asked t) reads.Post Inv-loop μ-loop
   loop-again c =
       let e = call c .enter-tree .ensures in
-      let g = called (call c) in
-      let N = counted g in
-      let p = part N in
-      let L = p .before .before in (
-        through-group (start L .pre .1 .0) (L .loop .inv .0) (p .before .loop-test .taken) (p .node-at .result .now) (p .node-at .ensures) (g .if1 .taken)
-            _ _ _ (N .count-nodes2 .ensures .0) (e .1 .0) (e .1 .1 .0) (e .1 .1 .1),
+      let C = called (call c) in
+      let g = group C in
+      let I = taken (part g) in
+      let S = start (head I) in (
+        through-group (S .pre .1 .0) (S .pre .1 .1 .1) (head I .loop .inv .0) (I .if1 .taken) (part g .part-of .ensures) (g .if2 .taken) (C .inside .ensures)
+            (e .1 .0) (e .1 .1 .0) (e .1 .1 .1),
         e .0,
       )
 
   loop-less-2 : lts.Need-loop-less-2 (calls t) (asked t) reads.Post Inv-loop μ-loop
-  loop-less-2 c = omega (arith, passes (part (c .before .before)))
+  loop-less-2 c =
+      let I = taken (c .before .before) in
+      let S = start (head I) in
+      let more = I .if1 .taken in
+      omega (arith, through-less (S .pre .1 .0) (S .pre .1 .1 .1) (head I .loop .inv .0) more)
 
   loop-again-2 : lts.Need-loop-again-2 (calls t) (asked t) reads.Post Inv-loop μ-loop
   loop-again-2 c =
-      let N = c .before .before in
-      let p = part N in
-      let L = p .before .before in (
-        through-step (start L .pre .1 .0) (L .loop .inv .0) (p .before .loop-test .taken) (p .node-at .result .now) (p .node-at .ensures) (c .if1 .left)
-            _ (N .count-nodes2 .ensures .0),
-        L .loop .inv .1,
+      let p = c .before .before in
+      let I = taken p in
+      let S = start (head I) in (
+        through-step (S .pre .1 .0) (S .pre .1 .1 .1) (head I .loop .inv .0) (I .if1 .taken) (p .part-of .ensures) (c .if2 .left),
+        head I .loop .inv .1,
       )
 
   enter-level-requires : lts.Need-enter-level-requires (calls t) (asked t) reads.Post Inv-loop μ-loop
   enter-level-requires c κs =
       let R = c .before .before .before .before .before .before .before in
-      let w = R .before .loop .inv in
-      let l = start (R .before) .pre .1 .0 in
-      (through-ready l (w .0), (through-all l (w .0) (R .loop-test .left), w .1))
+      let H = R .before .before in
+      let w = H .loop .inv in
+      let l = start H .pre .1 .0 in
+      let z = start H .pre .1 .1 .1 in
+      (through-ready l z (w .0), (through-all l z (w .0) (R .if1 .left), (w .1, z)))
 
   -- The level entered, from where the function returns.
   abbrev entered : lts.After-slice-known21 (calls t) (asked t) reads.Post Inv-loop μ-loop → lts.After-enter-level (calls t) (asked t) reads.Post Inv-loop μ-loop
@@ -193,27 +210,27 @@ module _ (t : ℕ) where
   returns : lts.Need-returns (calls t) (asked t) reads.Post Inv-loop μ-loop
   returns c =
       let e = entered c .enter-level .ensures in
-      let w = through (entered c) .before .loop .inv .0 in
+      let w = through (entered c) .before .before .loop .inv .0 in
       (e .0, (e .1 .0, (kept-then _ _ _ _ _ (w .kept-costs) (e .1 .1 .0), kept-then _ _ _ _ _ (w .kept-choices) (e .1 .1 .1))))
 
   -- The lent arrays at the start.
   abbrev lent : lts.After-slice-known21 (calls t) (asked t) reads.Post Inv-loop μ-loop → lts.Start (calls t) (asked t) reads.Post Inv-loop μ-loop
-  lent c = start (through (entered c) .before)
+  lent c = start (through (entered c) .before .before)
 
   same-length : lts.Need-same-length (calls t) (asked t) reads.Post Inv-loop μ-loop
-  same-length c = returns c .0 .long-offsets ∙ sym (lent c .pre .1 .1 .long-offsets)
+  same-length c = returns c .0 .long-offsets ∙ sym (lent c .pre .1 .1 .0 .long-offsets)
 
   same-length-2 : lts.Need-same-length-2 (calls t) (asked t) reads.Post Inv-loop μ-loop
-  same-length-2 c = returns c .0 .long-numbers ∙ sym (lent c .pre .1 .1 .long-numbers)
+  same-length-2 c = returns c .0 .long-numbers ∙ sym (lent c .pre .1 .1 .0 .long-numbers)
 
   same-length-3 : lts.Need-same-length-3 (calls t) (asked t) reads.Post Inv-loop μ-loop
-  same-length-3 c = returns c .0 .long-kinds ∙ sym (lent c .pre .1 .1 .long-kinds)
+  same-length-3 c = returns c .0 .long-kinds ∙ sym (lent c .pre .1 .1 .0 .long-kinds)
 
   same-length-4 : lts.Need-same-length-4 (calls t) (asked t) reads.Post Inv-loop μ-loop
-  same-length-4 c = returns c .0 .long-matches ∙ sym (lent c .pre .1 .1 .long-matches)
+  same-length-4 c = returns c .0 .long-matches ∙ sym (lent c .pre .1 .1 .0 .long-matches)
 
   same-length-5 : lts.Need-same-length-5 (calls t) (asked t) reads.Post Inv-loop μ-loop
-  same-length-5 c = returns c .0 .keys-ready .long ∙ sym (lent c .pre .1 .1 .keys-ready .long)
+  same-length-5 c = returns c .0 .keys-ready .long ∙ sym (lent c .pre .1 .1 .0 .keys-ready .long)
 
   same-length-6 : lts.Need-same-length-6 (calls t) (asked t) reads.Post Inv-loop μ-loop
   same-length-6 c = returns c .1 .1 .0 .same-length
@@ -227,19 +244,16 @@ pub +enter-tree-spec : {M : Type 1} → statement M
     reads.Post
     Inv-loop
     μ-loop
-    (count-nodes-requires t)
-    (add-n t)
     (loop-holds t)
-    (node-at-requires t)
-    (add-end t)
-    (count-nodes-requires-2 t)
-    (sub-n t)
-    (shared-slice-read-if1 t)
-    (add-enter-tree t)
+    (mul-next t)
+    (shared-slice-read-next t)
+    (part-of-requires t)
+    (shared-slice-read-if2 t)
     (sub-enter-tree t)
     (sub-enter-tree-2 t)
     (part-enter-tree-start t)
     (part-enter-tree-end t)
+    (inside-requires t)
     (enter-tree-requires t)
     (loop-less t)
     (loop-again t)

@@ -9,15 +9,15 @@ use Rattle.filling.proofs.level.enter_level.Statement.{statement}
 use Rattle.filling.proofs.level.enter_level.Tie as tie
 
 abbrev Inv-loop : tie.InvT-loop
-Inv-loop s level table prices offsets numbers kinds matches₀ keys₀ costs₀ choices₀ m i₀ matches keys costs choices i =
-    (i ≤ m) × Descended s (level .behind) (level .limit) table prices costs₀ choices₀ i costs choices matches × KeysReady keys
+Inv-loop places nexts s level table prices offsets numbers kinds matches₀ keys₀ costs₀ choices₀ m i₀ matches keys costs choices i =
+    (i ≤ m) × Descended s (level .span .behind) (level .limit) table prices costs₀ choices₀ i costs choices matches × KeysReady keys
 
 abbrev μ-loop : tie.MeasureT-loop
-μ-loop s level table prices offsets numbers kinds matches₀ keys₀ costs₀ choices₀ m i₀ matches keys costs choices i = i
+μ-loop places nexts s level table prices offsets numbers kinds matches₀ keys₀ costs₀ choices₀ m i₀ matches keys costs choices i = i
 
 -- The function's start, from where the siblings are listed.
 abbrev begun : tie.After-list-siblings Inv-loop μ-loop → tie.Start Inv-loop μ-loop
-begun c = c .before .before .before .before .before .before .before .before .before .before .before .before .before
+begun c = c .before .before .before .before .before .before .before .before .before .before .before .before .before .before .before .before
 
 -- From the loop's head: where the siblings were classified and listed, and the function's start.
 abbrev classed : tie.At-loop Inv-loop μ-loop → tie.After-classify Inv-loop μ-loop
@@ -46,21 +46,22 @@ next c = omega (arith, c .loop-test .taken)
 
 list-siblings-requires : tie.Need-list-siblings-requires Inv-loop μ-loop
 list-siblings-requires c κs =
-    let p = c .before .before .before .before .before .before .before .before .before .before .before .before .pre in
-    (p .0 .spelled, (p .0 .total, (p .1 .1 .long-offsets, p .1 .1 .long-numbers)))
+    let p = c .before .before .before .before .before .before .before .before .before .before .before .before .before .before .before .pre in
+    let z = p .1 .1 .1 in
+    (p .0 .spelled, (z .listed, ((z .long-places, z .long-nexts), (p .1 .1 .0 .long-offsets, p .1 .1 .0 .long-numbers))))
 
 classify-requires : tie.Need-classify-requires Inv-loop μ-loop
 classify-requires c κs =
     let A = c .before .before .before .before .before .before in
     let p = begun A .pre in
     let l = A .list-siblings .ensures in
-    (p .0 .spelled, (l .1 .0, (sym (l .0), omega (arith, l .0, siblings-few (p .0)), p .1 .1 .long-kinds)))
+    (p .0 .spelled, (l .1 .0, (sym (l .0), omega (arith, l .0, siblings-few (p .0)), p .1 .1 .0 .long-kinds)))
 
 loop-holds : tie.Need-loop-holds Inv-loop μ-loop
 loop-holds c =
     let A = c .before .before .before .before .before .before .before .before .before in
     let p = begun A .pre in
-    (omega arith, descended-none (p .0) _ _ (A .list-siblings .ensures .0) (p .1 .1 .long-matches), p .1 .1 .keys-ready)
+    (omega arith, descended-none (p .0) _ _ (A .list-siblings .ensures .0) (p .1 .1 .0 .long-matches), p .1 .1 .0 .keys-ready)
 
 sub-i : tie.Need-sub-i Inv-loop μ-loop
 sub-i c = c .loop-test .taken
@@ -151,19 +152,19 @@ returns c =
     )
 
 same-length : tie.Need-same-length Inv-loop μ-loop
-same-length c = returns c .0 .long-offsets ∙ sym (start (c .before) .pre .1 .1 .long-offsets)
+same-length c = returns c .0 .long-offsets ∙ sym (start (c .before) .pre .1 .1 .0 .long-offsets)
 
 same-length-2 : tie.Need-same-length-2 Inv-loop μ-loop
-same-length-2 c = returns c .0 .long-numbers ∙ sym (start (c .before) .pre .1 .1 .long-numbers)
+same-length-2 c = returns c .0 .long-numbers ∙ sym (start (c .before) .pre .1 .1 .0 .long-numbers)
 
 same-length-3 : tie.Need-same-length-3 Inv-loop μ-loop
-same-length-3 c = returns c .0 .long-kinds ∙ sym (start (c .before) .pre .1 .1 .long-kinds)
+same-length-3 c = returns c .0 .long-kinds ∙ sym (start (c .before) .pre .1 .1 .0 .long-kinds)
 
 same-length-4 : tie.Need-same-length-4 Inv-loop μ-loop
-same-length-4 c = returns c .0 .long-matches ∙ sym (start (c .before) .pre .1 .1 .long-matches)
+same-length-4 c = returns c .0 .long-matches ∙ sym (start (c .before) .pre .1 .1 .0 .long-matches)
 
 same-length-5 : tie.Need-same-length-5 Inv-loop μ-loop
-same-length-5 c = returns c .0 .keys-ready .long ∙ sym (start (c .before) .pre .1 .1 .keys-ready .long)
+same-length-5 c = returns c .0 .keys-ready .long ∙ sym (start (c .before) .pre .1 .1 .0 .keys-ready .long)
 
 same-length-6 : tie.Need-same-length-6 Inv-loop μ-loop
 same-length-6 c = c .before .loop .inv .1 .kept-costs .same-length

@@ -8,7 +8,7 @@ use Rattle.folder.proofs.run.fill.Tie as tie
 
 -- The function's start, from where the lists are made.
 abbrev start : tie.After-keys → tie.Start
-start c = c .before .before .before .before .before .before .before .before .before .before
+start c = c .before .before .before .before .before .before .before .before .before .before .before .before
 
 slice-aggregate-enter-tree : tie.Need-slice-aggregate-enter-tree
 slice-aggregate-enter-tree c = search needs
@@ -26,7 +26,7 @@ slice-aggregate-enter-tree-5 : tie.Need-slice-aggregate-enter-tree-5
 slice-aggregate-enter-tree-5 c = search needs
 
 enter-tree-requires : tie.Need-enter-tree-requires
-enter-tree-requires c κs = (start (c .before .before) .pre, scratch-none)
+enter-tree-requires c κs = let p = start (c .before .before) .pre in (p .0, (scratch-none, p .1))
 
 -- What the call gave, from the function's end.
 abbrev call : tie.After-slice-known4 → tie.After-enter-tree
@@ -42,8 +42,9 @@ returns : tie.Need-returns
 returns c =
     let C = call c in
     let S = start (C .before .before .before) in
+    let A = at-most (S .args .level .limit) in
     let e = C .enter-tree .ensures in
-    (used-filled (at-most (S .args .limit)) _ _ _ 0 _ (S .pre .spelled .run (at-most (S .args .limit))) (e .1 .0), e .1 .1)
+    (used-filled A _ _ _ _ _ (S .pre .0 .spelled .run A) (e .1 .0), e .1 .1)
 
 pub fill-spec : {M : Type 1} → statement M
 fill-spec =
