@@ -258,10 +258,56 @@ pub fn random_commands(r: &mut Random, commands: usize) -> Vec<u8> {
     out
 }
 
+/// The deepest group of a run.
+pub fn depth(items: &[Item]) -> usize {
+    let inside = |item: &Item| if let Item::Group(_, body) = item { 1 + depth(body) } else { 0 };
+    items.iter().map(inside).max().unwrap_or(0)
+}
+
 /// The runs of the benchmark.
 pub mod families {
-    use super::Random;
-    use crate::reference::Item;
+    use super::{depth, Random};
+    use crate::reference::{count_nodes, Item};
+
+    /// Runs of one make, at any number of nodes.
+    pub struct Family {
+        pub name: &'static str,
+        /// How many runs are measured; the time is their mean.
+        pub instances: u64,
+        /// The deepest group of each.
+        pub depth: usize,
+        make: fn(&mut Random, usize) -> Vec<Item>,
+    }
+
+    const fn family(
+        name: &'static str,
+        instances: u64,
+        depth: usize,
+        make: fn(&mut Random, usize) -> Vec<Item>,
+    ) -> Family {
+        Family { name, instances, depth, make }
+    }
+
+    /// The families in the order of the page. The place in the list is part of the seed.
+    pub const ALL: [Family; 8] = [
+        family("random, 2 labels", 3, 0, |r, n| random(r, n, 2)),
+        family("random, 4 labels", 3, 0, |r, n| random(r, n, 4)),
+        family("random, 256 labels", 3, 0, |r, n| random(r, n, 256)),
+        family("one label", 1, 0, |_, n| one_label(n)),
+        family("Fibonacci word", 1, 0, |_, n| fibonacci(n)),
+        family("nested, noise", 3, 0, nested),
+        family("groups, long sequences", 3, 8, deep_groups),
+        family("groups, small", 3, 8, small_groups),
+    ];
+
+    /// A run of a family, by its place in the list.
+    pub fn run(which: usize, nodes: usize, instance: u64) -> Vec<Item> {
+        let r = &mut Random::new((which as u64 * 7919 + nodes as u64) * 3 + instance);
+        let items = (ALL[which].make)(r, nodes);
+        assert_eq!(count_nodes(&items), nodes);
+        assert_eq!(depth(&items), ALL[which].depth);
+        items
+    }
 
     fn steps(labels: impl IntoIterator<Item = u8>) -> Vec<Item> {
         labels.into_iter().map(Item::Step).collect()

@@ -3,7 +3,7 @@
 //!
 //! Usage: differential [SEED [SCALE]]. One seed and scale give one run. The first difference ends it and prints its input.
 
-use runfold::inputs::{self, Random};
+use runfold::inputs::{self, depth, Random};
 use runfold::reference::{self, Answer, Item, Prices, Solved};
 use runfold::{raw, work_entries, ENTRIES, SHORT};
 use std::fmt::Write;
@@ -59,18 +59,6 @@ fn shown(prices: &Prices) -> String {
         _ => labels.iter().map(|cost| format!("{cost:04X}")).collect(),
     };
     format!("{} label costs {costs}, first {}, each {}", labels.len(), prices.first, prices.each)
-}
-
-/// The deepest group of a run.
-fn depth(items: &[Item]) -> usize {
-    items
-        .iter()
-        .map(|item| match item {
-            Item::Group(_, body) => 1 + depth(body),
-            _ => 0,
-        })
-        .max()
-        .unwrap_or(0)
 }
 
 /// Entries that no call writes by chance: each says where it stands.
