@@ -264,52 +264,181 @@ pub fn depth(items: &[Item]) -> usize {
     items.iter().map(inside).max().unwrap_or(0)
 }
 
+/// The first n letters of a word such as "(a^(n/2) b)^3 a^17": the letters a to z are the labels 1 to 26, and a power is a
+/// number, n, or a part of n in parentheses.
+pub fn word(text: &str, n: usize) -> Vec<u8> {
+    let number = |digits: &str| digits.parse::<usize>().unwrap_or_else(|_| panic!("no word: {text}"));
+    // What stands in each open parenthesis so far, and the letter or the parenthesis that was read last.
+    let (mut open, mut last) = (vec![Vec::new()], Vec::new());
+    let mut rest = text;
+    while let Some(c) = rest.chars().next() {
+        rest = &rest[1..];
+        let times = match c {
+            ' ' => 0,
+            '(' => {
+                open.push(Vec::new());
+                0
+            }
+            ')' => {
+                last = open.pop().expect("an open parenthesis");
+                1
+            }
+            '^' => {
+                let (power, behind) = match rest.strip_prefix('(') {
+                    Some(inside) => inside.split_once(')').expect("a closed parenthesis"),
+                    None => rest.split_at(rest.find([' ', ')']).unwrap_or(rest.len())),
+                };
+                rest = behind;
+                let (top, bottom) = power.split_once('/').unwrap_or((power, "1"));
+                let top = match top.strip_suffix('n') {
+                    Some("") => n,
+                    Some(times) => number(times) * n,
+                    None => number(top),
+                };
+                // It stands there once.
+                (top / number(bottom)).checked_sub(1).expect("a power of 1 or more")
+            }
+            'a'..='z' => {
+                last = vec![c as u8 - b'a' + 1];
+                1
+            }
+            _ => panic!("no word: {text}"),
+        };
+        let level = open.last_mut().expect("an open parenthesis");
+        for _ in 0..times {
+            if level.len() < n {
+                level.extend(&last);
+            }
+        }
+        level.truncate(n);
+    }
+    assert_eq!(open.len(), 1, "a parenthesis is open: {text}");
+    open.remove(0)
+}
+
+/// A sequence of steps and repeats in that form.
+pub fn notation(items: &[Item]) -> String {
+    let mut text = String::new();
+    for item in items {
+        match item {
+            Item::Repeat(count, _, body) => {
+                let body = notation(body);
+                let body = if body.len() == 1 { body } else { format!("({body})") };
+                text += &format!(" {body}^{count} ");
+            }
+            Item::Step(label) => text.push((b'a' + label - 1) as char),
+            Item::Group(..) => panic!("a group has no letter"),
+        }
+    }
+    text.trim().replace("  ", " ")
+}
+
 /// The runs of the benchmark.
 pub mod families {
-    use super::{depth, Random};
+    use super::{depth, word, Random};
     use crate::reference::{count_nodes, Item};
+
+    /// What the runs of a family are like; the plot has a panel for each kind.
+    #[derive(Clone, Copy, PartialEq, Eq)]
+    pub enum Kind {
+        Steps,
+        Slips,
+        Powers,
+        Groups,
+    }
 
     /// Runs of one make, at any number of nodes.
     pub struct Family {
-        pub name: &'static str,
+        pub kind: Kind,
         /// How many runs are measured; the time is their mean.
         pub instances: u64,
         /// The deepest group of each.
         pub depth: usize,
-        make: fn(&mut Random, usize) -> Vec<Item>,
+        pub name: &'static str,
+        /// What a run of n nodes is: in words, or the word whose first n steps it is.
+        pub about: &'static str,
+        make: Option<Make>,
     }
 
-    const fn family(
-        name: &'static str,
+    impl Family {
+        /// The word that its runs begin.
+        pub fn word(&self) -> Option<&'static str> {
+            self.make.is_none().then_some(self.about)
+        }
+    }
+
+    type Make = fn(&mut Random, usize) -> Vec<Item>;
+
+    /// A family that a function makes.
+    const fn made(
+        kind: Kind,
         instances: u64,
         depth: usize,
-        make: fn(&mut Random, usize) -> Vec<Item>,
+        name: &'static str,
+        about: &'static str,
+        make: Make,
     ) -> Family {
-        Family { name, instances, depth, make }
+        Family { kind, instances, depth, name, about, make: Some(make) }
     }
 
-    /// The families in the order of the page. The place in the list is part of the seed.
-    pub const ALL: [Family; 8] = [
-        family("random, 2 labels", 3, 0, |r, n| random(r, n, 2)),
-        family("random, 4 labels", 3, 0, |r, n| random(r, n, 4)),
-        family("random, 256 labels", 3, 0, |r, n| random(r, n, 256)),
-        family("one label", 1, 0, |_, n| one_label(n)),
-        family("Fibonacci word", 1, 0, |_, n| fibonacci(n)),
-        family("nested, noise", 3, 0, nested),
-        family("groups, long sequences", 3, 8, deep_groups),
-        family("groups, small", 3, 8, small_groups),
+    /// The first n steps of a word.
+    const fn begun(kind: Kind, name: &'static str, about: &'static str) -> Family {
+        Family { kind, instances: 1, depth: 0, name, about, make: None }
+    }
+
+    use Kind::{Groups, Powers, Slips, Steps};
+
+    /// The families in the order of the page. The place in the list is part of the seed: new ones go to its end.
+    const LISTED: &[Family] = &[
+        made(Steps, 3, 0, "random, 2 labels", "each step at random", |r, n| random(r, n, 2)),
+        made(Steps, 3, 0, "random, 4 labels", "each step at random", |r, n| random(r, n, 4)),
+        made(Steps, 3, 0, "random, 256 labels", "each step at random", |r, n| random(r, n, 256)),
+        begun(Steps, "one label", "a^n"),
+        made(Steps, 1, 0, "Fibonacci word", "its first n letters", |_, n| fibonacci(n)),
+        made(Steps, 3, 0, "nested, noise", "repeats in repeats, another label at one node in 64", nested),
+        made(Groups, 3, 8, "groups, long sequences", "nine long sequences, each inside the one before", deep_groups),
+        made(Groups, 3, 8, "groups, small", "many small groups, down to eight levels", small_groups),
+        begun(Slips, "slip in the middle", "a^(n/2) b a^n"),
+        begun(Slips, "slip at two thirds", "a^(2n/3) b a^n"),
+        begun(Slips, "power, then another", "a^(n/2) b^n"),
+        made(Slips, 3, 0, "power, then random", "`a^(n/2)`, then 2 labels at random", power_then_random),
+        begun(Slips, "period 2, slip", "(ab)^(n/4) c (ab)^n"),
+        begun(Slips, "period 2, then another", "(ab)^(n/4) (cd)^n"),
+        begun(Slips, "period 8, slip", "(abbabaab)^(n/16) c (abbabaab)^n"),
+        made(Slips, 3, 0, "long stretches", "a and b in turn, each 40 times on average, at random", stretches),
+        begun(Powers, "three long powers", "(a^(n/3) b)^n"),
+        begun(Powers, "two long powers and a part", "(a^(41n/100) b)^2 a^n"),
+        begun(Powers, "three long powers, slips", "(a^(2n/9) b a^(n/9))^n"),
     ];
 
-    /// A run of a family, by its place in the list.
+    /// The slowest run that the climber found at each price. To make it again: `scripts/climb.sh SECONDS`, whose last lines take
+    /// the place of this constant and the next one.
+    pub const FOUND: &[Family] = &[
+        begun(Powers, "found, unit", "c^680 (c^3 a)^69 c b^67"),
+        begun(Powers, "found, first 0, each 0", "a^566 (abba)^56 (ab)^2 bcb (baab)^56 abb"),
+        begun(Powers, "found, first 0, each 1", "(cb)^348 b^47 (b^8 c)^2 b^54 c b^100 c^54 a^54"),
+        begun(Powers, "found, random", "a^592 bb (bb a^211)^2 b^4"),
+    ];
+
+    /// How many seconds the climber had, and how many runs it tried.
+    pub const SEARCHED: (u64, u64) = (120, 1917);
+
+    /// All families: those listed, then those that the climber found.
+    pub fn all() -> Vec<&'static Family> {
+        LISTED.iter().chain(FOUND).collect()
+    }
+
+    /// A run of the family at a place in `all`.
     pub fn run(which: usize, nodes: usize, instance: u64) -> Vec<Item> {
+        let family = all()[which];
         let r = &mut Random::new((which as u64 * 7919 + nodes as u64) * 3 + instance);
-        let items = (ALL[which].make)(r, nodes);
+        let items = family.make.map_or_else(|| steps(word(family.about, nodes)), |make| make(r, nodes));
         assert_eq!(count_nodes(&items), nodes);
-        assert_eq!(depth(&items), ALL[which].depth);
+        assert_eq!(depth(&items), family.depth);
         items
     }
 
-    fn steps(labels: impl IntoIterator<Item = u8>) -> Vec<Item> {
+    pub fn steps(labels: impl IntoIterator<Item = u8>) -> Vec<Item> {
         labels.into_iter().map(Item::Step).collect()
     }
 
@@ -353,6 +482,23 @@ pub mod families {
             }
         }
         steps(word)
+    }
+
+    /// One label, in the second half two at random.
+    pub fn power_then_random(r: &mut Random, nodes: usize) -> Vec<Item> {
+        let mut items = one_label(nodes / 2);
+        items.extend(random(r, nodes - nodes / 2, 2));
+        items
+    }
+
+    /// Two labels in turn, each in stretches of 1 to 79.
+    pub fn stretches(r: &mut Random, nodes: usize) -> Vec<Item> {
+        let (mut word, mut label) = (Vec::new(), 1);
+        while word.len() < nodes {
+            word.extend(vec![label; 1 + r.below(79)]);
+            label = 3 - label;
+        }
+        steps(word.into_iter().take(nodes))
     }
 
     /// Eight groups, each in the one before: nine sequences of about equal length, of repeats and noise.

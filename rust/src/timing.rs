@@ -82,10 +82,9 @@ impl Bench {
     /// method is slow and steady: it has `plain` rounds there.
     pub fn measure(&mut self, name: &str, run: &[u8], prices: &Prices, plain: usize) -> Times {
         let long = run.len() > 600;
-        let enough = if run.len() < 2 * NODES { 0.12 } else { 0.25 };
         let mut times = [f64::INFINITY; 4];
         let (mut began, mut round) = (0.0, 0);
-        while round < 5 || (seconds() - began < enough && round < 200) {
+        while round < 5 || (seconds() - began < 0.25 && round < 200) {
             if round == 1 {
                 began = seconds();
             }

@@ -4,19 +4,63 @@
 //! Usage: benchmark PAGE PLOT DATE COMPILER
 
 use runfold::inputs::bytes_of;
-use runfold::inputs::families::{self, ALL};
+use runfold::inputs::families::{self, Family, Kind, FOUND, SEARCHED};
 use runfold::reference::Prices;
 use runfold::timing::{price_sets, Bench, Times};
 use runfold::NODES;
 use std::fmt::Write;
 
-/// The mean over the runs of a family.
+const SIZES: [usize; 4] = [128, 256, 512, NODES];
+
+/// The times of a family at one size and price.
+struct Row {
+    family: &'static Family,
+    nodes: usize,
+    prices: &'static str,
+    times: Times,
+}
+
+impl Row {
+    /// The folder's part of each method's time.
+    fn parts(&self) -> [f64; 3] {
+        let [ours, theirs @ ..] = self.times;
+        theirs.map(|time| ours / time)
+    }
+
+    fn is_of(&self, family: &Family, nodes: usize) -> bool {
+        self.family.name == family.name && self.nodes == nodes
+    }
+}
+
+/// The row where a number is highest.
+fn highest<'a>(rows: impl Iterator<Item = &'a Row>, of: impl Fn(&Row) -> f64) -> &'a Row {
+    rows.max_by(|a, b| of(a).total_cmp(&of(b))).expect("something was measured")
+}
+
+/// A family at one size, at the prices where the folder takes longest.
+fn slowest<'a>(rows: &'a [Row], family: &Family, nodes: usize) -> &'a Row {
+    highest(rows.iter().filter(|row| row.is_of(family, nodes)), |row| row.times[0])
+}
+
+fn is_found(family: &Family) -> bool {
+    FOUND.iter().any(|found| found.name == family.name)
+}
+
+/// The power of n by which the folder's time grew between two sizes, at the slowest prices of each.
+fn power(rows: &[Row], family: &Family, from: usize, to: usize) -> f64 {
+    let [short, long] = [from, to].map(|nodes| slowest(rows, family, nodes).times[0]);
+    (long / short).ln() / (to as f64 / from as f64).ln()
+}
+
+/// The mean over the runs of the family at a place.
 fn measure(bench: &mut Bench, which: usize, nodes: usize, prices: &Prices) -> Times {
-    let family = &ALL[which];
+    let family = families::all()[which];
+    // The plain method takes most of the time.
+    let plain = if matches!(family.kind, Kind::Steps | Kind::Groups) { 2 } else { 1 };
     let mut mean = [0.0; 4];
     for instance in 0..family.instances {
         let run = bytes_of(&families::run(which, nodes, instance));
-        let times = bench.measure(family.name, &run, prices, 2);
+        let times = bench.measure(family.name, &run, prices, plain);
         for (total, time) in mean.iter_mut().zip(times) {
             *total += time / family.instances as f64;
         }
@@ -24,92 +68,124 @@ fn measure(bench: &mut Bench, which: usize, nodes: usize, prices: &Prices) -> Ti
     mean
 }
 
-const SIZES: [usize; 4] = [128, 256, 512, 1024];
-
 fn main() {
     let args: Vec<String> = std::env::args().skip(1).collect();
     let [page, plot, date, compiler] = &args[..] else { panic!("usage: benchmark PAGE PLOT DATE COMPILER") };
     let mut bench = Bench::new();
-    // Every family at 1,024 nodes and every price; then unit prices at the smaller sizes.
-    let mut full = String::from(
-        "| run of 1,024 nodes | prices | folder, ms | plain, ms | transposed, ms | blocked, ms | of plain | of transposed | of blocked |\n|---|---|---:|---:|---:|---:|---:|---:|---:|\n",
-    );
-    let mut growth = Vec::new();
-    let mut summary =
-        String::from("| run of 1,024 nodes | of plain | of transposed | of blocked |\n|---|---:|---:|---:|\n");
-    for (which, family) in ALL.iter().enumerate() {
-        let name = family.name;
-        let mut ratios = [(f64::INFINITY, 0f64); 3];
-        for (k, (prices_name, prices)) in price_sets().iter().enumerate() {
-            let t = measure(&mut bench, which, 1024, prices);
-            let row = format!(
-                "| {name} | {prices_name} | {:.2} | {:.1} | {:.2} | {:.2} | {:.3} | {:.2} | {:.2} |",
-                t[0] * 1e3,
-                t[1] * 1e3,
-                t[2] * 1e3,
-                t[3] * 1e3,
-                t[0] / t[1],
-                t[0] / t[2],
-                t[0] / t[3]
-            );
-            println!("{row}");
-            full += &row;
-            full.push('\n');
-            if k == 0 {
-                growth.push((which, 1024, t));
-            }
-            for (m, (least, most)) in ratios.iter_mut().enumerate() {
-                *least = least.min(t[0] / t[1 + m]);
-                *most = most.max(t[0] / t[1 + m]);
+    let mut rows = Vec::new();
+    for (which, family) in families::all().into_iter().enumerate() {
+        for nodes in SIZES {
+            for (prices, set) in &price_sets() {
+                let row = Row { family, nodes, prices, times: measure(&mut bench, which, nodes, set) };
+                let [plain, transposed, blocked] = row.parts();
+                println!(
+                    "{}, {nodes} nodes, {prices}: {:.3} ms, {plain:.3} of plain, {transposed:.3} of transposed, {blocked:.3} of blocked",
+                    family.name,
+                    row.times[0] * 1e3
+                );
+                rows.push(row);
             }
         }
-        let [a, b, c] = ratios.map(|(least, most)| format!("{least:.3} to {most:.3}"));
-        let _ = writeln!(summary, "| {name} | {a} | {b} | {c} |");
     }
-    for (which, family) in ALL.iter().enumerate() {
-        let name = family.name;
-        for &nodes in &SIZES[..3] {
-            let unit = &price_sets()[0].1;
-            let t = measure(&mut bench, which, nodes, unit);
-            println!("{name}, {nodes} nodes, unit: {:.3} ms, {:.2} of transposed", t[0] * 1e3, t[0] / t[2]);
-            growth.push((which, nodes, t));
-        }
-    }
-    growth.sort_by_key(|&(which, nodes, _)| (which, nodes));
-    let mut small = String::from("| run, unit prices | 128 | 256 | 512 | 1,024 |\n|---|---:|---:|---:|---:|\n");
-    for (which, family) in ALL.iter().enumerate() {
-        let name = family.name;
-        let cells: Vec<String> = growth
-            .iter()
-            .filter(|g| g.0 == which)
-            .map(|(_, _, t)| format!("{:.3} ({:.3}, {:.2}, {:.2})", t[0] * 1e3, t[0] / t[1], t[0] / t[2], t[0] / t[3]))
-            .collect();
-        let _ = writeln!(small, "| {name} | {} |", cells.join(" | "));
-    }
-    println!("\nthe folder's part of each method's time, lowest to highest over the prices\n{summary}");
+    let groups = families::all().iter().rposition(|family| family.kind == Kind::Groups).expect("a family of groups");
+    let clearing = bench.clearing(&bytes_of(&families::run(groups, NODES, 0)), &price_sets()[0].1);
+    println!("\n{}", summary_table(&rows));
     println!("{} folds read back, all costs agree", bench.checked);
-    let groups = bytes_of(&families::run(ALL.len() - 1, NODES, 0));
-    let clearing = bench.clearing(&groups, &price_sets()[0].1) * 1e3;
-    println!("clearing both work slices takes {clearing:.3} ms");
-    let text = page_text(date, compiler, &full, &small, &summary, bench.checked, clearing);
+    println!("clearing both work slices takes {:.3} ms", clearing * 1e3);
+    let text = page_text(date, compiler, &rows, bench.checked as u64, clearing);
     std::fs::write(page, text).expect("the page is written");
-    std::fs::write(plot, plot_text(&growth)).expect("the plot is written");
+    std::fs::write(plot, plot_text(&rows)).expect("the plot is written");
 }
 
-fn page_text(
-    date: &str,
-    compiler: &str,
-    full: &str,
-    small: &str,
-    summary: &str,
-    checked: usize,
-    clearing: f64,
-) -> String {
+/// The highest parts at 1,024 nodes over all prices, with run and prices.
+fn short_table(rows: &[Row]) -> String {
+    let mut table =
+        String::from("| runs of 1,024 nodes | of plain | of transposed | of blocked |\n|---|---:|---:|---:|\n");
+    for (name, groups) in [("steps", false), ("groups", true)] {
+        let cells = [0, 1, 2].map(|method| {
+            let those = rows.iter().filter(|row| row.nodes == NODES && (row.family.kind == Kind::Groups) == groups);
+            let row = highest(those, |row| row.parts()[method]);
+            format!("{:.2} ({}; {})", row.parts()[method], row.family.name, row.prices)
+        });
+        let _ = writeln!(table, "| {name} | {} |", cells.join(" | "));
+    }
+    table
+}
+
+fn families_table() -> String {
+    let mut table = String::from("| run | what it is | how many |\n|---|---|---:|\n");
+    for family in families::all() {
+        let about = family.word().map_or(family.about.to_string(), |word| format!("`{word}`"));
+        let _ = writeln!(table, "| {} | {about} | {} |", family.name, family.instances);
+    }
+    table
+}
+
+/// The folder's part of each method's time at 1,024 nodes, lowest to highest over the prices.
+fn summary_table(rows: &[Row]) -> String {
+    let mut table =
+        String::from("| run of 1,024 nodes | of plain | of transposed | of blocked |\n|---|---:|---:|---:|\n");
+    for family in families::all() {
+        let cells = [0, 1, 2].map(|method| {
+            let mut parts: Vec<f64> =
+                rows.iter().filter(|row| row.is_of(family, NODES)).map(|row| row.parts()[method]).collect();
+            parts.sort_by(f64::total_cmp);
+            format!("{:.3} to {:.3}", parts[0], parts[parts.len() - 1])
+        });
+        let _ = writeln!(table, "| {} | {} |", family.name, cells.join(" | "));
+    }
+    table
+}
+
+fn full_table(rows: &[Row]) -> String {
+    let mut table = String::from(
+        "| run of 1,024 nodes | prices | folder, ms | plain, ms | transposed, ms | blocked, ms | of plain | of transposed | of blocked |\n|---|---|---:|---:|---:|---:|---:|---:|---:|\n",
+    );
+    for row in rows.iter().filter(|row| row.nodes == NODES) {
+        let [ours, plain, transposed, blocked] = row.times.map(|time| time * 1e3);
+        let [a, b, c] = row.parts();
+        let _ = writeln!(
+            table,
+            "| {} | {} | {ours:.2} | {plain:.1} | {transposed:.2} | {blocked:.2} | {a:.3} | {b:.2} | {c:.2} |",
+            row.family.name, row.prices
+        );
+    }
+    table
+}
+
+fn growth_table(rows: &[Row]) -> String {
+    let mut table = String::from(
+        "| run | 128 | 256 | 512 | 1,024 | power, 128 to 1,024 | power, 512 to 1,024 |\n|---|---:|---:|---:|---:|---:|---:|\n",
+    );
+    for family in families::all() {
+        let cells = SIZES.map(|nodes| {
+            let row = slowest(rows, family, nodes);
+            let [plain, transposed, blocked] = row.parts();
+            format!("{:.3} ({plain:.3}, {transposed:.2}, {blocked:.2})", row.times[0] * 1e3)
+        });
+        let powers = [SIZES[0], SIZES[2]].map(|from| match is_found(family) {
+            true => "–".to_string(),
+            false => format!("{:.2}", power(rows, family, from, NODES)),
+        });
+        let _ = writeln!(table, "| {} | {} | {} |", family.name, cells.join(" | "), powers.join(" | "));
+    }
+    table
+}
+
+fn page_text(date: &str, compiler: &str, rows: &[Row], checked: u64, clearing: f64) -> String {
     let processor = std::fs::read_to_string("/proc/cpuinfo").unwrap_or_default();
     let processor = processor
         .lines()
         .find_map(|line| line.strip_prefix("model name").map(|l| l.trim_start_matches([' ', '\t', ':'])))
         .unwrap_or("unknown");
+    let steepest = families::all()
+        .into_iter()
+        .filter(|family| !is_found(family))
+        .max_by(|a, b| power(rows, a, SIZES[0], NODES).total_cmp(&power(rows, b, SIZES[0], NODES)))
+        .expect("a family");
+    let found = highest(rows.iter().filter(|row| row.nodes == NODES && is_found(row.family)), |row| row.parts()[2]);
+    let (seconds, tried) = SEARCHED;
+    let thousands = |n: u64| if n < 1000 { n.to_string() } else { format!("{},{:03}", n / 1000, n % 1000) };
     format!(
         "<!-- How fast the folder is beside the report's method. Written by scripts/benchmark.sh. -->
 # The folder beside the report's method
@@ -117,26 +193,43 @@ fn page_text(
 Measured on {date} on one processor ({processor}); C by {compiler}.
 `scripts/benchmark.sh` measures again and writes this page.
 
-**What is compared.** All in one run, on the same bytes:
+The highest part of each method's time that the folder takes, over all runs and four prices, and where:
+
+{short}
+From 128 to 1,024 nodes the folder's time grows as n to the power {steepest_power:.2} at most ({steepest_name}); 2 is quadratic, 3 cubic.
+
+## What is compared
+
+All in one run, on the same bytes:
 
 - *folder*: `runfold_fold` of the static library, the proved code. From the run's bytes to the fold's bytes: it reads and checks
   the run, fills the table, measures and writes the fold, and clears the lent work.
 - *plain*: Figure 1 of the report in C at -O3, line by line, under its Figure 6 for groups.
-- *transposed*: the same table with a transposed copy, so that the inner loop runs over two contiguous rows; rows from the last
-  to the first; copies counted once for each pair of letters; -O3 -march=native, in vectors.
-- *blocked*: the same table in blocks of four rows by four columns, -O3 -march=native, in vectors. It is the fastest form of the
-  report's method that we wrote.
+- *transposed*: a vectorised form. The same table with a transposed copy, so that the inner loop runs over two contiguous rows;
+  rows from the last to the first; copies counted once for each pair of letters; -O3 -march=native.
+- *blocked*: a vectorised form too, and the fastest form of the report's method that we wrote. The same table in blocks of four
+  rows by four columns, -O3 -march=native.
 
 The report's forms get the siblings' letters from a hash table and write a cheapest fold too, any one of them: they have no tie
 rule. Width limit 1,024. Memory is allocated once and touched before the first round; the folder's work is 0 at entry and at
-exit, the others set up their tables themselves. A time is processor time, the lowest of at least five rounds (plain: two); in a
-round each method runs once. Where a family has random runs, three are measured and the mean is given. The costs of all four are
-compared on every input, and each fold is read back and unrolled ({checked} folds in this run). No time is a test.
+exit, the others set up their tables themselves. A time is processor time, the lowest of at least five rounds (plain on long
+runs: two, and one on powers); in a round each method runs once. Where a family has several runs the mean is given. The costs of
+all four are compared on every input, and each fold is read back and unrolled ({checked} folds in this run). No time is a test.
 
-Inputs follow from fixed seeds (`rust/src/inputs.rs`): random labels; one label; the Fibonacci word; repeats in repeats with
-another label at one node in 64; groups down to eight levels, once as nine long sequences, each inside the one before, once as
-many small groups. Unit prices are 1 for each label, first 1, each 0; the prices \"first 0\" have 1 for each label too; random
-prices are up to 1,000 a label, first up to 2,000 and each up to 100.
+Unit prices are 1 for each label, first 1, each 0; the prices \"first 0\" have 1 for each label too; random prices are up to
+1,000 a label, first up to 2,000 and each up to 100.
+
+## The runs
+
+Runs follow from fixed seeds (`rust/src/inputs.rs`). Of a word, the first n steps are taken.
+
+{families}
+Powers with slips and repeated long powers were added because a slip in a long power made a former folder slow.
+
+The runs named *found* come from a search for slow ones (`scripts/climb.sh`): it changes words of a few blocks, again and again,
+and keeps a change where the folder then takes more of *blocked*'s time. In {seconds} seconds, a quarter of them at each price, it tried
+{tried} runs of 1,024 steps. The slowest at each price is listed; at the smaller sizes it is cut. Of these the folder takes most on
+`{found_word}`: {found_part:.2} of *blocked*, prices {found_prices}.
 
 ## 1,024 nodes
 
@@ -151,66 +244,188 @@ All times:
 {full}
 ## Growth
 
-Milliseconds of the folder, and in parentheses its part of plain, transposed and blocked.
+Milliseconds of the folder at the prices where it takes longest, and in parentheses its part of plain, transposed and blocked
+there. Power: the p for which n^p grew as much (2 is quadratic, 3 cubic). The found runs have none: cut, they are of another
+shape.
 
-{small}
-![Growth of the times](benchmark.svg)
-"
+{growth}
+![Growth of the folder's time](benchmark.svg)
+",
+        short = short_table(rows),
+        checked = thousands(checked),
+        seconds = thousands(seconds),
+        tried = thousands(tried),
+        steepest_power = power(rows, steepest, SIZES[0], NODES),
+        steepest_name = steepest.name,
+        families = families_table(),
+        found_word = found.family.about,
+        found_part = found.parts()[2],
+        found_prices = found.prices,
+        summary = summary_table(rows),
+        clearing = clearing * 1e3,
+        full = full_table(rows),
+        growth = growth_table(rows),
     )
 }
 
-/// Times over nodes, both on logarithmic scales.
-fn plot_text(growth: &[(usize, usize, [f64; 4])]) -> String {
-    let (width, height, left, bottom) = (720.0, 440.0, 70.0, 390.0);
-    let x = |nodes: usize| left + (nodes as f64 / 128.0).log2() * 130.0;
-    let y = |seconds: f64| bottom - (seconds / 1e-5).log10() * 80.0;
+/// The panels of the plot.
+const PANELS: [(Kind, &str); 4] = [
+    (Kind::Steps, "Runs of steps"),
+    (Kind::Slips, "Powers with slips"),
+    (Kind::Powers, "Repeated long powers; found runs at 1,024 nodes"),
+    (Kind::Groups, "Runs of groups"),
+];
+
+const COLOURS: [&str; 8] = ["#1b6ca8", "#c0392b", "#27ae60", "#8e44ad", "#e67e22", "#16a2b8", "#d63384", "#7f5539"];
+
+/// The guides: quadratic and cubic growth.
+const GUIDES: [(i32, &str); 2] = [(2, "n²"), (3, "n³")];
+
+/// The folder's time over nodes, both on logarithmic scales, at the slowest prices: a panel for each kind of runs.
+fn plot_text(rows: &[Row]) -> String {
+    let (width, height) = (1140, 740);
     let mut svg = format!(
-        "<!-- Times of the folder and of the report's method over the number of nodes. Written by scripts/benchmark.sh. -->
+        "<!-- Time of the folder over the number of nodes. Written by scripts/benchmark.sh. -->
 <svg xmlns=\"http://www.w3.org/2000/svg\" viewBox=\"0 0 {width} {height}\" font-family=\"sans-serif\" font-size=\"12\">
 <rect width=\"{width}\" height=\"{height}\" fill=\"white\"/>
+<text x=\"20\" y=\"26\" font-size=\"14\">Time of one call of the folder, at the slowest of four prices; in the legends the milliseconds at 1,024 nodes; dotted: growth as n² and n³</text>
 "
     );
-    for (power, name) in [(0, "0.01 ms"), (1, "0.1 ms"), (2, "1 ms"), (3, "10 ms"), (4, "100 ms")] {
-        let at = y(1e-5 * 10f64.powi(power));
-        let _ = writeln!(svg, "<line x1=\"{left}\" x2=\"470\" y1=\"{at:.1}\" y2=\"{at:.1}\" stroke=\"#ddd\"/>");
-        let _ = writeln!(svg, "<text x=\"{}\" y=\"{:.1}\" text-anchor=\"end\">{name}</text>", left - 8.0, at + 4.0);
+    let panels = PANELS.map(|(kind, title)| Panel::new(rows, kind, title));
+    // One scale for all panels.
+    let (mut low, mut high) = (f64::INFINITY, 0.0f64);
+    for panel in &panels {
+        for time in panel.lines.iter().flat_map(|line| line.times).chain(GUIDES.map(|(power, _)| panel.guide(power))) {
+            (low, high) = (low.min(time), high.max(time));
+        }
     }
-    for nodes in SIZES {
-        let at = x(nodes);
-        let _ = writeln!(svg, "<line x1=\"{at:.1}\" x2=\"{at:.1}\" y1=\"50\" y2=\"{bottom}\" stroke=\"#ddd\"/>");
-        let _ = writeln!(svg, "<text x=\"{at:.1}\" y=\"{}\" text-anchor=\"middle\">{nodes}</text>", bottom + 18.0);
-    }
-    let _ = writeln!(svg, "<text x=\"265\" y=\"{}\" text-anchor=\"middle\">nodes</text>", bottom + 38.0);
-    let _ = writeln!(svg, "<text x=\"{left}\" y=\"30\">time of one call, unit prices</text>");
-    let lines = [
-        (0, 1, "plain, random, 2 labels", "#999", "6 3"),
-        (0, 2, "transposed, random, 2 labels", "#666", "6 3"),
-        (0, 3, "blocked, random, 2 labels", "#222", "6 3"),
-        (0, 0, "folder, random, 2 labels", "#1b6ca8", ""),
-        (3, 0, "folder, one label", "#c0392b", ""),
-        (4, 0, "folder, Fibonacci word", "#27ae60", ""),
-        (5, 0, "folder, nested, noise", "#8e44ad", ""),
-        (6, 0, "folder, groups, long sequences", "#e67e22", ""),
-        (7, 0, "folder, groups, small", "#d4ac0d", ""),
-    ];
-    for (k, (which, method, name, colour, dash)) in lines.iter().enumerate() {
-        let points: Vec<String> = growth
-            .iter()
-            .filter(|g| g.0 == *which)
-            .map(|&(_, nodes, t)| format!("{:.1},{:.1}", x(nodes), y(t[*method])))
-            .collect();
-        let _ = writeln!(
-            svg,
-            "<polyline points=\"{}\" fill=\"none\" stroke=\"{colour}\" stroke-width=\"2\" stroke-dasharray=\"{dash}\"/>",
-            points.join(" ")
-        );
-        let at = 70.0 + 22.0 * k as f64;
-        let _ = writeln!(
-            svg,
-            "<line x1=\"490\" x2=\"520\" y1=\"{at}\" y2=\"{at}\" stroke=\"{colour}\" stroke-width=\"2\" stroke-dasharray=\"{dash}\"/>"
-        );
-        let _ = writeln!(svg, "<text x=\"526\" y=\"{}\">{name}</text>", at + 4.0);
+    let scale = (low.log10() - 0.1, high.log10() + 0.1);
+    for (k, panel) in panels.iter().enumerate() {
+        panel.draw(&mut svg, (20.0 + 560.0 * (k % 2) as f64, 45.0 + 345.0 * (k / 2) as f64), scale);
     }
     svg += "</svg>\n";
     svg
+}
+
+/// A line of the plot, or its last point alone: what it shows, and the times at each size.
+struct Line {
+    name: &'static str,
+    times: [f64; 4],
+    alone: bool,
+    colour: &'static str,
+    dash: &'static str,
+}
+
+struct Panel {
+    title: &'static str,
+    /// *Blocked*, then the families, the slowest first.
+    lines: Vec<Line>,
+}
+
+impl Panel {
+    fn new(rows: &[Row], kind: Kind, title: &'static str) -> Panel {
+        let blocked = SIZES.map(|nodes| {
+            let those = rows.iter().filter(|row| row.family.kind == kind && row.nodes == nodes);
+            those.map(|row| row.times[3]).fold(f64::INFINITY, f64::min)
+        });
+        let blocked =
+            Line { name: "blocked, lowest of these", times: blocked, alone: false, colour: "#222", dash: "6 3" };
+        let mut those: Vec<&Family> = families::all().into_iter().filter(|family| family.kind == kind).collect();
+        let time = |family: &Family, nodes| slowest(rows, family, nodes).times[0];
+        those.sort_by(|a, b| time(b, NODES).total_cmp(&time(a, NODES)));
+        let of_family = |(k, family): (usize, &Family)| Line {
+            name: family.name,
+            times: SIZES.map(|nodes| time(family, nodes)),
+            // Cut, a found run is of another shape.
+            alone: is_found(family),
+            colour: COLOURS[k % COLOURS.len()],
+            dash: "",
+        };
+        let lines = [blocked].into_iter().chain(those.into_iter().enumerate().map(of_family)).collect();
+        Panel { title, lines }
+    }
+
+    /// The highest time of the folder at the smallest size, where the guides begin: a line that ends above one grew by more.
+    fn start(&self) -> f64 {
+        self.lines[1..].iter().filter(|line| !line.alone).map(|line| line.times[0]).fold(0.0, f64::max)
+    }
+
+    /// Where a guide ends.
+    fn guide(&self, power: i32) -> f64 {
+        self.start() * (NODES as f64 / SIZES[0] as f64).powi(power)
+    }
+
+    fn draw(&self, svg: &mut String, corner: (f64, f64), (low, high): (f64, f64)) {
+        let (left, top, across, down) = (corner.0 + 55.0, corner.1 + 30.0, 228.0, 265.0);
+        let (right, bottom) = (left + across, top + down);
+        let x = |nodes: usize| left + (nodes as f64 / SIZES[0] as f64).log2() / 3.0 * across;
+        let y = |seconds: f64| bottom - (seconds.log10() - low) / (high - low) * down;
+        let _ = writeln!(svg, "<text x=\"{left}\" y=\"{}\" font-weight=\"bold\">{}</text>", top - 12.0, self.title);
+        let _ = writeln!(
+            svg,
+            "<rect x=\"{left}\" y=\"{top}\" width=\"{across}\" height=\"{down}\" fill=\"none\" stroke=\"#ddd\"/>"
+        );
+        for decade in low.ceil() as i32..=high.floor() as i32 {
+            let (at, ms) = (y(10f64.powi(decade)), 10f64.powi(decade + 3));
+            let _ = writeln!(svg, "<line x1=\"{left}\" x2=\"{right}\" y1=\"{at:.1}\" y2=\"{at:.1}\" stroke=\"#ddd\"/>");
+            let _ =
+                writeln!(svg, "<text x=\"{}\" y=\"{:.1}\" text-anchor=\"end\">{ms} ms</text>", left - 6.0, at + 4.0);
+        }
+        for nodes in SIZES {
+            let at = x(nodes);
+            let _ = writeln!(svg, "<line x1=\"{at:.1}\" x2=\"{at:.1}\" y1=\"{top}\" y2=\"{bottom}\" stroke=\"#ddd\"/>");
+            let _ = writeln!(svg, "<text x=\"{at:.1}\" y=\"{}\" text-anchor=\"middle\">{nodes}</text>", bottom + 17.0);
+        }
+        let _ = writeln!(
+            svg,
+            "<text x=\"{}\" y=\"{}\" text-anchor=\"middle\">nodes</text>",
+            left + across / 2.0,
+            bottom + 34.0
+        );
+        for (power, name) in GUIDES {
+            let end = y(self.guide(power));
+            *svg += &polyline(&[(left, y(self.start())), (right, end)], "stroke=\"#888\" stroke-dasharray=\"1 3\"");
+            let _ = writeln!(svg, "<text x=\"{}\" y=\"{:.1}\" fill=\"#666\">{name}</text>", right + 8.0, end + 4.0);
+        }
+        // The slowest are drawn last, over the others.
+        for (k, line) in self.lines.iter().enumerate().rev() {
+            let Line { name, times, colour, dash, alone } = line;
+            let style = format!("stroke=\"{colour}\" stroke-width=\"2\" stroke-dasharray=\"{dash}\"");
+            let points: Vec<(f64, f64)> = SIZES.iter().zip(times).map(|(&nodes, &time)| (x(nodes), y(time))).collect();
+            let points = if *alone { &points[3..] } else { &points[..] };
+            let (from, at) = (right + 36.0, top + 8.0 + 22.0 * k as f64);
+            if !alone {
+                *svg += &polyline(points, &style);
+                *svg += &polyline(&[(from, at), (from + 26.0, at)], &style);
+            }
+            for (x, y) in points.iter().chain(&[(from + 13.0, at)]) {
+                *svg += &mark(k, *x, *y, colour);
+            }
+            let ms = times[3] * 1e3;
+            let _ = writeln!(svg, "<text x=\"{}\" y=\"{}\" text-anchor=\"end\">{ms:.2}</text>", from + 64.0, at + 4.0);
+            let _ = writeln!(svg, "<text x=\"{}\" y=\"{}\">{name}</text>", from + 70.0, at + 4.0);
+        }
+    }
+}
+
+fn joined(points: &[(f64, f64)]) -> String {
+    let points: Vec<String> = points.iter().map(|(x, y)| format!("{x:.1},{y:.1}")).collect();
+    points.join(" ")
+}
+
+fn polyline(points: &[(f64, f64)], style: &str) -> String {
+    format!("<polyline points=\"{}\" fill=\"none\" {style}/>\n", joined(points))
+}
+
+/// The mark of a line at its points: none for the first, then circle, square, triangle and diamond in turn.
+fn mark(k: usize, x: f64, y: f64, colour: &str) -> String {
+    let corners: &[(f64, f64)] = match k % 4 {
+        _ if k == 0 => return String::new(),
+        1 => return format!("<circle cx=\"{x:.1}\" cy=\"{y:.1}\" r=\"3.5\" fill=\"{colour}\"/>\n"),
+        2 => &[(-3.2, -3.2), (3.2, -3.2), (3.2, 3.2), (-3.2, 3.2)],
+        3 => &[(0.0, -4.2), (4.0, 3.2), (-4.0, 3.2)],
+        _ => &[(0.0, -4.5), (4.5, 0.0), (0.0, 4.5), (-4.5, 0.0)],
+    };
+    let corners: Vec<(f64, f64)> = corners.iter().map(|(a, b)| (x + a, y + b)).collect();
+    format!("<polygon points=\"{}\" fill=\"{colour}\"/>\n", joined(&corners))
 }
