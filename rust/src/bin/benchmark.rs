@@ -221,7 +221,7 @@ Unit prices are 1 for each label, first 1, each 0; the prices \"first 0\" have 1
 
 ## The runs
 
-Runs follow from fixed seeds (`rust/src/inputs.rs`). Of a word, the first n steps are taken.
+Runs follow from fixed seeds (`rust/src/inputs.rs`). A word such as `a^3 b`, that is aaab, stands for its first n letters as steps.
 
 {families}
 Powers with slips and repeated long powers were added because a slip in a long power made a former folder slow.
