@@ -8,6 +8,7 @@ pub mod Least
 pub mod Choose
 pub mod Cheapest
 pub mod Cover
+pub mod Second
 pub mod Level
 pub mod Demands
 pub mod Minimum
