@@ -1,5 +1,4 @@
--- What is entered: what a stored row enters and leaves alone, what stays entered, and what lies below a sequence; a table with all
--- stretches has those that a fold can use.
+-- What is entered: what a stored row enters and leaves alone, what stays entered, and what lies below a sequence.
 use mathlib.Core.Path.{_≡_, refl, ap, _∙_}
 use mathlib.Core.Logic.{_⊎_, inl, ⊎-elim}
 use mathlib.Core.List.{List}
@@ -14,9 +13,9 @@ use Rattle.optimum.specs.Cheapest.{Run, front, back}
 use Rattle.optimum.proofs.Cut.{join-cut, front-add, front-whole, nodes-cut, run-front, run-back, run-rest, run-body, run-after}
 use Rattle.table.specs.Table.{Entry, Kept, KeptOthers, cell, number, stretch, Stored}
 use Rattle.table.proofs.Cells.{cell-same}
-use Rattle.table.specs.Used.{Inside, itself, deeper, UsedFilled}
+use Rattle.table.specs.Used.{to-end, again, Inside, itself, deeper, UsedEntered, UsedFilled}
 use Rattle.table.proofs.Tables.{number-last, number-within, number-mono, number-fall, number-after-group, back-next}
-use Rattle.solver.specs.Rows.{Entered}
+use Rattle.solver.specs.Rows.{Entered, Extending}
 use Rattle.filling.specs.Filling.{Below, Filled}
 
 -- A row stored at sibling i of the sequence t: all stretches from there on.
@@ -51,27 +50,41 @@ module _ (A : Allowed) (b : ℕ) (t : Forest) (numbers : List ℕ) (i n : ℕ) (
         cell-same _ _ _ _ (number-fall A b j (j + d) t r (omega arith) q) (number-fall A b i (i + c) t r (omega arith) (omega arith)) z .1,
       ))
 
-  -- Solved rows, with the rows further on entered before, enter one sibling more.
-  pub stored-entered : (P : Prices) (row-costs row-choices : ℕ → ℕ) (costs choices costs′ choices′ : List ℕ)
-      → ((d : ℕ) → 0 < d → d ≤ n → Entry A P (stretch t i d) (row-costs d) (row-choices d)) → Stored numbers i n row-costs costs costs′
-      → Stored numbers i n row-choices choices choices′ → Entered A P b t (i + 1) costs choices → Entered A P b t i costs′ choices′
-  stored-entered P row-costs row-choices costs choices costs′ choices′ solved sc sk e =
-      record { entry = λ j d h p q. by-place j d h p q (decLt i j) }
+  -- A solved row, with the rows further on entered before, enters one sibling more.
+  pub stored-entered : (P : Prices) (row-costs row-choices : ℕ → ℕ) (extents extents′ costs choices costs′ choices′ : List ℕ) → 0 < n
+      → ((j : ℕ) → i < j → getD extents′ j 0 ≡ getD extents j 0)
+      → ((d : ℕ) → 0 < d → d ≤ getD extents′ i 0 → Entry A P (stretch t i d) (row-costs d) (row-choices d))
+      → ((d : ℕ) → 0 < d → i + d ≡ siblings t → Entry A P (stretch t i d) (row-costs d) (row-choices d))
+      → Stored numbers i n row-costs costs costs′ → Stored numbers i n row-choices choices choices′
+      → Entered A P b t (i + 1) extents costs choices → Entered A P b t i extents′ costs′ choices′
+  stored-entered P row-costs row-choices extents extents′ costs choices costs′ choices′ some same short last sc sk e =
+      record {
+        short = λ j d h p q l. elim (decLt i j) [
+          | yes k ↦ further j d k p q (e .short j d (omega arith) p q (rw (same j k) at l))
+          | no k ↦ let z : j ≡ i = omega arith in rw z (here d p (omega arith) (short d p (rw z at l)))
+        ];
+        whole = λ j d h p q. elim (decLt i j) [
+          | yes k ↦ further j d k p (omega arith) (e .whole j d (omega arith) p q)
+          | no k ↦ let z : j ≡ i = omega arith in rw z (here d p (omega arith) (last d p (omega arith)))
+        ];
+      }
     where
-      by-place : (j d : ℕ) → i ≤ j → 0 < d → j + d ≤ siblings t → Dec (i < j)
-          → Entry A P (stretch t j d) (getD costs′ (cell (number b t (j + d)) (number b t j)) 0)
-          (getD choices′ (cell (number b t (j + d)) (number b t j)) 0)
-      by-place j d h p q (yes l) =
-          rw (stored-further row-costs costs costs′ sc j d l p q, stored-further row-choices choices choices′ sk j d l p q)
-          (e .entry j d (omega arith) p q)
-      by-place j d h p q (no m) =
-          let z : j ≡ i = omega arith in
-          rw (z, stored-at row-costs costs costs′ sc d p (omega arith), stored-at row-choices choices choices′ sk d p (omega arith))
-          (solved d p (omega arith))
+      further : (j d : ℕ) → i < j → 0 < d → j + d ≤ siblings t
+          → Entry A P (stretch t j d) (getD costs (cell (number b t (j + d)) (number b t j)) 0) (getD choices (cell (number b t (j + d)) (number b t j)) 0)
+          → Entry A P (stretch t j d) (getD costs′ (cell (number b t (j + d)) (number b t j)) 0) (getD choices′ (cell (number b t (j + d)) (number b t j)) 0)
+      further j d l p q =
+          λ x. rw (stored-further row-costs costs costs′ sc j d l p q, stored-further row-choices choices choices′ sk j d l p q) x
 
--- Nothing is left to enter past the last sibling.
-pub entered-none : (A : Allowed) (P : Prices) (b : ℕ) (t : Forest) (costs choices : List ℕ) → Entered A P b t (siblings t) costs choices
-entered-none A P b t costs choices = record { entry = λ j d h p q. absurd (omega arith) }
+      here : (d : ℕ) → 0 < d → d ≤ n → Entry A P (stretch t i d) (row-costs d) (row-choices d)
+          → Entry A P (stretch t i d) (getD costs′ (cell (number b t (i + d)) (number b t i)) 0) (getD choices′ (cell (number b t (i + d)) (number b t i)) 0)
+      here d p l x = rw (stored-at row-costs costs costs′ sc d p l, stored-at row-choices choices choices′ sk d p l) x
+
+-- Where the rows from the first on are solved, what a fold can use is entered.
+pub entered-used : (A : Allowed) (P : Prices) (b : ℕ) (t : Forest) (extents costs choices : List ℕ) → Extending t 0 extents
+    → Entered A P b t 0 extents costs choices → UsedEntered A P b t costs choices
+entered-used A P b t extents costs choices x e i d p q (to-end h) = e .whole i d (omega arith) p h
+entered-used A P b t extents costs choices x e i d p q (again w l h f) =
+    e .short i d (omega arith) p q (x .used i d w (omega arith) (omega arith) l h f)
 
 -- What is kept: nothing changed, one change after another, and a change of less.
 pub kept-others-none : (b : ℕ) (t : Forest) (xs : List ℕ) → KeptOthers b t xs xs
@@ -112,16 +125,13 @@ alike-within b n b′ n′ xs ys h l a = record { alike = λ p q i j k. a .alike
 
 -- Then what they say of a sequence that has its nodes there is the same.
 module _ (A : Allowed) (P : Prices) (cs ks cs′ ks′ : List ℕ) where
-  entered-alike : (b : ℕ) (t : Forest) (i : ℕ) → Run A t → Alike b (nodes t) cs cs′ → Alike b (nodes t) ks ks′ → Entered A P b t i cs ks
-      → Entered A P b t i cs′ ks′
-  entered-alike b t i r ac ak e =
-      record {
-        entry = λ j d h p q.
-            let l = number-fall A b j (j + d) t r (omega arith) q in
-            let w = number-within b j t in
-            rw (ac .alike (number b t (j + d)) (number b t j) (omega arith) l w, ak .alike (number b t (j + d)) (number b t j) (omega arith) l w)
-            (e .entry j d h p q);
-      }
+  used-alike : (b : ℕ) (t : Forest) → Run A t → Alike b (nodes t) cs cs′ → Alike b (nodes t) ks ks′ → UsedEntered A P b t cs ks
+      → UsedEntered A P b t cs′ ks′
+  used-alike b t r ac ak e j d p q u =
+      let l = number-fall A b j (j + d) t r (omega arith) q in
+      let w = number-within b j t in
+      rw (ac .alike (number b t (j + d)) (number b t j) (omega arith) l w, ak .alike (number b t (j + d)) (number b t j) (omega arith) l w)
+      (e j d p q u)
 
   below-alike : (b : ℕ) (t : Forest) → Run A t → Alike b (nodes t) cs cs′ → Alike b (nodes t) ks ks′ → Below A P b t cs ks → Below A P b t cs′ ks′
   unfolding nodes
@@ -134,7 +144,7 @@ module _ (A : Allowed) (P : Prices) (cs ks cs′ ks′ : List ℕ) where
       let gk = alike-within b (1 + nodes g + nodes f) (b + nodes f) (nodes g) ks ks′ (omega arith) (omega arith) ak in
       let fc = alike-within b (1 + nodes g + nodes f) b (nodes f) cs cs′ (omega arith) (omega arith) ac in
       let fk = alike-within b (1 + nodes g + nodes f) b (nodes f) ks ks′ (omega arith) (omega arith) ak in (
-        entered-alike (b + nodes f) g 0 (run-body r) gc gk (w .0),
+        used-alike (b + nodes f) g (run-body r) gc gk (w .0),
         below-alike (b + nodes f) g (run-body r) gc gk (w .1),
         below-alike b f (run-after r) fc fk (w .2),
       )
@@ -182,7 +192,7 @@ module _ (A : Allowed) (b : ℕ) (t : Forest) (r : Run A t) where
         let next = back-next i t (group l g f) e in
         let ac = rw next at (others-alike i l g f cs cs′ e kc) in
         let ak = rw next at (others-alike i l g f ks ks′ e kk) in (
-          entered-alike A P cs ks cs′ ks′ (b + nodes f) g 0 (run-body q) ac ak (w .0),
+          used-alike A P cs ks cs′ ks′ (b + nodes f) g (run-body q) ac ak (w .0),
           below-alike A P cs ks cs′ ks′ (b + nodes f) g (run-body q) ac ak (w .1),
           others-from (i + 1) f (run-after q) next (w .2),
         )
@@ -255,7 +265,7 @@ module _ (A : Allowed) (b : ℕ) (t : Forest) (r : Run A t) (i l : ℕ) (g f : F
       let z : number b t (i + 1) + 0 ≡ number b t (i + 1) = omega arith in
       below-next A P cs′ ks′ b t i (group l g f) e kept (rw z (w .top), rw z (w .below), tt)
 
--- A table that has all stretches.
+-- A filled table.
 module _ (A : Allowed) (P : Prices) (costs choices : List ℕ) where
   filled-inside : (b : ℕ) (t : Forest) (c : ℕ) (g : Forest) → Inside b t c g → Run A t → Filled A P b t costs choices → Filled A P c g costs choices
   filled-inside b t c g itself r z = z
@@ -264,4 +274,4 @@ module _ (A : Allowed) (P : Prices) (costs choices : List ℕ) where
 
   pub used-filled : (b : ℕ) (t : Forest) → Run A t → Filled A P b t costs choices → UsedFilled A P b t costs choices
   used-filled b t r z =
-      record { entry = λ c g w i d p q u. filled-inside b t c g w r z .top .entry i d (omega arith) p q }
+      record { entry = λ c g w. filled-inside b t c g w r z .top }

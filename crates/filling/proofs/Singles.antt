@@ -12,6 +12,7 @@ use Rattle.optimum.proofs.Cut.{front-whole, siblings-le-nodes, run-back, run-bo
 use Rattle.optimum.proofs.Cheapest.{best-cost-step, best-cost-group}
 use Rattle.table.specs.Listing.{Spelled, Numbered}
 use Rattle.table.specs.Table.{cell, number, Falling}
+use Rattle.table.specs.Used.{to-end}
 use Rattle.filling.specs.Filling.{Single}
 use Rattle.table.proofs.Cells.{cell-in}
 use Rattle.filling.proofs.Entries.{below-at}
@@ -68,7 +69,7 @@ module _ (s : List ℕ) (i c l : ℕ) (x : Sibling (tree-of s) i c l) where
                   let u = rw p at (run-back i (z .run A)) in
                   let b = number (getD numbers (siblings (tree-of s)) 0) (tree-of s) (i + 1) in
                   let v = below-at A P costs choices (getD numbers (siblings (tree-of s)) 0) (tree-of s) i l g f (z .run A) p w in
-                  let top = v .top .entry 0 (siblings g) (omega arith) (u .sound .0) (omega arith) .costs in
+                  let top = v .top 0 (siblings g) (u .sound .0) (omega arith) (to-end (omega arith)) .costs in
                   let last : number b g (0 + siblings g) ≡ getD numbers (i + 1) 0 =
                   rw zero-add (omega (arith, number-last b g (run-body u .plain), numbered .numbered (i + 1) (omega arith))) in
                   let first : number b g 0 ≡ getD numbers i 0 - 1 =

@@ -10,7 +10,8 @@ use Rattle.optimum.specs.Cheapest.{node, best-cost}
 use Rattle.table.specs.Table.{Kept}
 use Rattle.table.specs.Listing.{Spelled}
 use Rattle.table.specs.Nodes.{SpanListed}
-use Rattle.solver.specs.Rows.{Entered, Priced, KeysReady}
+use Rattle.table.specs.Used.{UsedEntered}
+use Rattle.solver.specs.Rows.{Priced, KeysReady, TailsReady}
 use Rattle.filling.specs.declared.level.Level.{Level}
 
 -- The prices that a table of labels and a list of repeat prices give.
@@ -28,16 +29,17 @@ pub record Prepared (table prices : List ℕ) : Type 0 where
   pub priced : Priced (prices-of table prices) prices
   pub low : (l : ℕ) → getD table l 0 < 65536
 
--- The sequences inside a sequence's groups are entered, and theirs. What follows a group follows its children.
+-- The sequences inside a sequence's groups are entered, as far as a fold can use them, and theirs. What follows a group follows its
+-- children.
 abbrev pub Below : Allowed → Prices → ℕ → Forest → (costs choices : List ℕ) → Type 0
 Below A P b end cs ks = Unit
 Below A P b (step l f) cs ks = Below A P b f cs ks
-Below A P b (group l g f) cs ks = Entered A P (b + nodes f) g 0 cs ks × Below A P (b + nodes f) g cs ks × Below A P b f cs ks
+Below A P b (group l g f) cs ks = UsedEntered A P (b + nodes f) g cs ks × Below A P (b + nodes f) g cs ks × Below A P b f cs ks
 Below A P b (repeat h w g f) cs ks = Unit
 
 -- A whole tree is entered: its top sequence and all that lies below.
 pub record Filled (A : Allowed) (P : Prices) (b : ℕ) (t : Forest) (costs choices : List ℕ) : Type 0 where
-  pub top : Entered A P b t 0 costs choices
+  pub top : UsedEntered A P b t costs choices
   pub below : Below A P b t costs choices
 
 -- All that filling the stretches of one sequence rests on.
@@ -75,9 +77,13 @@ pub record Single (s table costs numbers : List ℕ) (i r : ℕ) : Type 0 where
       → Below A P (getD numbers (siblings (tree-of s)) 0) (tree-of s) costs choices → r ≡ best-cost A P (node i (tree-of s))
 
 -- The lent arrays that every sequence is worked in, one after the other.
-pub record Scratch (offsets numbers kinds matches keys : List ℕ) : Type 0 where
+pub record Scratch (offsets numbers kinds matches extents tails stops seen keys : List ℕ) : Type 0 where
   pub long-offsets : length offsets ≡ 1025
   pub long-numbers : length numbers ≡ 1025
   pub long-kinds : length kinds ≡ 1025
   pub long-matches : length matches ≡ 1025
+  pub long-extents : length extents ≡ 1025
+  pub tails-ready : TailsReady tails
+  pub long-stops : length stops ≡ 1025
+  pub long-seen : length seen ≡ 1025
   pub keys-ready : KeysReady keys

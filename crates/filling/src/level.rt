@@ -2,6 +2,7 @@
 use crate::own::own_cost;
 use format::Format;
 use solver::Row;
+use solver::draw;
 use solver::enter_row;
 use solver::grow;
 use table::Span;
@@ -20,7 +21,8 @@ pub struct Level {
     pub limit: usize,
 }
 
-// Enters all stretches of the sequence s, from the last sibling to the first. The sequences inside its groups are entered already.
+// Enters the stretches of the sequence s that a fold can use, from the last sibling to the first. The sequences inside its groups are
+// entered already.
 pub fn enter_level(
     places: &[usize],
     nexts: &[usize],
@@ -30,38 +32,57 @@ pub fn enter_level(
     prices: &[u64],
     offsets: &mut [usize],
     numbers: &mut [usize],
-    kinds: &mut [usize],
-    matches: &mut [usize],
+    kinds: &mut [u16],
+    matches: &mut [u16],
+    extents: &mut [usize],
+    tails: &mut [u64],
+    stops: &mut [usize],
+    seen: &mut [usize],
     keys: &mut [u64],
     costs: &mut [u32],
     choices: &mut [u32],
 )
     requires { ⌜ LevelReady (now s) (level .span .behind) (level .limit) (now table) (now prices) (now costs) (now choices) ⌝ }
     requires { ⌜ Below (at-most (level .limit)) (prices-of (now table) (now prices)) (level .span .behind) (tree-of (now s)) (now costs) (now choices) ⌝ }
-    requires { ⌜ Scratch (now offsets) (now numbers) (now kinds) (now matches) (now keys) ⌝ }
+    requires { ⌜ Scratch (now offsets) (now numbers) (now kinds) (now matches) (now extents) (now tails) (now stops) (now seen) (now keys) ⌝ }
     requires { ⌜ LevelListed (now places) (now nexts) (now s) level ⌝ }
-    ensures scratch { λ _. ⌜ Scratch (now (offsets .exit)) (now (numbers .exit)) (now (kinds .exit)) (now (matches .exit)) (now (keys .exit)) ⌝ }
+    ensures scratch { λ _. ⌜ Scratch (now (offsets .exit)) (now (numbers .exit)) (now (kinds .exit)) (now (matches .exit)) (now (extents .exit)) (now (tails .exit)) (now (stops .exit)) (now (seen .exit)) (now (keys .exit)) ⌝ }
     ensures entered { λ _. ⌜ LevelFilled (now (s .entry)) level (now (table .entry)) (now (prices .entry)) (now (costs .exit)) (now (choices .exit)) ⌝ }
     ensures kept { λ _. ⌜ LevelKept (now (s .entry)) level (now (costs .entry)) (now (costs .exit)) × LevelKept (now (s .entry)) level (now (choices .entry)) (now (choices .exit)) ⌝ }
 {
     let stands = level.span;
     let m = list_siblings(places, nexts, s, stands, offsets, numbers);
     classify(s, offsets, m, kinds);
+    extents[m] = 0;
+    tails[m] = 0;
     let mut i = m;
     while i > 0 {
         i -= 1;
-        let shift = grow(kinds, i, m, matches);
+        grow(kinds, i, m, matches);
+        let g = draw(matches, extents, i, m);
         let own = own_cost(s, table, costs, offsets, numbers, i);
-        let span = matches[shift];
+        extents[i] = g.extent;
         let row = Row {
             at: i,
             end: m,
             limit: level.limit,
             own,
-            shift,
-            span,
+            shift: g.shift,
+            span: g.span,
+            extent: g.extent,
         };
-        enter_row(costs, choices, numbers, row, prices, matches, keys);
+        enter_row(
+            costs,
+            choices,
+            numbers,
+            row,
+            prices,
+            matches,
+            tails,
+            stops,
+            seen,
+            keys,
+        );
     }
 }
 
@@ -88,16 +109,20 @@ pub fn enter_tree(
     prices: &[u64],
     offsets: &mut [usize],
     numbers: &mut [usize],
-    kinds: &mut [usize],
-    matches: &mut [usize],
+    kinds: &mut [u16],
+    matches: &mut [u16],
+    extents: &mut [usize],
+    tails: &mut [u64],
+    stops: &mut [usize],
+    seen: &mut [usize],
     keys: &mut [u64],
     costs: &mut [u32],
     choices: &mut [u32],
 )
     requires { ⌜ LevelReady (now s) (level .span .behind) (level .limit) (now table) (now prices) (now costs) (now choices) ⌝ }
-    requires { ⌜ Scratch (now offsets) (now numbers) (now kinds) (now matches) (now keys) ⌝ }
+    requires { ⌜ Scratch (now offsets) (now numbers) (now kinds) (now matches) (now extents) (now tails) (now stops) (now seen) (now keys) ⌝ }
     requires { ⌜ LevelListed (now places) (now nexts) (now s) level ⌝ }
-    ensures scratch { λ _. ⌜ Scratch (now (offsets .exit)) (now (numbers .exit)) (now (kinds .exit)) (now (matches .exit)) (now (keys .exit)) ⌝ }
+    ensures scratch { λ _. ⌜ Scratch (now (offsets .exit)) (now (numbers .exit)) (now (kinds .exit)) (now (matches .exit)) (now (extents .exit)) (now (tails .exit)) (now (stops .exit)) (now (seen .exit)) (now (keys .exit)) ⌝ }
     ensures entered { λ _. ⌜ LevelFilled (now (s .entry)) level (now (table .entry)) (now (prices .entry)) (now (costs .exit)) (now (choices .exit)) ⌝ }
     ensures kept { λ _. ⌜ LevelKept (now (s .entry)) level (now (costs .entry)) (now (costs .exit)) × LevelKept (now (s .entry)) level (now (choices .entry)) (now (choices .exit)) ⌝ }
 {
@@ -118,6 +143,10 @@ pub fn enter_tree(
                 numbers,
                 kinds,
                 matches,
+                extents,
+                tails,
+                stops,
+                seen,
                 keys,
                 costs,
                 choices,
@@ -136,6 +165,10 @@ pub fn enter_tree(
         numbers,
         kinds,
         matches,
+        extents,
+        tails,
+        stops,
+        seen,
         keys,
         costs,
         choices,

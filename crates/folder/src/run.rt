@@ -67,8 +67,12 @@ fn fill(
 {
     let mut offsets = [0usize; Lists::LENGTH];
     let mut numbers = [0usize; Lists::LENGTH];
-    let mut kinds = [0usize; Lists::LENGTH];
-    let mut matches = [0usize; Lists::LENGTH];
+    let mut kinds = [0u16; Lists::LENGTH];
+    let mut matches = [0u16; Lists::LENGTH];
+    let mut extents = [0usize; Lists::LENGTH];
+    let mut tails = [0u64; Lists::LENGTH];
+    let mut stops = [0usize; Lists::LENGTH];
+    let mut seen = [0usize; Lists::LENGTH];
     let mut keys = [0u64; Lists::LENGTH];
     enter_tree(
         places,
@@ -81,6 +85,10 @@ fn fill(
         &mut numbers,
         &mut kinds,
         &mut matches,
+        &mut extents,
+        &mut tails,
+        &mut stops,
+        &mut seen,
         &mut keys,
         costs,
         choices,

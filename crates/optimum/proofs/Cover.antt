@@ -28,12 +28,12 @@ price-covered A P B t h w r s p l =
     omega (arith, best-cost-end A P)
 
 -- A number that is at most the plain rank, the rank of each pair that covers the whole run, and, for each shorter beginning
--- whose least pair covers it, the rank of that pair followed by the rest.
+-- whose least pair covers it and is the least one of the run too, the rank of that pair followed by the rest.
 pub record Bound (A : Allowed) (P : Prices) (B : Bases) (t : Forest) (k : ℕ) : Type 0 where
   pub plain : k ≤ rank B (price P (best-cost A P) t 0 0) 0 0
   pub whole : (h w : ℕ) → Power A t h w → h * w ≡ siblings t → k ≤ rank B (price P (best-cost A P) t h w) h w
   pub first : (c m h w : ℕ) → c + m ≡ siblings t → 0 < c → 0 < m → h * w ≡ c → Least A P B (best-cost A P) (front c t) h w
-      → k ≤ rank B (best-cost A P (front c t) + best-cost A P (back c t)) h w
+      → Least A P B (best-cost A P) t h w → k ≤ rank B (best-cost A P (front c t) + best-cost A P (back c t)) h w
 
 module _ (A : Allowed) (P : Prices) where
   -- The repeat that an optimal fold begins with is the optimal fold of what it covers.
@@ -59,7 +59,7 @@ module _ (A : Allowed) (P : Prices) where
       least-of-optimal A P B (front n t) (repeat h w b end) (spans-front n (r .plain) s) (first-optimal t b f h w o) in
       elim (ℕ-discrete n (siblings t)) [
         | yes e ↦ bound .whole h w p e
-        | no e ↦ rw (price-covered A P B t h w r s p l) (bound .first n (siblings t - n) h w (omega arith) (omega (arith, c .some, c .count, p .repeats .twice)) (omega arith) refl l)
+        | no e ↦ rw (price-covered A P B t h w r s p l) (bound .first n (siblings t - n) h w (omega arith) (omega (arith, c .some, c .count, p .repeats .twice)) (omega arith) refl l (least-of-optimal A P B t (repeat h w b f) s o))
       ]
 
   -- COVER: such a number is at most the rank of every pair.

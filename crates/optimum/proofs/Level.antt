@@ -29,7 +29,7 @@ pub record BoundAt (A : Allowed) (P : Prices) (B : Bases) (t : Forest) (i n k : 
   pub plain : (j m : ℕ) → i + 1 ≡ j → 1 + m ≡ n → k ≤ rank B (best-cost A P (node i t) + best-cost A P (front m (back j t))) 0 0
   pub whole : (h w : ℕ) → Power A (back i t) h w → h * w ≡ n → k ≤ rank B (of-repeat P h + best-cost A P (front w (back i t))) h w
   pub first : (j c m h w : ℕ) → i + c ≡ j → c + m ≡ n → 0 < c → 0 < m → h * w ≡ c → Least A P B (best-cost A P) (front c (back i t)) h w
-      → k ≤ rank B (best-cost A P (front c (back i t)) + best-cost A P (front m (back j t))) h w
+      → Least A P B (best-cost A P) (front n (back i t)) h w → k ≤ rank B (best-cost A P (front c (back i t)) + best-cost A P (front m (back j t))) h w
 
 pub bound-at : (A : Allowed) (P : Prices) (B : Bases) (t : Forest) (i n k : ℕ) → Run A t → i + n ≤ siblings t → 0 < n
     → BoundAt A P B t i n k → Bound A P B (front n (back i t)) k
@@ -44,8 +44,8 @@ bound-at A P B t i n k r f pos b =
           let v : price P (best-cost A P) (front n (back i t)) h w ≡ of-repeat P h + best-cost A P (front w (back i t)) =
           omega (arith, power-at A P t i (i + h * w) 0 n h w q refl z, best-cost-end A P) in
           rw v (b .whole h w q (omega arith));
-      first = λ c m h w e q p d l.
+      first = λ c m h w e q p d l whole.
           let z : c + m ≡ n = e ∙ size in
           let v = front-front c m n (back i t) z in
-          rw (v, back-piece i (i + c) c m n t refl z) (b .first (i + c) c m h w refl z q p d (rw v at l));
+          rw (v, back-piece i (i + c) c m n t refl z) (b .first (i + c) c m h w refl z q p d (rw v at l) whole);
     }

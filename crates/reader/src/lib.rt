@@ -9,7 +9,6 @@ use format::RunReading;
 use format::head_refusal;
 use format::wide_cost;
 use node::node_end;
-pub use node::opens_node;
 use node::starts_at;
 use walk::Terms;
 use walk::Walk;

@@ -1,6 +1,5 @@
--- What a row starts from: the matches grown by one sibling, and the width at which the most match.
+-- The matches grown by one sibling.
 use mathlib.Core.Path.{_≡_, refl, sym, _∙_}
-use mathlib.Core.Logic.{_⊎_, inl, inr, ⊎-elim}
 use mathlib.Core.List.{List}
 use Prim.Native.Nat.{ℕ, _+_, _<_, _≤_}
 use native.Mathlib.Numerals.{add-one}
@@ -115,49 +114,3 @@ module _ (kinds : List ℕ) (i w : ℕ) (before after : List ℕ) (g : GrownBelo
               let e : v ≡ w = omega (arith, siblings-back i t (r .plain) (omega arith)) in
               rw (e, getD-set-same after w 0 0 (omega (arith, g .long)))
               (matched-none A t r i (omega arith) w (omega arith) (λ a q. omega arith))
-
--- The width at which the most siblings match: none is found yet, or one below w.
-pub record Farthest (w : ℕ) (same : List ℕ) (most far : ℕ) : Type 0 where
-  pub pos : 0 < most
-  pub within : most ≤ w
-  pub is-far : far ≤ getD same most 0
-  pub all : (v : ℕ) → 0 < v → v < w → getD same v 0 ≤ far
-  pub found : (far ≡ 0) ⊎ (most < w)
-
-pub farthest-none : (same : List ℕ) → Farthest 1 same 1 0
-farthest-none same = record { pos = omega arith; within = omega arith; is-far = omega arith; all = λ v a l. absurd (omega arith); found = inl refl }
-
-module _ (w : ℕ) (same : List ℕ) (most far : ℕ) (t : Farthest w same most far) (k : ℕ) (short : w < length same) where
-  -- What is known of the widths below stays, and of w it is k.
-  upto : (far′ : ℕ) → far ≤ far′ → k ≤ far′ → (v : ℕ) → 0 < v → v < w + 1 → getD (set same w k) v 0 ≤ far′
-  upto far′ a b v p l =
-      entry-more (λ u y. 0 < u → y ≤ far′) same w k short (λ u m q. omega (arith, t .all u q m)) (λ q. b) v l p
-
-  is-still : far ≤ getD (set same w k) most 0
-  is-still = ⊎-elim
-      (λ e. omega arith)
-      (λ l. omega (arith, getD-set-other same w most k 0 (λ e. omega arith), t .is-far))
-      (t .found)
-
-  pub farthest-raised : 0 < w → far < k → Farthest (w + 1) (set same w k) w k
-  farthest-raised p h =
-      record {
-        pos = p;
-        within = omega arith;
-        is-far = rw (getD-set-same same w k 0 short) (omega arith);
-        all = upto k (omega arith) (omega arith);
-        found = inr (omega arith);
-      }
-
-  pub farthest-kept : k ≤ far → Farthest (w + 1) (set same w k) most far
-  farthest-kept h =
-      record {
-        pos = t .pos;
-        within = omega (arith, t .within);
-        is-far = is-still;
-        all = upto far (omega arith) h;
-        found = ⊎-elim inl (λ l. inr (omega arith)) (t .found);
-      }
-
-  pub farthest-most : k ≡ 0 → (v : ℕ) → 0 < v → v < w + 1 → getD (set same w k) v 0 ≤ getD (set same w k) most 0
-  farthest-most z v p l = omega (arith, upto far (omega arith) (omega arith) v p l, is-still)

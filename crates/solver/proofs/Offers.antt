@@ -8,8 +8,8 @@ use native.Mathlib.Decide.{ℕ-discrete, decLe, decLt}
 use native.Mathlib.Omega.{arith}
 use lib.ListN.{length, getD, set, length-set}
 use lib.Seq.{getD-set-same, getD-set-other}
-use Rattle.format.specs.Forest.{Forest, Allowed}
-use Rattle.optimum.specs.Cheapest.{Run, back, node, Power}
+use Rattle.format.specs.Forest.{Forest, Allowed, siblings}
+use Rattle.optimum.specs.Cheapest.{Run, front, back, node, Power}
 use Rattle.optimum.proofs.Powers.{node-front, node-back, power-from-shift, shift-from-power, reach}
 use Rattle.solver.specs.Rows.{Matched, Came, Offering, offer-key}
 
@@ -23,6 +23,17 @@ in-reach g h d span e pos l near =
     let n = le-mul-of-pos-right h pos in
     (omega arith, omega arith)
 
+-- As many siblings match as are equal.
+pub matched-most : {T : Forest} (w k d : ℕ) → Matched T w k → d + w ≤ siblings T → front d T ≡ front d (back w T) → d ≤ k
+matched-most {T} w k d m fits e = elim (decLe d k) [
+  | yes l ↦ l
+  | no l ↦
+      let far : k < d = omega arith in
+      let same : node k T ≡ node (k + w) T =
+      sym (node-front k d T far) ∙ ap (node k) e ∙ node-front k d (back w T) far ∙ node-back w k (k + w) T (omega arith) in
+      absurd (m .stop (omega arith) same)
+]
+
 -- A count is possible exactly where the siblings match those d further on for one copy less.
 pub near-power : {A : Allowed} {T : Forest} (h d k : ℕ) → Run A T → 0 < d → d ≤ A .widest → Matched T d k → 2 ≤ h → (h - 1) * d ≤ k
     → Power A T h d
@@ -32,20 +43,9 @@ near-power h d k r pos within m twice near =
     power-from-shift (h - 1) h d k r s (omega arith) pos within (omega (arith, m .bound)) near (m .shift)
 
 pub power-near : {A : Allowed} {T : Forest} (h d k : ℕ) → Run A T → Matched T d k → Power A T h d → (h - 1) * d ≤ k
-power-near {T = T} h d k r m p =
+power-near h d k r m p =
     let s : suc (h - 1) ≡ h = omega (arith, p .repeats .twice) in
-    let e = copy-more (h - 1) h d s in
-    elim (decLe ((h - 1) * d) k) [
-      | yes l ↦ l
-      | no l ↦
-          let far : k < (h - 1) * d = omega arith in
-          let same : node k T ≡ node (k + d) T =
-          sym (node-front k ((h - 1) * d) T far)
-          ∙ ap (node k) (shift-from-power (h - 1) h d r s p)
-          ∙ node-front k ((h - 1) * d) (back d T) far
-          ∙ node-back d k (k + d) T (omega arith) in
-          absurd (m .stop (omega (arith, reach p .covers)) same)
-    ]
+    matched-most d k ((h - 1) * d) m (omega (arith, reach p .covers, copy-more (h - 1) h d s)) (shift-from-power (h - 1) h d r s p)
 
 -- The counts from `from` up to below h are offered.
 pub record Upto (prices : List ℕ) (cost d span from : ℕ) (before now : List ℕ) (h : ℕ) : Type 0 where

@@ -8,8 +8,8 @@ use native.Mathlib.Omega.{arith}
 use lib.ListN.{length, getD, set, length-set}
 use lib.Seq.{getD-set-same, getD-set-other}
 use Rattle.solver.specs.declared.row.Row.{Row}
-use Rattle.table.specs.Keys.{top-key, cost-base, key}
-use Rattle.solver.specs.Rows.{Copied, Plainly, Pushing, Started, KeysReady}
+use Rattle.table.specs.Keys.{top-key, stored-key, cost-base, key}
+use Rattle.solver.specs.Rows.{Copied, Plainly, Pushing, Started, KeysReady, TailsReady, Pushed, push, pass, skip, Widened, offer, too-wide, unlike}
 use Rattle.table.specs.Table.{key-at, rest-key}
 use Rattle.table.proofs.Listings.{entry-more, entry-all}
 
@@ -63,7 +63,7 @@ abbrev pub OfPlain : (costs choices numbers : List ℕ) (row : Row) → ℕ → 
 OfPlain costs choices numbers row c x = (x ≤ top-key) × (x ≡ key (row .own) 0 + rest-key costs choices numbers (row .at + 1) (row .at + c))
 
 pub plainly-all : (costs choices numbers : List ℕ) (row : Row) (from d : ℕ) (before now : List ℕ) → ((c : ℕ) → getD before c 0 ≤ top-key)
-    → row .end < row .at + d → Put (OfPlain costs choices numbers row) from d before now → Plainly costs choices numbers row from before now
+    → row .extent < d → Put (OfPlain costs choices numbers row) from d before now → Plainly costs choices numbers row from before now
 plainly-all costs choices numbers row from d before now low past p =
     record {
       long = p .same-length;
@@ -78,12 +78,12 @@ push-key costs choices numbers row c k d = k + rest-key costs choices numbers (r
 
 abbrev pub OfPush : (costs choices numbers : List ℕ) (row : Row) (c k : ℕ) (before : List ℕ) → ℕ → ℕ → Type 0
 OfPush costs choices numbers row c k before d x =
-    (row .at + d ≤ row .end)
+    (d ≤ row .extent)
     × (x ≤ push-key costs choices numbers row c k d)
     × (x ≤ getD before d 0)
     × ((x ≡ push-key costs choices numbers row c k d) ⊎ (x ≡ getD before d 0))
 
-pub pushing-all : (costs choices numbers : List ℕ) (row : Row) (c k from d : ℕ) (before now : List ℕ) → row .end < row .at + d
+pub pushing-all : (costs choices numbers : List ℕ) (row : Row) (c k from d : ℕ) (before now : List ℕ) → row .extent < d
     → Put (OfPush costs choices numbers row c k before) from d before now → Pushing costs choices numbers row c k from before now
 pushing-all costs choices numbers row c k from d before now past p =
     record {
@@ -91,7 +91,7 @@ pushing-all costs choices numbers row c k from d before now past p =
       lower = put-all _ _ _ _ _ p (λ e x. x ≤ getD before e 0) (λ e. omega arith) (λ e x l q. q .2);
       pushed = λ e l m. p .put e l (omega arith) .1;
       came = put-all _ _ _ _ _ p
-          (λ e x. (x ≡ getD before e 0) ⊎ ((from ≤ e) × (row .at + e ≤ row .end) × (x ≡ push-key costs choices numbers row c k e)))
+          (λ e x. (x ≡ getD before e 0) ⊎ ((from ≤ e) × (e ≤ row .extent) × (x ≡ push-key costs choices numbers row c k e)))
           (λ e. inl refl)
           (λ e x l q. ⊎-elim (λ z. inr (l, q .0, z)) (λ z. inl z) (q .3));
     }
@@ -118,4 +118,27 @@ started costs choices numbers row from k start between keys e ready twice past f
           ∙ getD-set-other between 1 c k 0 (λ q. omega arith)
           ∙ copied .copied c (omega arith) m;
       plain = λ c l m h. plainly .plain c (first c l m) h;
+    }
+
+-- The keys stay as they may be worked on.
+ready-lower : {before after : List ℕ} → KeysReady before → length after ≡ length before → ((c : ℕ) → getD after c 0 ≤ getD before c 0) → KeysReady after
+ready-lower k e l = record { long = e ∙ k .long; low = λ c. omega (arith, l c, k .low c) }
+
+pub pushed-ready : {costs choices numbers : List ℕ} {row : Row} {stops : List ℕ} {d k : ℕ} {before after : List ℕ} → KeysReady before
+    → Pushed costs choices numbers row stops d k before after → KeysReady after
+pushed-ready r (push from a b c f p) = ready-lower r (p .same-length) (p .lower)
+pushed-ready r (pass f x) = rw x r
+pushed-ready r (skip a b c x) = rw x r
+
+pub widened-ready : {row : Row} {prices : List ℕ} {cost d match : ℕ} {before after : List ℕ} → KeysReady before
+    → Widened row prices cost d match before after → KeysReady after
+widened-ready r (offer from a b c f p) = ready-lower r (p .same-length) (p .lower)
+widened-ready r (too-wide f x) = rw x r
+widened-ready r (unlike f x) = rw x r
+
+pub tails-ready : {tails : List ℕ} (at tail : ℕ) → at < 1025 → tail ≤ stored-key → TailsReady tails → TailsReady (set tails at tail)
+tails-ready {tails} at tail short low r =
+    record {
+      long = simp length-set (r .long);
+      low = entry-all (λ x. x ≤ stored-key) tails at tail (omega (arith, r .long)) (r .low) low;
     }

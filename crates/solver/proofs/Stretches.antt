@@ -46,7 +46,7 @@ module _ {A : Allowed} {P : Prices} {t : Forest} (g : Modest A P t) (i : ℕ) wh
   rest : Run A (back i t)
   rest = run-back i (g .run)
 
-  piece : (n : ℕ) → Run A (stretch t i n)
+  pub piece : (n : ℕ) → Run A (stretch t i n)
   piece n = run-front n rest
 
   -- The costs are far below 32 bits.
@@ -147,7 +147,7 @@ module _ {A : Allowed} {P : Prices} {t : Forest} (g : Modest A P t) (i : ℕ) wh
       (record {
         plain = x .plain;
         whole = λ h w p e. let r = reach p in x .whole h w p e (omega arith);
-        first = λ j c m h w d e p q f l. x .first j c m h w d e p q f (omega arith) l;
+        first = λ j c m h w d e p q f l whole. x .first j c m h w d e p q f (omega arith) l whole;
       }) in
       let least : Least A P usual (best-cost A P) (stretch t i n) (x .count) (x .width) =
       least-by-cover A P usual (stretch t i n) (x .count) (x .width) (piece n) (fitting n) (x .candidate) (rw (x .is-key) at bound) in
@@ -168,7 +168,7 @@ module _ {A : Allowed} {P : Prices} {t : Forest} (g : Modest A P t) (i : ℕ) wh
         is-key = is-pair n k b;
         plain = λ j m d e. rw (plain-at A P t i j m n (g .run) d e) at (at-most-all n k b 0 0 plain);
         whole = λ h w p e l. rw (whole-price n h w p e) at (at-most-all n k b h w (whole-candidate n h w p (omega arith)));
-        first = λ j c m h w d e p q f l v.
+        first = λ j c m h w d e p q f l v whole.
             rw (first-price j c m n h w d e p f v) at (at-most-all n k b h w (first-candidate j c m n h w d e p f v));
       }
 
@@ -195,5 +195,5 @@ module _ {A : Allowed} {P : Prices} {t : Forest} (g : Modest A P t) (i : ℕ) wh
         is-key = rw p (omega arith);
         plain = λ j m′ d d′. let x : m′ ≡ m = omega arith in rw (x, ← d) (omega arith);
         whole = λ h w q d l. let y = reach q in absurd (omega arith);
-        first = λ j c m h w d e′ p q f′ l v. absurd (omega arith);
+        first = λ j c m h w d e′ p q f′ l v whole. absurd (omega arith);
       }

@@ -1,2 +1,3 @@
 -- What solving a row rests on and promises.
 pub mod Rows
+pub mod Ends

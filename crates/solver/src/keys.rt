@@ -39,7 +39,7 @@ pub fn plain_row(
     requires { ⌜ RowFits row × KeysReady (now keys) × (2 ≤ from) × (from ≤ 1025) ⌝ }
     ensures { λ _. ⌜ Plainly (now (costs .entry)) (now (choices .entry)) (now (numbers .entry)) row from (now (keys .entry)) (now (keys .exit)) ⌝ }
 {
-    let n = row.end - row.at;
+    let n = row.extent;
     let q = numbers[row.at + 1];
     let plain = key_of(row.own, 0);
     let mut d = from;
@@ -70,10 +70,10 @@ pub fn push(
     keys: &mut [u64],
 )
     requires { ⌜ RowHeld (now costs) (now choices) (now numbers) row ⌝ }
-    requires { ⌜ RowFits row × KeysReady (now keys) × (row .at + c ≤ row .end) × (k ≤ top-key) × (c < from) × (from ≤ 1025) ⌝ }
+    requires { ⌜ RowFits row × KeysReady (now keys) × (c ≤ row .extent) × (k ≤ top-key) × (c < from) × (from ≤ 1025) ⌝ }
     ensures { λ _. ⌜ Pushing (now (costs .entry)) (now (choices .entry)) (now (numbers .entry)) row c k from (now (keys .entry)) (now (keys .exit)) ⌝ }
 {
-    let n = row.end - row.at;
+    let n = row.extent;
     let q = numbers[row.at + c];
     let mut d = from;
     while d <= n {

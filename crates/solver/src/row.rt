@@ -1,20 +1,30 @@
-// One row of the table: the cheapest folds of all stretches that begin at one sibling.
+// One row of the table: the cheapest folds of the stretches that begin at one sibling.
+use crate::ends::end_key;
 use crate::keys::copy_row;
 use crate::keys::offer;
 use crate::keys::plain_row;
 use crate::keys::push;
+use crate::pairs::mark;
+use crate::pairs::may_be_first;
+use table::as_index;
 use table::cost_digit;
 use table::covered;
 use table::key_of;
+use table::larger;
+use table::rest_of;
 use table::smaller;
+use table::store_entry;
 use table::store_row;
 ghost use mathlib.Core.Path.{_≡_};
+ghost use mathlib.Core.List.{List};
 ghost use Prim.Native.Nat.{ℕ, _+_, _-_, _*_, _<_, _≤_};
 ghost use lib.ListN.{length, getD};
-ghost use Rattle.solver.specs.Rows.{Growing, KeysReady, PricesReady, RowFits, RowHeld, Shifted, RowReady, Started, Settled, Advanced, RowEntered};
+ghost use Rattle.table.specs.Keys.{cost-digit};
+ghost use Rattle.solver.specs.Rows.{KeysReady, PricesReady, TailsReady, RowFits, RowHeld, RowReady, Started, Marked, Pushed, Widened, Advanced, RowEntered};
 
 // A row: the stretches that begin at sibling `at` of the `end` siblings of a sequence, in which no repeat is wider than `limit`. The
-// sibling costs `own` by itself. The first `span` siblings are those from `shift` further on, and at no width do more match.
+// sibling costs `own` by itself. The first `span` siblings are those from `shift` further on, in a row that is solved as far. Solved are
+// the stretches of up to `extent` siblings, and the one up to the end.
 pub struct Row {
     pub at: usize,
     pub end: usize,
@@ -22,43 +32,7 @@ pub struct Row {
     pub own: u64,
     pub shift: usize,
     pub span: usize,
-}
-
-// One more than k where two siblings are equal, else none.
-fn longer(a: usize, b: usize, k: usize) -> usize
-    requires { ⌜ k < 1024 ⌝ }
-    ensures { λ r. ⌜ ((a ≡ b → r ≡ k + 1)) × (((a ≡ b → ⊥) → r ≡ 0)) × (r ≤ k + 1) ⌝ }
-{
-    if a == b {
-        return k + 1;
-    }
-    0
-}
-
-// Grows the matches from sibling i + 1 to sibling i: how many siblings from i on equal the one w further, for each width w. Answers
-// a width at which the most do.
-pub fn grow(kinds: &[usize], i: usize, m: usize, matches: &mut [usize]) -> usize
-    requires { ⌜ (length (now kinds) ≡ 1025) × (length (now matches) ≡ 1025) × (m ≤ 1024) × (i < m) ⌝ }
-    requires { ⌜ ((w : ℕ) → 0 < w → i + w < m → getD (now matches) w 0 + i < 1024) ⌝ }
-    ensures grown { λ _. ⌜ Growing (now (kinds .entry)) i m (now (matches .entry)) (now (matches .exit)) ⌝ }
-    ensures width { λ r. ⌜ (0 < r) × (i + r ≤ m) ⌝ }
-    ensures most { λ r. ⌜ ((w : ℕ) → 0 < w → i + w ≤ m → getD (now (matches .exit)) w 0 ≤ getD (now (matches .exit)) r 0) ⌝ }
-{
-    let kind = kinds[i];
-    let mut most = 1;
-    let mut far = 0;
-    let mut w = 1;
-    while i + w < m {
-        let k = longer(kind, kinds[i + w], matches[w]);
-        matches[w] = k;
-        if far < k {
-            far = k;
-            most = w;
-        }
-        w += 1;
-    }
-    matches[w] = 0;
-    most
+    pub extent: usize,
 }
 
 // The keys of a row before any repeat is offered.
@@ -84,7 +58,7 @@ fn past(d: usize, span: usize) -> usize
 }
 
 // The first count from 2 on whose repeats of width d cover more than `span` siblings.
-fn count_past(d: usize, span: usize) -> usize
+pub fn count_past(d: usize, span: usize) -> usize
     requires { ⌜ (0 < d) × (d ≤ 1024) × (span ≤ 1024) ⌝ }
     ensures { λ r. ⌜ (2 ≤ r) × (r ≤ 1025) × (span < r * d) × ((g : ℕ) → 2 ≤ g → g < r → g * d ≤ span) ⌝ }
 {
@@ -95,7 +69,7 @@ fn count_past(d: usize, span: usize) -> usize
 }
 
 // How many siblings match for a repeat of width d: none where the limit forbids that width.
-fn matched_within(d: usize, limit: usize, matched: usize) -> usize
+pub fn matched_within(d: usize, limit: usize, matched: usize) -> usize
     ensures { λ r. ⌜ ((d ≤ limit → r ≡ matched)) × ((limit < d → r ≡ 0)) ⌝ }
 {
     if limit < d {
@@ -104,25 +78,28 @@ fn matched_within(d: usize, limit: usize, matched: usize) -> usize
     matched
 }
 
-// The stretch of d siblings is solved: what is left is put behind it where it is cheapest as one repeat, and it is repeated as far
-// as siblings match. The keys of up to `span` siblings are final and need neither.
-fn settle(
+// The stretch of d siblings is solved: what is left is put behind it where it is cheapest as one repeat and may be first in a longer
+// stretch. The keys of up to `span` siblings are final.
+fn follow(
     costs: &[u32],
     choices: &[u32],
     numbers: &[usize],
     row: Row,
-    prices: &[u64],
     d: usize,
-    matched: usize,
+    stops: &[usize],
+    seen: &[usize],
     keys: &mut [u64],
 )
     requires { ⌜ RowHeld (now costs) (now choices) (now numbers) row ⌝ }
-    requires { ⌜ RowFits row × KeysReady (now keys) × PricesReady (now prices) × (0 < d) × (row .at + d + matched ≤ row .end) ⌝ }
+    requires { ⌜ RowFits row × KeysReady (now keys) × (0 < d) × (d ≤ row .extent) × (length (now stops) ≡ 1025) × Marked row (now keys) (now seen) ⌝ }
     ensures low { λ _. ⌜ KeysReady (now (keys .exit)) ⌝ }
-    ensures settled { λ _. ⌜ Settled (now (costs .entry)) (now (choices .entry)) (now (numbers .entry)) row (now (prices .entry)) d matched (now (keys .entry)) (now (keys .exit)) ⌝ }
+    ensures pushed { λ _. ⌜ Pushed (now (costs .entry)) (now (choices .entry)) (now (numbers .entry)) row (now (stops .entry)) d (getD (now (keys .entry)) d 0) (now (keys .entry)) (now (keys .exit)) ⌝ }
 {
     let key = keys[d];
-    if covered(key) == d {
+    if covered(key) != d {
+        return;
+    }
+    if may_be_first(row, d, stops, seen) {
         push(
             costs,
             choices,
@@ -134,59 +111,95 @@ fn settle(
             keys,
         );
     }
-    if d <= matched_within(d, row.limit, matched) {
+}
+
+// The same stretch is repeated as far as siblings match, `room` of them, within the row's extent.
+fn widen(row: Row, prices: &[u64], d: usize, room: usize, keys: &mut [u64])
+    requires { ⌜ RowFits row × KeysReady (now keys) × PricesReady (now prices) × (0 < d) × (room + d ≤ row .extent) ⌝ }
+    ensures low { λ _. ⌜ KeysReady (now (keys .exit)) ⌝ }
+    ensures widened { λ _. ⌜ Widened row (now (prices .entry)) (cost-digit (getD (now (keys .entry)) d 0)) d room (now (keys .entry)) (now (keys .exit)) ⌝ }
+{
+    if d <= matched_within(d, row.limit, room) {
         offer(
             prices,
-            cost_digit(key),
+            cost_digit(keys[d]),
             d,
-            matched,
+            room,
             count_past(d, row.span),
             keys,
         );
     }
 }
 
-// Solves a row, stretch by stretch. At no width do more than `span` siblings match, so no repeat covers more than twice as many, and
-// longer stretches have nothing to offer.
+// Solves a row, stretch by stretch, and answers the most siblings that the first item of a stretch covers.
 fn solve(
     costs: &[u32],
     choices: &[u32],
     numbers: &[usize],
     row: Row,
     prices: &[u64],
-    matches: &[usize],
+    matches: &[u16],
+    stops: &[usize],
+    seen: &[usize],
     keys: &mut [u64],
-)
+) -> usize
     requires { ⌜ RowHeld (now costs) (now choices) (now numbers) row ⌝ }
-    requires { ⌜ RowFits row × KeysReady (now keys) × PricesReady (now prices) × Shifted row (now matches) ⌝ }
-    requires { ⌜ ((w : ℕ) → 0 < w → row .at + w ≤ row .end → row .at + w + getD (now matches) w 0 ≤ row .end) ⌝ }
-    ensures { λ _. ⌜ Advanced (now (costs .entry)) (now (choices .entry)) (now (numbers .entry)) row (now (prices .entry)) (now (matches .entry)) (row .end - row .at) (now (keys .entry)) (now (keys .exit)) ⌝ }
+    requires { ⌜ RowFits row × KeysReady (now keys) × PricesReady (now prices) × (length (now matches) ≡ 1025) × (length (now stops) ≡ 1025) × Marked row (now keys) (now seen) ⌝ }
+    ensures { λ r. ⌜ ((tails : List ℕ) → Advanced (now (costs .entry)) (now (choices .entry)) (now (numbers .entry)) row (now (prices .entry)) (now (matches .entry)) tails (now (stops .entry)) (row .extent) (now (keys .entry)) (now (keys .exit)) r) ⌝ }
 {
-    let top = smaller(2 * row.span, row.end - row.at);
+    let mut longest = 1;
     let mut d = 1;
-    while d <= top {
-        settle(costs, choices, numbers, row, prices, d, matches[d], keys);
+    while d <= row.extent {
+        longest = larger(longest, covered(keys[d]));
+        follow(costs, choices, numbers, row, d, stops, seen, keys);
+        widen(
+            row,
+            prices,
+            d,
+            smaller(as_index(matches[d]), row.extent - d),
+            keys,
+        );
         d += 1;
     }
+    longest
 }
 
-// Solves a row and enters it in the table.
+// Solves a row and enters it in the table, with what it adds as a tail and where its first items end.
 pub fn enter_row(
     costs: &mut [u32],
     choices: &mut [u32],
     numbers: &[usize],
     row: Row,
     prices: &[u64],
-    matches: &[usize],
+    matches: &[u16],
+    tails: &mut [u64],
+    stops: &mut [usize],
+    seen: &mut [usize],
     keys: &mut [u64],
 )
     requires { ⌜ RowHeld (now costs) (now choices) (now numbers) row ⌝ }
-    requires { ⌜ KeysReady (now keys) × Shifted row (now matches) ⌝ }
-    requires { ⌜ RowReady (now costs) (now choices) (now numbers) row (now prices) (now matches) ⌝ }
-    ensures keys { λ _. ⌜ KeysReady (now (keys .exit)) ⌝ }
-    ensures entered { λ _. ⌜ RowEntered (now (costs .entry)) (now (choices .entry)) (now (numbers .entry)) row (now (prices .entry)) (now (matches .entry)) (now (costs .exit)) (now (choices .exit)) ⌝ }
+    requires { ⌜ KeysReady (now keys) × TailsReady (now tails) × (length (now matches) ≡ 1025) × (length (now stops) ≡ 1025) × (length (now seen) ≡ 1025) ⌝ }
+    requires { ⌜ RowReady (now costs) (now choices) (now numbers) row (now prices) (now matches) (now tails) (now stops) ⌝ }
+    ensures keys { λ _. ⌜ KeysReady (now (keys .exit)) × TailsReady (now (tails .exit)) × (length (now (seen .exit)) ≡ 1025) ⌝ }
+    ensures entered { λ _. ⌜ RowEntered (now (costs .entry)) (now (choices .entry)) (now (numbers .entry)) row (now (prices .entry)) (now (matches .entry)) (now (tails .entry)) (now (stops .entry)) (now (costs .exit)) (now (choices .exit)) (now (tails .exit)) (now (stops .exit)) ⌝ }
 {
     start_row(costs, choices, numbers, row, keys);
-    solve(costs, choices, numbers, row, prices, matches, keys);
-    store_row(costs, choices, numbers, row.at, row.end - row.at, keys);
+    mark(row, keys, seen);
+    let longest = solve(
+        costs,
+        choices,
+        numbers,
+        row,
+        prices,
+        matches,
+        stops,
+        seen,
+        keys,
+    );
+    let last = end_key(row, prices, matches, tails, keys);
+    let at = row.at;
+    stops[at] = at + longest;
+    tails[at] = rest_of(last);
+    store_row(costs, choices, numbers, at, row.extent, keys);
+    store_entry(costs, choices, numbers, at, row.end, last);
 }

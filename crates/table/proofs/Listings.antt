@@ -6,7 +6,7 @@ use native.Mathlib.Decide.{decLt, ℕ-discrete}
 use native.Mathlib.Omega.{arith}
 use lib.ListN.{length, getD, set, take, drop, length-append}
 use lib.Seq.{take-at, drop-at, getD-drop, getD-set-same, getD-set-other}
-use Rattle.format.specs.Forest.{at-most, Forest, end, step, group, repeat, Plain, siblings, nodes, bytes}
+use Rattle.format.specs.Forest.{at-most, Forest, end, step, group, repeat, Plain, siblings, bytes}
 use Rattle.format.specs.Tree.{tree-of}
 use Rattle.format.proofs.Forests.{bytes-join}
 use Rattle.format.proofs.Bridge.{bytes-injective}

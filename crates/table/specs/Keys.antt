@@ -32,10 +32,17 @@ width-digit k = k % usual .widths
 abbrev pub covered : ℕ → ℕ
 covered k = count-digit k * width-digit k
 
+-- What a stretch of this key adds to the key of an item that it follows: its cost alone.
+abbrev pub rest-digits : ℕ → ℕ
+rest-digits k = key (cost-digit k) 0
+
 -- Bounds that no sum of these numbers passes: costs have 32 bits, the price of a count is at most 65,535 times 16 bits, and a key is at
 -- most that of two costs together.
 abbrev pub cost-base : ℕ
 cost-base = 4294967296
+
+abbrev pub stored-key : ℕ
+stored-key = key cost-base 0
 
 abbrev pub top-price : ℕ
 top-price = 65535 * 65535

@@ -20,7 +20,11 @@ pub data Inside : (b : ℕ) (t : Forest) (c : ℕ) (g : Forest) → Type 0 where
   deeper : {b : ℕ} {t : Forest} {c : ℕ} {g : Forest} (i l : ℕ) (h f : Forest) → back i t ≡ group l h f
       → Inside (number b t (i + 1)) h c g → Inside b t c g
 
--- The used stretches of a whole tree are entered.
+-- The used stretches of one sequence are entered, and those of a whole tree.
+abbrev pub UsedEntered : Allowed → Prices → (b : ℕ) → Forest → (costs choices : List ℕ) → Type 0
+UsedEntered A P b t costs choices =
+    (i d : ℕ) → 0 < d → i + d ≤ siblings t → Used t i d
+    → Entry A P (stretch t i d) (getD costs (cell (number b t (i + d)) (number b t i)) 0) (getD choices (cell (number b t (i + d)) (number b t i)) 0)
+
 pub record UsedFilled (A : Allowed) (P : Prices) (b : ℕ) (t : Forest) (costs choices : List ℕ) : Type 0 where
-  pub entry : (c : ℕ) (g : Forest) → Inside b t c g → (i d : ℕ) → 0 < d → i + d ≤ siblings g → Used g i d
-      → Entry A P (stretch g i d) (getD costs (cell (number c g (i + d)) (number c g i)) 0) (getD choices (cell (number c g (i + d)) (number c g i)) 0)
+  pub entry : (c : ℕ) (g : Forest) → Inside b t c g → UsedEntered A P c g costs choices

@@ -3,7 +3,7 @@ use crate::triangle::read_entry;
 ghost use mathlib.Core.Path.{_≡_};
 ghost use Prim.Native.Nat.{_+_, _*_, _<_, _≤_};
 ghost use lib.ListN.{length};
-ghost use Rattle.table.specs.Keys.{packed, key, cost-digit, choice-digits, count-digit, width-digit, covered, cost-base, top-price};
+ghost use Rattle.table.specs.Keys.{packed, key, cost-digit, choice-digits, count-digit, width-digit, covered, rest-digits, cost-base, top-price};
 ghost use Rattle.table.specs.Table.{Held, key-from, rest-from};
 
 // The bases of the digits, from the last one on. A choice is count and width together.
@@ -74,6 +74,13 @@ pub fn key_at(costs: &[u32], choices: &[u32], numbers: &[usize], q: usize, j: us
         read_entry(costs, numbers, q, j),
         read_entry(choices, numbers, q, j),
     )
+}
+
+// What a stretch of this key adds to the key of an item that it follows: its cost.
+pub fn rest_of(key: u64) -> u64
+    ensures { λ r. ⌜ (r ≡ rest-digits key) × (r ≤ key) ⌝ }
+{
+    key - choice_digits(key)
 }
 
 // What that stretch adds to the key of an item that it follows: its cost. What a rest adds is said here alone, and by both slices.

@@ -14,6 +14,7 @@ pub use keys::covered;
 pub use keys::key_at;
 pub use keys::key_of;
 pub use keys::rest_key;
+pub use keys::rest_of;
 pub use keys::width_digit;
 pub use listing::classify;
 pub use nodes::Span;
@@ -23,9 +24,10 @@ pub use nodes::part_of;
 pub use triangle::clear;
 pub use triangle::entries;
 pub use triangle::entry;
-pub use triangle::look;
+pub use triangle::store_entry;
 pub use triangle::store_row;
 pub use triangle::widen;
+ghost use mathlib.Core.Path.{_≡_};
 ghost use Prim.Native.Nat.{ℕ, _≤_};
 
 // The lists that a sequence is worked in: a place for each of its siblings and one behind the last.
@@ -33,6 +35,23 @@ pub struct Lists {}
 
 impl Lists {
     pub const LENGTH: usize = Format::NODES + 1;
+}
+
+// A small number of a list, as an index.
+pub fn as_index(x: u16) -> usize
+    ensures { λ r. ⌜ r ≡ x ⌝ }
+{
+    x as usize
+}
+
+// The larger of two numbers.
+pub fn larger(a: usize, b: usize) -> usize
+    ensures { λ r. ⌜ (a ≤ r) × (b ≤ r) × ((c : ℕ) → a ≤ c → b ≤ c → r ≤ c) ⌝ }
+{
+    if a < b {
+        return b;
+    }
+    a
 }
 
 // The smaller of two numbers.

@@ -1,4 +1,5 @@
 // The siblings of a listed sequence: the part of each, and the first one that equals it.
+use crate::as_index;
 use check::same;
 ghost use mathlib.Core.Path.{_≡_};
 ghost use mathlib.Core.Bool.{true};
@@ -29,7 +30,7 @@ fn equal(a: &[u8], b: &[u8]) -> bool
 }
 
 // The first sibling that equals sibling i: the parts of two siblings are compared.
-fn first_equal(s: &[u8], offsets: &[usize], kinds: &[usize], i: usize) -> usize
+fn first_equal(s: &[u8], offsets: &[usize], kinds: &[u16], i: usize) -> usize
     requires { ⌜ Spelled (now s) ⌝ }
     requires { ⌜ (length (now offsets) ≡ 1025) × Placed (now s) (now offsets) ⌝ }
     requires { ⌜ (i < siblings (tree-of (now s))) × (siblings (tree-of (now s)) ≤ 1024) ⌝ }
@@ -38,7 +39,7 @@ fn first_equal(s: &[u8], offsets: &[usize], kinds: &[usize], i: usize) -> usize
 {
     let mut j = 0;
     while j < i {
-        if kinds[j] == j {
+        if as_index(kinds[j]) == j {
             if equal(sibling(s, offsets, j), sibling(s, offsets, i)) {
                 return j;
             }
@@ -49,7 +50,7 @@ fn first_equal(s: &[u8], offsets: &[usize], kinds: &[usize], i: usize) -> usize
 }
 
 // Gives each of the m siblings the first one that equals it, so that two siblings are equal where these are.
-pub fn classify(s: &[u8], offsets: &[usize], m: usize, kinds: &mut [usize])
+pub fn classify(s: &[u8], offsets: &[usize], m: usize, kinds: &mut [u16])
     requires { ⌜ Spelled (now s) ⌝ }
     requires { ⌜ (length (now offsets) ≡ 1025) × Placed (now s) (now offsets) ⌝ }
     requires { ⌜ (siblings (tree-of (now s)) ≡ m) × (m ≤ 1024) × (length (now kinds) ≡ 1025) ⌝ }
@@ -57,7 +58,7 @@ pub fn classify(s: &[u8], offsets: &[usize], m: usize, kinds: &mut [usize])
 {
     let mut i = 0;
     while i < m {
-        kinds[i] = first_equal(s, offsets, kinds, i);
+        kinds[i] = first_equal(s, offsets, kinds, i) as u16;
         i += 1;
     }
 }

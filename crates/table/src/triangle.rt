@@ -4,10 +4,10 @@ use crate::keys::cost_digit;
 ghost use mathlib.Core.Path.{_≡_};
 ghost use mathlib.Core.List.{_++_};
 ghost use Prim.Native.Nat.{ℕ, _+_, _/_, _<_, _≤_};
-ghost use lib.ListN.{length, getD, drop, replicate};
-ghost use Rattle.table.specs.Keys.{key, cost-digit, choice-digits, cost-base};
+ghost use lib.ListN.{length, getD, set, drop, replicate};
+ghost use Rattle.table.specs.Keys.{key, cost-digit, choice-digits, cost-base, stored-key};
 ghost use Rattle.format.specs.Limits.{cells};
-ghost use Rattle.table.specs.Table.{cell, entry-from, entry-at, Held, Falling, Stored};
+ghost use Rattle.table.specs.Table.{cell, entry-from, Held, Falling, Stored};
 
 pub fn widen(x: u32) -> u64
     ensures { λ r. ⌜ (r ≡ x) × (r < cost-base) ⌝ }
@@ -39,15 +39,6 @@ pub fn read_entry(w: &[u32], numbers: &[usize], q: usize, j: usize) -> u64
     widen(w[entry(numbers[j], q)])
 }
 
-// The cost or choice of the stretch of siblings from i up to j.
-pub fn look(w: &[u32], numbers: &[usize], i: usize, j: usize) -> u64
-    requires { ⌜ Falling (now numbers) j (length (now w)) ⌝ }
-    requires { ⌜ i < j ⌝ }
-    ensures { λ r. ⌜ (r ≡ entry-at (now (w .entry)) (now (numbers .entry)) i j) × (r < cost-base) ⌝ }
-{
-    read_entry(w, numbers, numbers[i], j)
-}
-
 // Enters a row, costs and choices by the keys: the stretches of 1 to n siblings from sibling i on.
 pub fn store_row(
     costs: &mut [u32],
@@ -72,6 +63,25 @@ pub fn store_row(
         choices[at] = choice_digits(key) as u32;
         d += 1;
     }
+}
+
+// Enters the stretch of siblings from i up to j by its key.
+pub fn store_entry(
+    costs: &mut [u32],
+    choices: &mut [u32],
+    numbers: &[usize],
+    i: usize,
+    j: usize,
+    key: u64,
+)
+    requires { ⌜ Falling (now numbers) j (length (now costs)) × Falling (now numbers) j (length (now choices)) ⌝ }
+    requires { ⌜ (i < j) × (key < stored-key) ⌝ }
+    ensures costs { λ _. ⌜ now (costs .exit) ≡ set (now (costs .entry)) (cell (getD (now (numbers .entry)) j 0) (getD (now (numbers .entry)) i 0)) (cost-digit key) ⌝ }
+    ensures choices { λ _. ⌜ now (choices .exit) ≡ set (now (choices .entry)) (cell (getD (now (numbers .entry)) j 0) (getD (now (numbers .entry)) i 0)) (choice-digits key) ⌝ }
+{
+    let at = entry(numbers[j], numbers[i]);
+    costs[at] = cost_digit(key) as u32;
+    choices[at] = choice_digits(key) as u32;
 }
 
 // Clears the first n entries.

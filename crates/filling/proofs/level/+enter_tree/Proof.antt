@@ -19,14 +19,14 @@ use Rattle.filling.proofs.Recursion.{Through, Opening, through-none, th
 use Rattle.filling.proofs.level.+enter_tree.{statement}
 use Rattle.filling.proofs.level.+enter_tree.Tie.{close}
 
-abbrev μ-tree : Measures 12 kinds.ps ℕ
+abbrev μ-tree : Measures 16 kinds.ps ℕ
 μ-tree κs a = length (a .1 .1 .0 .now)
 
-abbrev asked : ℕ → In 12 kinds.ps
-asked t = and 12 kinds.ps (is 12 kinds.ps μ-tree t) reads.Pre
+abbrev asked : ℕ → In 16 kinds.ps
+asked t = and 16 kinds.ps (is 16 kinds.ps μ-tree t) reads.Pre
 
-abbrev asked-below : ℕ → In 12 kinds.ps
-asked-below t = and 12 kinds.ps (falls 12 kinds.ps _<_ μ-tree t) reads.Pre
+abbrev asked-below : ℕ → In 16 kinds.ps
+asked-below t = and 16 kinds.ps (falls 16 kinds.ps _<_ μ-tree t) reads.Pre
 
 abbrev calls : ℕ → lts.Claims
 calls t = (
@@ -41,17 +41,17 @@ calls t = (
 )
 
 abbrev Inv-loop : lts.InvT-loop
-Inv-loop places nexts s level table prices offsets₀ numbers₀ kinds₀ matches₀ keys₀ costs₀ choices₀ span q₀ offsets numbers kinds matches keys costs choices q =
+Inv-loop places nexts s level table prices offsets₀ numbers₀ kinds₀ matches₀ extents₀ tails₀ stops₀ seen₀ keys₀ costs₀ choices₀ span q₀ offsets numbers kinds matches extents tails stops seen keys costs choices q =
     Through (at-most (level .limit)) (prices-of table prices) s (level .span .behind) costs₀ choices₀ costs choices q
-    × Scratch offsets numbers kinds matches keys
+    × Scratch offsets numbers kinds matches extents tails stops seen keys
 
 abbrev μ-loop : lts.MeasureT-loop
-μ-loop places nexts s level table prices offsets₀ numbers₀ kinds₀ matches₀ keys₀ costs₀ choices₀ span q₀ offsets numbers kinds matches keys costs choices q = q
+μ-loop places nexts s level table prices offsets₀ numbers₀ kinds₀ matches₀ extents₀ tails₀ stops₀ seen₀ keys₀ costs₀ choices₀ span q₀ offsets numbers kinds matches extents tails stops seen keys costs choices q = q
 
 module _ (t : ℕ) where
   -- The function's start, from where the loop begins, and from its head.
   abbrev begun : lts.After-span (calls t) (asked t) reads.Post Inv-loop μ-loop → lts.Start (calls t) (asked t) reads.Post Inv-loop μ-loop
-  begun c = c .before .before .before .before .before .before .before .before .before .before .before .before .before
+  begun c = c .before .before .before .before .before .before .before .before .before .before .before .before .before .before .before .before .before
 
   abbrev start : lts.At-loop (calls t) (asked t) reads.Post Inv-loop μ-loop → lts.Start (calls t) (asked t) reads.Post Inv-loop μ-loop
   start c = begun (c .before)
@@ -67,17 +67,17 @@ module _ (t : ℕ) where
   part c = c .before .before
 
   -- The call, from where it is over, and the level that it was made at; the end of the loop, from where the level is entered.
-  abbrev call : lts.After-slice-known14 (calls t) (asked t) reads.Post Inv-loop μ-loop → lts.After-enter-tree (calls t) (asked t) reads.Post Inv-loop μ-loop
-  call c = c .before .before .before .before .before .before .before .before .before .before .before .before .before .before
+  abbrev call : lts.After-slice-known22 (calls t) (asked t) reads.Post Inv-loop μ-loop → lts.After-enter-tree (calls t) (asked t) reads.Post Inv-loop μ-loop
+  call c = c .before .before .before .before .before .before .before .before .before .before .before .before .before .before .before .before .before .before .before .before .before .before
 
   abbrev called : lts.After-enter-tree (calls t) (asked t) reads.Post Inv-loop μ-loop → lts.After-inside (calls t) (asked t) reads.Post Inv-loop μ-loop
-  called c = c .before .before .before .before .before .before .before .before
+  called c = c .before .before .before .before .before .before .before .before .before .before .before .before
 
   abbrev group : lts.After-inside (calls t) (asked t) reads.Post Inv-loop μ-loop → lts.Then2 (calls t) (asked t) reads.Post Inv-loop μ-loop
   group c = c .before .before
 
   abbrev through : lts.After-enter-level (calls t) (asked t) reads.Post Inv-loop μ-loop → lts.Else1 (calls t) (asked t) reads.Post Inv-loop μ-loop
-  through c = c .before .before .before .before .before .before .before .before
+  through c = c .before .before .before .before .before .before .before .before .before .before .before .before
 
   loop-holds : lts.Need-loop-holds (calls t) (asked t) reads.Post Inv-loop μ-loop
   loop-holds c =
@@ -154,7 +154,7 @@ module _ (t : ℕ) where
 
   enter-tree-requires : lts.Need-enter-tree-requires (calls t) (asked t) reads.Post Inv-loop μ-loop
   enter-tree-requires c κs =
-      let C = c .before .before .before .before .before .before .before in
+      let C = c .before .before .before .before .before .before .before .before .before .before .before in
       let H = head (taken (part (group C))) in
       let o = opens C in
       (omega (arith, o .shorter, start H .pre .0), (o .ready, (H .loop .inv .1, o .listed)))
@@ -196,7 +196,7 @@ module _ (t : ℕ) where
 
   enter-level-requires : lts.Need-enter-level-requires (calls t) (asked t) reads.Post Inv-loop μ-loop
   enter-level-requires c κs =
-      let R = c .before .before .before .before .before .before .before in
+      let R = c .before .before .before .before .before .before .before .before .before .before .before in
       let H = R .before .before in
       let w = H .loop .inv in
       let l = start H .pre .1 .0 in
@@ -204,8 +204,8 @@ module _ (t : ℕ) where
       (through-ready l z (w .0), (through-all l z (w .0) (R .if1 .left), (w .1, z)))
 
   -- The level entered, from where the function returns.
-  abbrev entered : lts.After-slice-known21 (calls t) (asked t) reads.Post Inv-loop μ-loop → lts.After-enter-level (calls t) (asked t) reads.Post Inv-loop μ-loop
-  entered c = c .before .before .before .before .before .before .before .before .before .before .before .before .before .before
+  abbrev entered : lts.After-slice-known33 (calls t) (asked t) reads.Post Inv-loop μ-loop → lts.After-enter-level (calls t) (asked t) reads.Post Inv-loop μ-loop
+  entered c = c .before .before .before .before .before .before .before .before .before .before .before .before .before .before .before .before .before .before .before .before .before .before
 
   returns : lts.Need-returns (calls t) (asked t) reads.Post Inv-loop μ-loop
   returns c =
@@ -214,7 +214,7 @@ module _ (t : ℕ) where
       (e .0, (e .1 .0, (kept-then _ _ _ _ _ (w .kept-costs) (e .1 .1 .0), kept-then _ _ _ _ _ (w .kept-choices) (e .1 .1 .1))))
 
   -- The lent arrays at the start.
-  abbrev lent : lts.After-slice-known21 (calls t) (asked t) reads.Post Inv-loop μ-loop → lts.Start (calls t) (asked t) reads.Post Inv-loop μ-loop
+  abbrev lent : lts.After-slice-known33 (calls t) (asked t) reads.Post Inv-loop μ-loop → lts.Start (calls t) (asked t) reads.Post Inv-loop μ-loop
   lent c = start (through (entered c) .before .before)
 
   same-length : lts.Need-same-length (calls t) (asked t) reads.Post Inv-loop μ-loop
@@ -230,13 +230,25 @@ module _ (t : ℕ) where
   same-length-4 c = returns c .0 .long-matches ∙ sym (lent c .pre .1 .1 .0 .long-matches)
 
   same-length-5 : lts.Need-same-length-5 (calls t) (asked t) reads.Post Inv-loop μ-loop
-  same-length-5 c = returns c .0 .keys-ready .long ∙ sym (lent c .pre .1 .1 .0 .keys-ready .long)
+  same-length-5 c = returns c .0 .long-extents ∙ sym (lent c .pre .1 .1 .0 .long-extents)
 
   same-length-6 : lts.Need-same-length-6 (calls t) (asked t) reads.Post Inv-loop μ-loop
-  same-length-6 c = returns c .1 .1 .0 .same-length
+  same-length-6 c = returns c .0 .tails-ready .long ∙ sym (lent c .pre .1 .1 .0 .tails-ready .long)
 
   same-length-7 : lts.Need-same-length-7 (calls t) (asked t) reads.Post Inv-loop μ-loop
-  same-length-7 c = returns c .1 .1 .1 .same-length
+  same-length-7 c = returns c .0 .long-stops ∙ sym (lent c .pre .1 .1 .0 .long-stops)
+
+  same-length-8 : lts.Need-same-length-8 (calls t) (asked t) reads.Post Inv-loop μ-loop
+  same-length-8 c = returns c .0 .long-seen ∙ sym (lent c .pre .1 .1 .0 .long-seen)
+
+  same-length-9 : lts.Need-same-length-9 (calls t) (asked t) reads.Post Inv-loop μ-loop
+  same-length-9 c = returns c .0 .keys-ready .long ∙ sym (lent c .pre .1 .1 .0 .keys-ready .long)
+
+  same-length-10 : lts.Need-same-length-10 (calls t) (asked t) reads.Post Inv-loop μ-loop
+  same-length-10 c = returns c .1 .1 .0 .same-length
+
+  same-length-11 : lts.Need-same-length-11 (calls t) (asked t) reads.Post Inv-loop μ-loop
+  same-length-11 c = returns c .1 .1 .1 .same-length
 
 pub +enter-tree-spec : {M : Type 1} → statement M
 +enter-tree-spec = close μ-tree λ t. lts.spec (calls t)
@@ -267,4 +279,8 @@ pub +enter-tree-spec : {M : Type 1} → statement M
     (same-length-5 t)
     (same-length-6 t)
     (same-length-7 t)
+    (same-length-8 t)
+    (same-length-9 t)
+    (same-length-10 t)
+    (same-length-11 t)
     (returns t)

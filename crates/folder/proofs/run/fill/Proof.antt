@@ -1,4 +1,4 @@
--- `folder::run::fill` meets its contract: lists of zeros are ready to work in, and a table with all stretches has the used ones.
+-- `folder::run::fill` meets its contract: lists of zeros are ready to work in.
 use borrow.Author.Needs.{needs}
 use Rattle.format.specs.Forest.{at-most}
 use Rattle.filling.proofs.Entries.{used-filled}
@@ -8,7 +8,7 @@ use Rattle.folder.proofs.run.fill.Tie as tie
 
 -- The function's start, from where the lists are made.
 abbrev start : tie.After-keys → tie.Start
-start c = c .before .before .before .before .before .before .before .before .before .before .before .before
+start c = c .before .before .before .before .before .before .before .before .before .before .before .before .before .before .before .before
 
 slice-aggregate-enter-tree : tie.Need-slice-aggregate-enter-tree
 slice-aggregate-enter-tree c = search needs
@@ -25,12 +25,24 @@ slice-aggregate-enter-tree-4 c = search needs
 slice-aggregate-enter-tree-5 : tie.Need-slice-aggregate-enter-tree-5
 slice-aggregate-enter-tree-5 c = search needs
 
+slice-aggregate-enter-tree-6 : tie.Need-slice-aggregate-enter-tree-6
+slice-aggregate-enter-tree-6 c = search needs
+
+slice-aggregate-enter-tree-7 : tie.Need-slice-aggregate-enter-tree-7
+slice-aggregate-enter-tree-7 c = search needs
+
+slice-aggregate-enter-tree-8 : tie.Need-slice-aggregate-enter-tree-8
+slice-aggregate-enter-tree-8 c = search needs
+
+slice-aggregate-enter-tree-9 : tie.Need-slice-aggregate-enter-tree-9
+slice-aggregate-enter-tree-9 c = search needs
+
 enter-tree-requires : tie.Need-enter-tree-requires
 enter-tree-requires c κs = let p = start (c .before .before) .pre in (p .0, (scratch-none, p .1))
 
 -- What the call gave, from the function's end.
 abbrev call : tie.After-slice-known4 → tie.After-enter-tree
-call c = c .before .before .before .before .before .before .before .before .before
+call c = c .before .before .before .before .before .before .before .before .before .before .before .before .before
 
 same-length : tie.Need-same-length
 same-length c = call c .enter-tree .ensures .1 .1 .0 .same-length
@@ -55,6 +67,10 @@ fill-spec =
     slice-aggregate-enter-tree-3
     slice-aggregate-enter-tree-4
     slice-aggregate-enter-tree-5
+    slice-aggregate-enter-tree-6
+    slice-aggregate-enter-tree-7
+    slice-aggregate-enter-tree-8
+    slice-aggregate-enter-tree-9
     enter-tree-requires
     same-length
     same-length-2

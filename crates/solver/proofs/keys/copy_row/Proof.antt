@@ -17,27 +17,27 @@ abbrev start : tie.At-loop Inv-loop μ-loop → tie.Start Inv-loop μ-loop
 start c = c .before .before .before .before .before .before .before
 
 add-j : tie.Need-add-j Inv-loop μ-loop
-add-j c = let f = c .before .before .before .before .before .pre .1 .0 in omega (arith, f .few, f .reach)
+add-j c = let f = c .before .before .before .before .before .pre .1 .0 in omega (arith, f .few, f .taken)
 
 mul-q : tie.Need-mul-q Inv-loop μ-loop
-mul-q c = let f = c .before .before .before .before .before .pre .1 .0 in omega (arith, f .few, f .reach)
+mul-q c = let f = c .before .before .before .before .before .pre .1 .0 in omega (arith, f .few, f .taken)
 
 shared-slice-read-q : tie.Need-shared-slice-read-q Inv-loop μ-loop
 shared-slice-read-q c =
     let p = c .before .before .before .before .before .before .pre in
-    omega (arith, p .0 .0 .short, p .1 .0 .reach)
+    omega (arith, p .0 .0 .short, p .1 .0 .taken)
 
 loop-holds : tie.Need-loop-holds Inv-loop μ-loop
 loop-holds c = (omega arith, put-none _ _ _)
 
 add-key-at : tie.Need-add-key-at Inv-loop μ-loop
-add-key-at c = let f = start (c .before) .pre .1 .0 in omega (arith, f .few, f .reach)
+add-key-at c = let f = start (c .before) .pre .1 .0 in omega (arith, f .few, f .taken)
 
 key-at-requires : tie.Need-key-at-requires Inv-loop μ-loop
 key-at-requires c κs =
     let p = start (c .before) .pre in
     let late = c .before .loop .inv .1 .late in
-    let reach = p .1 .0 .reach in
+    let taken = p .1 .0 .taken in
     (falling-read _ _ (omega arith) (omega arith) (p .0 .0), falling-read _ _ (omega arith) (omega arith) (p .0 .1))
 
 mul-keys : tie.Need-mul-keys Inv-loop μ-loop
@@ -46,7 +46,7 @@ mul-keys c = omega arith
 slice-write-keys : tie.Need-slice-write-keys Inv-loop μ-loop
 slice-write-keys c =
     let p = start (c .before .before) .pre .1 in
-    omega (arith, c .before .before .loop .inv .1 .same-length, p .1 .long, p .0 .few, p .0 .reach)
+    omega (arith, c .before .before .loop .inv .1 .same-length, p .1 .long, p .0 .few, p .0 .taken)
 
 add-d : tie.Need-add-d Inv-loop μ-loop
 add-d c = omega (arith, c .before .before .loop .inv .0)
@@ -60,7 +60,7 @@ loop-again c =
     let k = c .key-at .ensures in
     let p = start (c .before .before) .pre .1 in
     let f = p .0 in
-    (omega (arith, f .few, f .reach), put-more _ _ _ _ _ (L .inv .1) _ (omega (arith, p .1 .long, f .few, f .reach)) (omega (arith, k .1), k .0))
+    (omega (arith, f .few, f .taken), put-more _ _ _ _ _ (L .inv .1) _ (omega (arith, p .1 .long, f .few, f .taken)) (omega (arith, k .1), k .0))
 
 same-length : tie.Need-same-length Inv-loop μ-loop
 same-length c = c .before .loop .inv .1 .same-length

@@ -14,25 +14,22 @@ abbrev μ-loop : tie.MeasureT-loop
 
 -- The function's start, from the loop's head.
 abbrev start : tie.At-loop Inv-loop μ-loop → tie.Start Inv-loop μ-loop
-start c = c .before .before .before .before .before .before .before .before .before
-
-sub-n : tie.Need-sub-n Inv-loop μ-loop
-sub-n c = omega (arith, c .before .before .before .before .before .pre .1 .0 .some)
+start c = c .before .before .before .before .before .before .before .before
 
 add-q : tie.Need-add-q Inv-loop μ-loop
-add-q c = let f = c .before .before .before .before .before .before .pre .1 .0 in omega (arith, f .few, f .some)
+add-q c = let f = c .before .before .before .before .before .pre .1 .0 in omega (arith, f .few, f .some)
 
 mul-q : tie.Need-mul-q Inv-loop μ-loop
-mul-q c = let f = c .before .before .before .before .before .before .pre .1 .0 in omega (arith, f .few, f .some)
+mul-q c = let f = c .before .before .before .before .before .pre .1 .0 in omega (arith, f .few, f .some)
 
 shared-slice-read-q : tie.Need-shared-slice-read-q Inv-loop μ-loop
 shared-slice-read-q c =
-    let p = c .before .before .before .before .before .before .before .pre in
+    let p = c .before .before .before .before .before .before .pre in
     omega (arith, p .0 .0 .short, p .1 .0 .some)
 
 key-of-requires : tie.Need-key-of-requires Inv-loop μ-loop
 key-of-requires c κs =
-    (omega (arith, c .before .before .before .before .before .before .before .pre .1 .0 .low), omega arith)
+    (omega (arith, c .before .before .before .before .before .before .pre .1 .0 .low), omega arith)
 
 loop-holds : tie.Need-loop-holds Inv-loop μ-loop
 loop-holds c = (omega arith, put-none _ _ _)
@@ -93,7 +90,6 @@ plain-row-spec =
     (tie.spec
     Inv-loop
     μ-loop
-    sub-n
     add-q
     mul-q
     shared-slice-read-q

@@ -18,19 +18,16 @@ abbrev μ-loop : tie.MeasureT-loop
 
 -- The function's start, from the loop's head.
 abbrev start : tie.At-loop Inv-loop μ-loop → tie.Start Inv-loop μ-loop
-start c = c .before .before .before .before .before .before .before .before
-
-sub-n : tie.Need-sub-n Inv-loop μ-loop
-sub-n c = omega (arith, c .before .before .before .before .before .pre .1 .0 .some)
+start c = c .before .before .before .before .before .before .before
 
 add-q : tie.Need-add-q Inv-loop μ-loop
-add-q c = omega (arith, c .before .before .before .before .before .before .pre .1 .0 .few)
+add-q c = omega (arith, c .before .before .before .before .before .pre .1 .0 .few)
 
 mul-q : tie.Need-mul-q Inv-loop μ-loop
-mul-q c = omega (arith, c .before .before .before .before .before .before .pre .1 .0 .few)
+mul-q c = omega (arith, c .before .before .before .before .before .pre .1 .0 .few)
 
 shared-slice-read-q : tie.Need-shared-slice-read-q Inv-loop μ-loop
-shared-slice-read-q c = omega (arith, c .before .before .before .before .before .before .before .pre .0 .0 .short)
+shared-slice-read-q c = omega (arith, c .before .before .before .before .before .before .pre .0 .0 .short)
 
 -- The keys have a place for each stretch.
 in-list : (c : tie.In-loop Inv-loop μ-loop) → c .before .loop .d < length (c .before .loop .keys)
@@ -102,7 +99,6 @@ push-spec =
     (tie.spec
     Inv-loop
     μ-loop
-    sub-n
     add-q
     mul-q
     shared-slice-read-q

@@ -24,7 +24,7 @@ slice-write-keys : tie.Need-slice-write-keys
 slice-write-keys c = omega (arith, copied c .copy-row .ensures .long, start c .pre .1 .1 .long)
 
 past-requires : tie.Need-past-requires
-past-requires c κs = let f = start c .pre .1 .0 in (omega arith, omega (arith, f .few, f .reach))
+past-requires c κs = let f = start c .pre .1 .0 in (omega arith, omega (arith, f .few, f .taken))
 
 plain-row-requires : tie.Need-plain-row-requires
 plain-row-requires c κs =

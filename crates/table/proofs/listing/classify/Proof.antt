@@ -24,6 +24,9 @@ first-equal-requires c κs =
     let L = c .before .before .loop in
     (S .pre .0, (S .pre .1 .0, ((omega arith, omega arith), (L .inv .1, L .inv .2))))
 
+cast-kinds : tie.Need-cast-kinds Inv-loop μ-loop
+cast-kinds c = omega (arith, c .first-equal .ensures .early)
+
 mul-kinds : tie.Need-mul-kinds Inv-loop μ-loop
 mul-kinds c = omega arith
 
@@ -58,6 +61,7 @@ classify-spec =
     μ-loop
     loop-holds
     first-equal-requires
+    cast-kinds
     mul-kinds
     slice-write-kinds
     add-i

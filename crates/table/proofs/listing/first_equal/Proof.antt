@@ -21,20 +21,23 @@ abbrev μ-loop : tie.MeasureT-loop
 loop-holds : tie.Need-loop-holds Inv-loop μ-loop
 loop-holds c = (omega arith, λ k h. absurd (omega arith))
 
-mul-if1 : tie.Need-mul-if1 Inv-loop μ-loop
-mul-if1 c = omega arith
+mul-as-index : tie.Need-mul-as-index Inv-loop μ-loop
+mul-as-index c = omega arith
 
-shared-slice-read-if1 : tie.Need-shared-slice-read-if1 Inv-loop μ-loop
-shared-slice-read-if1 c = omega arith
+shared-slice-read-as-index : tie.Need-shared-slice-read-as-index Inv-loop μ-loop
+shared-slice-read-as-index c = omega arith
+
+as-index-requires : tie.Need-as-index-requires Inv-loop μ-loop
+as-index-requires c κs = tt
 
 sibling-requires : tie.Need-sibling-requires Inv-loop μ-loop
 sibling-requires c κs =
-    let S = c .before .before .before .before .before .before .before in
+    let S = c .before .before .before .before .before .before .before .before in
     (S .pre .0, (S .pre .1 .0, (omega arith, omega arith)))
 
 sibling-requires-2 : tie.Need-sibling-requires-2 Inv-loop μ-loop
 sibling-requires-2 c κs =
-    let S = c .before .before .before .before .before .before .before .before in
+    let S = c .before .before .before .before .before .before .before .before .before in
     (S .pre .0, (S .pre .1 .0, S .pre .1 .1 .0))
 
 equal-requires : tie.Need-equal-requires Inv-loop μ-loop
@@ -42,8 +45,8 @@ equal-requires c κs = search needs
 
 returns : tie.Need-returns Inv-loop μ-loop
 returns c =
-    let L = c .before .before .before .before .before .before .before .loop in
-    first-found _ _ _ _ _ (c .before .before .before .before .before .before .loop-test .taken)
+    let L = c .before .before .before .before .before .before .before .before .loop in
+    first-found _ _ _ _ _ (c .before .before .before .before .before .before .before .loop-test .taken)
     (c .before .before .before .sibling .ensures) (c .before .before .sibling2 .ensures) (c .before .equal .ensures .0 (c .if2 .taken)) (L .inv .1)
 
 add-j : tie.Need-add-j Inv-loop μ-loop
@@ -54,13 +57,13 @@ loop-less c = omega arith
 
 loop-again : tie.Need-loop-again Inv-loop μ-loop
 loop-again c =
-    let S = c .before .before .before .before .before .before .before in
-    let L = c .before .before .before .loop in (
+    let S = c .before .before .before .before .before .before .before .before in
+    let L = c .before .before .before .before .loop in (
       omega arith,
       below-more _ _ (L .inv .1)
           (⊎-elim
           (λ w e. false≢true (sym (w .4 .left) ∙ w .3 .ensures .1 (w .1 .ensures ∙ ap bytes e ∙ sym (w .2 .ensures))))
-          (λ w. none-again _ _ _ _ (S .pre .1 .1 .1 .1 .class (L .j) (c .before .before .loop-test .taken)) (w .left) (L .inv .1))
+          (λ w. none-again _ _ _ _ (S .pre .1 .1 .1 .1 .class (L .j) (c .before .before .before .loop-test .taken)) (λ e. w .left (c .before .as-index .ensures ∙ e)) (L .inv .1))
           (c .if1 .came)),
     )
 
@@ -76,8 +79,9 @@ first-equal-spec =
     Inv-loop
     μ-loop
     loop-holds
-    mul-if1
-    shared-slice-read-if1
+    mul-as-index
+    shared-slice-read-as-index
+    as-index-requires
     sibling-requires
     sibling-requires-2
     equal-requires

@@ -1,19 +1,16 @@
--- `solver::row::grow` meets its contract. The loop's invariant: the matches below width w are grown, and the width at which the most match is known.
-use mathlib.Core.Path.{refl}
-use mathlib.Core.Logic.{⊎-elim}
-use Prim.Native.Nat.{_+_, _-_, _≤_}
+-- `solver::matches::grow` meets its contract. The loop's invariant: the matches below width w are grown.
+use Prim.Native.Nat.{_-_, _≤_}
 use native.Mathlib.Omega.{arith}
 use lib.ListN.{length-set}
-use Rattle.solver.proofs.Growths.{GrownBelow, grown-none, grown-more, grown-all, Farthest, farthest-none, farthest-raised, farthest-kept, farthest-most}
-use Rattle.solver.proofs.row.grow.Statement.{statement}
-use Rattle.solver.proofs.row.grow.Tie as tie
+use Rattle.solver.proofs.Growths.{GrownBelow, grown-none, grown-more, grown-all}
+use Rattle.solver.proofs.matches.grow.Statement.{statement}
+use Rattle.solver.proofs.matches.grow.Tie as tie
 
 abbrev Inv-loop : tie.InvT-loop
-Inv-loop kinds i m matches₀ kind most₀ far₀ w₀ matches most far w =
-    (1 ≤ w) × (i + w ≤ m) × Farthest w matches most far × GrownBelow kinds i w matches₀ matches
+Inv-loop kinds i m matches₀ kind n w₀ matches w = (1 ≤ w) × (w ≤ n) × GrownBelow kinds i w matches₀ matches
 
 abbrev μ-loop : tie.MeasureT-loop
-μ-loop kinds i m matches₀ kind most₀ far₀ w₀ matches most far w = m - w
+μ-loop kinds i m matches₀ kind n w₀ matches w = n - w
 
 -- The function's start, from the loop's head.
 abbrev start : tie.At-loop Inv-loop μ-loop → tie.Start Inv-loop μ-loop
@@ -25,11 +22,11 @@ mul-kind c = omega arith
 shared-slice-read-kind : tie.Need-shared-slice-read-kind Inv-loop μ-loop
 shared-slice-read-kind c = omega arith
 
-loop-holds : tie.Need-loop-holds Inv-loop μ-loop
-loop-holds c = (omega arith, omega arith, farthest-none _, grown-none _ _ _ (c .before .before .before .pre .0 .1))
+sub-n : tie.Need-sub-n Inv-loop μ-loop
+sub-n c = omega arith
 
-add-loop : tie.Need-add-loop Inv-loop μ-loop
-add-loop c = omega arith
+loop-holds : tie.Need-loop-holds Inv-loop μ-loop
+loop-holds c = (omega arith, omega arith, grown-none _ _ _ (c .before .before .before .pre .0 .1))
 
 add-longer : tie.Need-add-longer Inv-loop μ-loop
 add-longer c = omega arith
@@ -50,7 +47,7 @@ longer-requires : tie.Need-longer-requires Inv-loop μ-loop
 longer-requires c κs =
     let H = c .before .before .before in
     let w = H .loop .w in
-    omega (arith, H .loop .inv .3 .later w (omega arith), start H .pre .1 w (omega arith) (omega arith))
+    omega (arith, H .loop .inv .2 .later w (omega arith), start H .pre .1 w (omega arith) (omega arith))
 
 mul-matches : tie.Need-mul-matches Inv-loop μ-loop
 mul-matches c = omega arith
@@ -66,17 +63,10 @@ loop-less c = omega arith
 
 loop-again : tie.Need-loop-again Inv-loop μ-loop
 loop-again c =
-    let S = start (c .before .before .before .before .before) in
-    let L = c .before .before .before .before .before .loop in
-    let r = c .before .longer .ensures in (
-      omega arith,
-      omega arith,
-      ⊎-elim
-          (λ x. rw (x .1, x .2) (farthest-raised _ _ _ _ (L .inv .2) _ (omega arith) (omega arith) (x .0 .taken)))
-          (λ x. rw (x .1, x .2) (farthest-kept _ _ _ _ (L .inv .2) _ (omega arith) (x .0 .left)))
-          (c .if1 .came),
-      grown-more _ _ _ _ _ (L .inv .3) (omega arith) _ (S .pre .1 (L .w) (omega arith) (omega arith)) (r .0) (r .1),
-    )
+    let H = c .before .before .before .before in
+    let L = H .loop in
+    let r = c .longer .ensures in
+    (omega arith, omega arith, grown-more _ _ _ _ _ (L .inv .2) (omega arith) _ (start H .pre .1 (L .w) (omega arith) (omega arith)) (r .0) (r .1))
 
 mul-matches-2 : tie.Need-mul-matches-2 Inv-loop μ-loop
 mul-matches-2 c = omega arith
@@ -89,12 +79,8 @@ same-length c = simp length-set (omega arith)
 
 returns : tie.Need-returns Inv-loop μ-loop
 returns c =
-    let S = start (c .before) in
-    let L = c .before .loop in
-    let f = L .inv .2 in (
-      grown-all _ _ _ _ _ (L .inv .3) (omega arith) (S .args .m) (omega arith) (omega arith) (omega arith),
-      ((f .pos, omega (arith, f .within)), λ v p l. farthest-most _ _ _ _ f 0 (omega arith) refl v p (omega arith)),
-    )
+    let H = c .before in
+    grown-all _ _ _ _ _ (H .loop .inv .2) (omega arith) (start H .args .m) (omega arith) (omega arith) (omega arith)
 
 pub grow-spec : {M : Type 1} → statement M
 grow-spec =
@@ -104,8 +90,8 @@ grow-spec =
     μ-loop
     mul-kind
     shared-slice-read-kind
+    sub-n
     loop-holds
-    add-loop
     add-longer
     mul-longer
     shared-slice-read-longer

@@ -1,7 +1,7 @@
--- `solver::row::longer` meets its contract.
+-- `solver::matches::longer` meets its contract.
 use borrow.Author.Needs.{needs}
-use Rattle.solver.proofs.row.longer.Statement.{statement}
-use Rattle.solver.proofs.row.longer.Tie as tie
+use Rattle.solver.proofs.matches.longer.Statement.{statement}
+use Rattle.solver.proofs.matches.longer.Tie as tie
 
 add-result : tie.Need-add-result
 add-result c = search needs
