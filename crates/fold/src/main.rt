@@ -1,10 +1,11 @@
 // The fold program: reads a run from standard input, folds it at unit costs and limit 1,024, and prints its nodes, the cost
-// and the bytes of its cheapest fold, or the refusal.
+// and the bytes of its cheapest fold, or the refusal. Where it cannot read or print, it says so on standard error.
+mod input;
 mod text;
 
 use folder::fold;
 use format::Format;
-use libc::STDIN_FILENO;
+use input::read_input;
 use libc::STDOUT_FILENO;
 use reader::read_run;
 use text::put_refusal;
@@ -41,11 +42,19 @@ fn answer(run: &[u8], text: &mut [u8]) -> usize
     put_report(nodes as u64, r.cost, &out[..length], text)
 }
 
-// At most 4,096 bytes are read: more cannot alter the answer (`more-input` in proofs/More.antt).
+// At most 4,096 bytes are read: more cannot alter the answer (`more-input` in proofs/More.antt). An input that could not be read
+// has no answer, and nothing is printed of what came before.
 fn main() {
-    let mut input = [0u8; 4096];
-    let n = io::read_full(STDIN_FILENO, &mut input);
+    let mut bytes = [0u8; 4096];
+    let input = read_input(&mut bytes);
+    if input.failed {
+        os::fail(b"fold: standard input");
+        return;
+    }
+    let n = input.length;
     let mut text = [0u8; 8252];
-    let k = answer(&input[..n], &mut text);
-    io::write_all(STDOUT_FILENO, &text[..k]);
+    let k = answer(&bytes[..n], &mut text);
+    if !io::write_all(STDOUT_FILENO, &text[..k]) {
+        os::fail(b"fold: standard output");
+    }
 }
