@@ -8,6 +8,7 @@ use harness::fold_checked;
 use harness::unrolls;
 use print::difference;
 use print::number;
+use print::setting;
 use print::word;
 use reader::read_fold;
 use reader::read_run;
@@ -38,9 +39,10 @@ fn reads(
     r.cost == cost
 }
 
-// Prints an answer of the folder.
-fn show(name: &[u8], r: Folded) {
+// Prints an answer of the folder, and what it was asked.
+fn show(name: &[u8], a: Case, r: Folded) {
     word(name);
+    setting(a.limit, a.first, a.each);
     number(b": cost ", r.cost);
     number(b", length ", r.length as u64);
     word(b"\n");
@@ -81,7 +83,7 @@ fn known_in(
 ) {
     let table = [1u16; 256];
     let c = fold_checked(run, a.limit, &table, a.first, a.each, costs, choices, out);
-    show(name, c.answer);
+    show(name, a, c.answer);
     let mut right = wrote(c, out, fold, a.cost);
     if !reads(fold, a.limit, &table, a.first, a.each, run, a.cost) {
         right = false;

@@ -1,11 +1,13 @@
-// The refusals: the example of every refusal of document 01, by every entry point that it concerns. What is
-// printed calls each a row: a row of that table.
+// The refusals: the example of every refusal in docs/REFUSALS.md, by every entry point that it concerns. What is printed calls
+// each a row: a row of the table there.
 use format::Format;
 use harness::fill_bytes;
 use harness::fold_checked;
 use harness::untouched;
+use print::bytes;
 use print::difference;
 use print::number;
+use print::setting;
 use print::word;
 use reader::read_fold;
 use reader::read_run;
@@ -42,7 +44,7 @@ fn told(who: &[u8], refusal: u8, place: usize, e: Expected, right: bool) {
 
 fn by_run_reader(run: &[u8], e: Expected) {
     let r = read_run(run);
-    told(b", run reader", r.refusal, r.place, e, r.nodes == 0);
+    told(b": run reader", r.refusal, r.place, e, r.nodes == 0);
 }
 
 fn by_fold_reader(fold: &[u8], limit: usize, table: &[u16], e: Expected) {
@@ -54,7 +56,7 @@ fn by_fold_reader(fold: &[u8], limit: usize, table: &[u16], e: Expected) {
     if r.cost != 0 {
         right = false;
     }
-    told(b", fold reader", r.refusal, r.place, e, right);
+    told(b": fold reader", r.refusal, r.place, e, right);
 }
 
 fn by_unroller(fold: &[u8], limit: usize, out: &mut [u8], e: Expected) {
@@ -64,7 +66,7 @@ fn by_unroller(fold: &[u8], limit: usize, out: &mut [u8], e: Expected) {
     if r.length != 0 {
         right = false;
     }
-    told(b", unroller", r.refusal, r.place, e, right);
+    told(b" unroller", r.refusal, r.place, e, right);
 }
 
 // The folder, with as much work and output as is lent.
@@ -79,7 +81,7 @@ fn by_folder(
 ) {
     let c = fold_checked(run, limit, table, 1, 0, costs, choices, out);
     let r = c.answer;
-    told(b", folder", r.refusal, r.place, e, c.right);
+    told(b" folder", r.refusal, r.place, e, c.right);
 }
 
 // The folder with room enough.
@@ -90,19 +92,33 @@ fn by_roomy_folder(run: &[u8], limit: usize, table: &[u16], e: Expected) {
     by_folder(run, limit, table, &mut costs, &mut choices, &mut out, e);
 }
 
-// The folder with an output of 1 byte, and as much work as is lent.
+// The line of a refusal begins with its number, the input, and what that is read at; repeats have unit prices everywhere.
+fn row(refusal: u8, input: &[u8], limit: usize) {
+    number(b"row ", refusal as u64);
+    word(b", ");
+    bytes(input);
+    setting(limit, 1, 0);
+}
+
+// The folder with an output of 1 byte, and as much work as is lent: a line of its own.
 fn by_cramped_folder(run: &[u8], costs: &mut [u32], choices: &mut [u32], e: Expected) {
     let table = [1u16; 256];
     let mut out = [0u8; 1];
+    row(e.refusal, run, 1024);
+    number(b", work ", costs.len() as u64);
+    number(b" and ", choices.len() as u64);
+    word(b", output 1:");
     by_folder(run, 1024, &table, costs, choices, &mut out, e);
+    word(b"\n");
 }
 
 // The example of a refusal among runs, and among folds at a limit.
 fn refused_run(refusal: u8, run: &[u8], place: usize) {
     let table = [1u16; 256];
     let e = Expected { refusal, place };
-    number(b"row ", refusal as u64);
+    row(refusal, run, 1024);
     by_run_reader(run, e);
+    word(b",");
     by_roomy_folder(run, 1024, &table, e);
     word(b"\n");
 }
@@ -111,15 +127,16 @@ fn refused_fold(refusal: u8, fold: &[u8], limit: usize, place: usize) {
     let table = [1u16; 256];
     let mut out = [0u8; 40];
     let e = Expected { refusal, place };
-    number(b"row ", refusal as u64);
+    row(refusal, fold, limit);
     by_fold_reader(fold, limit, &table, e);
+    word(b",");
     by_unroller(fold, limit, &mut out, e);
     word(b"\n");
 }
 
-// Refusals 1 to 10, as document 01 has them, and a few neighbours: an operand missing, the 11th open repeat.
+// Refusals 1 to 10, and a few neighbours: an operand missing, the 11th open repeat.
 pub fn commands() {
-    bytes();
+    first_three();
     closes();
     repeats();
     open();
@@ -127,7 +144,7 @@ pub fn commands() {
 }
 
 // Refusals 1 to 3: a byte that is no command, one that is none of a run, and bytes that end too early.
-fn bytes() {
+fn first_three() {
     refused_run(1, b"\x13", 0);
     refused_fold(1, b"\x13", 1024, 0);
     refused_run(2, b"\x10\x07\x21", 2);
@@ -188,8 +205,10 @@ pub fn settings() {
 
 fn short_table(table: &[u16]) {
     let e = placeless(11);
-    word(b"row 11");
+    row(11, b"\x13", 1025);
+    word(b", 255 label costs");
     by_fold_reader(b"\x13", 1025, table, e);
+    word(b",");
     by_roomy_folder(b"\x13", 1025, table, e);
     word(b"\n");
 }
@@ -197,9 +216,11 @@ fn short_table(table: &[u16]) {
 fn high_limit(table: &[u16]) {
     let e = placeless(12);
     let mut out = [0u8; 8];
-    word(b"row 12");
+    row(12, b"\x13", 1025);
     by_fold_reader(b"\x13", 1025, table, e);
+    word(b",");
     by_unroller(b"\x13", 1025, &mut out, e);
+    word(b",");
     by_roomy_folder(b"\x13", 1025, table, e);
     word(b"\n");
 }
@@ -209,26 +230,18 @@ pub fn room() {
     let mut two = [0u32; 2];
     let mut three = [0u32; 3];
     let mut other = [0u32; 3];
-    word(b"row 1");
     by_cramped_folder(b"\x13", &mut two, &mut three, placeless(1));
-    little_work(&mut two, &mut three);
-    little_output(&mut two, &mut three, &mut other);
+    by_cramped_folder(b"\x10\x01\x10\x01", &mut two, &mut three, placeless(13));
+    by_cramped_folder(b"\x10\x01\x10\x01", &mut three, &mut two, placeless(13));
+    by_cramped_folder(b"\x10\x01\x10\x01", &mut three, &mut other, placeless(14));
+    by_cramped_folder(b"\x10\x01", &mut three, &mut two, placeless(14));
+    little_output();
 }
 
-fn little_work(two: &mut [u32], three: &mut [u32]) {
-    let run = b"\x10\x01\x10\x01";
-    let e = placeless(13);
-    word(b"\nrow 13");
-    by_cramped_folder(run, two, three, e);
-    by_cramped_folder(run, three, two, e);
-}
-
-fn little_output(two: &mut [u32], three: &mut [u32], other: &mut [u32]) {
+fn little_output() {
     let mut one = [0u8; 1];
-    let e = placeless(14);
-    word(b"\nrow 14");
-    by_cramped_folder(b"\x10\x01\x10\x01", three, other, e);
-    by_cramped_folder(b"\x10\x01", three, two, e);
-    by_unroller(b"\x10\x01", 1024, &mut one, e);
+    row(14, b"\x10\x01", 1024);
+    word(b", output 1:");
+    by_unroller(b"\x10\x01", 1024, &mut one, placeless(14));
     word(b"\n");
 }
