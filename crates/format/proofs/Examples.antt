@@ -1,4 +1,4 @@
--- Examples of what the readers answer, checked by computation: every check of document 01's table, the order of its checks, each
+-- Examples of what the readers answer, checked by computation: every check of docs/REFUSALS.md, the order of the checks, each
 -- limit met and passed, widths, costs and parts. A table is a list of cases with one statement: every case holds.
 use mathlib.Core.Path.{_≡_, refl}
 use mathlib.Core.List.{List, [], _∷_, _++_, map}

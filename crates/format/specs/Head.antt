@@ -8,7 +8,7 @@ use Rattle.format.specs.Limits.{Limits, limits}
 use Rattle.format.specs.Machine.{Check, _when_, first-of, Outcome, unless}
 pub use Rattle.format.specs.declared.Head.{Head}
 
--- Document 01's refusals 11 and 12, in its order.
+-- Refusals 11 and 12, in the order of docs/REFUSALS.md.
 unfoldable pub head-checks : Limits → Head → List Check
 head-checks L h = 11 when not (eqb (h .labels) (L .labels)) ∷ 12 when ltb (L .width) (h .limit) ∷ []
 

@@ -1,5 +1,5 @@
--- The command machine: one pass over the bytes that passes each command or refuses it by the first check of document 01's
--- table that applies, and counts.
+-- The command machine: one pass over the bytes that passes each command or refuses it by the first check of
+-- docs/REFUSALS.md that applies, and counts.
 use mathlib.Core.Bool.{Bool, true, false, not, cond, _&&_, _||_}
 use mathlib.Core.List.{List, [], _∷_, _++_}
 use Prim.Native.Nat.{ℕ, zero, suc, _+_, _-_, _*_}
@@ -171,7 +171,7 @@ pub data Check : Type 0 where
   _when_ : ℕ → Bool → Check
 
 infix 68 _when_
--- Document 01's refusals 1 to 10 at one command, in its order. `rest` is what follows the command's byte.
+-- Refusals 1 to 10 at one command, in the order of docs/REFUSALS.md. `rest` is what follows the command's byte.
 unfoldable pub checks : Rules → State → (command : ℕ) → (rest : List ℕ) → List Check
 checks R st c rest =
     1 when not (is-known c)

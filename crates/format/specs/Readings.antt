@@ -1,4 +1,4 @@
--- What the readers answer: document 01's numbers, places and values for every input.
+-- What the readers answer: the refusal's number and place, or the values, for every input.
 use mathlib.Core.Path.{_≡_}
 use mathlib.Core.Bool.{true, false}
 use mathlib.Core.List.{List, []}

@@ -39,7 +39,7 @@ pub record Valued (answer : Folded) : Type 0 where
   pub success : answer .refusal ≡ 0 → answer .place ≡ 0
   pub refusal : (answer .refusal ≡ 0 → ⊥) → (answer .length ≡ 0) × (answer .cost ≡ 0)
 
--- What document 01 says of the folder's answer and of the lent slices after it, whatever the fold.
+-- What docs/FORMAT.md says of the folder's answer and of the lent slices after it, whatever the fold.
 pub record LentAsSaid (run : List ℕ) (answer : Folded) (costs choices out : List ℕ) : Type 0 where
   pub costs-cleared : Cleared costs (used (answer .refusal) (run-reading run .nodes))
   pub choices-cleared : Cleared choices (used (answer .refusal) (run-reading run .nodes))

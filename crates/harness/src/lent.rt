@@ -1,5 +1,5 @@
 // One call of the folder or the unroller, with every entry of the lent slices looked at: each is filled before, and afterwards
-// holds what document 01 says.
+// holds what docs/FORMAT.md says.
 use folder::fold;
 use format::Folded;
 use format::Unrolled;
@@ -113,7 +113,7 @@ pub struct Checked {
 }
 
 // The folder on filled slices. It is right where the answer and the slices afterwards are as they must be whatever the fold: a
-// refusal's values are 0 and success has no place, and all entries beyond the fold are as document 01 says.
+// refusal's values are 0 and success has no place, and all entries beyond the fold are as docs/FORMAT.md says.
 pub fn fold_checked(
     run: &[u8],
     limit: usize,

@@ -1,4 +1,4 @@
-// The known folds of document 01, the marked ones too: what the folder writes, read and unrolled back.
+// The known folds of docs/FORMAT.md, those that the checker computes too: what the folder writes, read and unrolled back.
 use crate::runs::spell;
 use crate::runs::steps_of;
 use format::Folded;
@@ -142,8 +142,8 @@ fn plain(name: &[u8], limit: usize, cost: u64) {
     known(name, itself, limit, 1, 0, itself, cost);
 }
 
-// The marked folds.
-pub fn marked() {
+// The folds that the checker computes too.
+pub fn computed() {
     few_steps();
     more_steps();
     groups();
@@ -184,8 +184,8 @@ fn groups() {
     known(b"group 05 holding aaa, twice", group, 1, 1, 0, fold, 4);
 }
 
-// The folds that are not marked.
-pub fn unmarked() {
+// Longer ones, which are run alone.
+pub fn longer() {
     let five = b"\x20\x00\x02\x00\x05\x10\x01\x10\x02\x10\x02\x10\x03\x10\x01\x21";
     letters(b"abbcaabbca", 1024, 1, 0, five, 6);
     plain(b"abbcaabbca", 4, 10);

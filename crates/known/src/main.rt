@@ -1,12 +1,12 @@
-// The program of known folds: the folds and the refusals that document 01 names, and the parts of nodes. It prints what it
-// saw, and a line that begins with `difference` where that is not right.
+// The program of known folds: the folds of docs/FORMAT.md, the refusals of docs/REFUSALS.md, and the parts of nodes. It prints
+// what it saw, and a line that begins with `difference` where that is not right.
 mod cases;
 mod parts;
 mod runs;
 
 fn main() {
-    cases::marked();
-    cases::unmarked();
+    cases::computed();
+    cases::longer();
     cases::deep();
     cases::thousand();
     refusals::commands();

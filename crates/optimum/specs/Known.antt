@@ -1,5 +1,5 @@
--- The known folds of document 01 that are marked there, in one table with one statement, and a few more that pin prices and
--- ties.
+-- The known folds of docs/FORMAT.md that the checker computes, in one table with one statement, and a few more that pin prices
+-- and ties.
 use mathlib.Core.Path.{_≡_}
 use mathlib.Core.List.{List, [], _∷_, _++_, map}
 use Prim.Native.Nat.{ℕ}
@@ -71,7 +71,7 @@ b = 0x10 ∷ 0x02 ∷ []
 abbrev pub group-05 : List ℕ → List ℕ
 group-05 s = 0x11 ∷ 0x05 ∷ s ++ 0x12 ∷ []
 
--- The table: the marked cases, then more, which pin what prices and ties decide.
+-- The table: the cases of docs/FORMAT.md, then more, which pin what prices and ties decide.
 unfoldable pub known : List Case
 unfolding unit free-a times
 known =

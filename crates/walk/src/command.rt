@@ -1,4 +1,4 @@
-// One command at a time: each function makes the tests of document 01's table for one command, in its order, and counts.
+// One command at a time: each function makes the tests of docs/REFUSALS.md for one command, in their order, and counts.
 // The walk over sequences and items (walk.rt) makes no test of its own.
 use format::Format;
 use format::Limits;
