@@ -19,18 +19,18 @@ use Rattle.format.specs.declared.Folded.{Folded}
 use Rattle.format.proofs.Refusals.{refused-some}
 use Rattle.format.proofs.Bridge.{sound-widest, sound-within}
 use Rattle.optimum.specs.Cheapest.{cheapest}
-use Rattle.optimum.proofs.Cheapest.{cheapest-optimal}
+use Rattle.optimum.proofs.Cheapest.{cheapest-short}
 use Rattle.optimum.proofs.Demands.{run-shape, run-nodes}
 use Rattle.optimum.specs.Verdict.{Verdict, refuses, folds, verdict}
 use Rattle.folder.specs.Folding.{folding, fold-answer, fold-output}
 use Rattle.fold.specs.Text.{three-lines, refusal-line}
 use Rattle.fold.specs.Printed.{lines-of, printed}
-use Rattle.fold.proofs.Room.{fold-short, enough-work, too-little-work}
+use Rattle.fold.proofs.Room.{enough-work, too-little-work}
 
 -- The verdict on a run: a refusal with its number, or a fold with the nodes that the run reader counts.
 data Decided (nodes : ℕ) : Verdict → Type 0 where
   refusing : (n p : ℕ) → n ≢ 0 → Decided nodes (refuses n p)
-  folded : (f : List ℕ) (c : ℕ) → length f ≤ 6 * nodes → Decided nodes (folds nodes f c)
+  folded : (f : List ℕ) (c : ℕ) → length f ≤ 4 * nodes → Decided nodes (folds nodes f c)
 
 decided : (s : List ℕ) → Bytes s → Decided (run-reading s .nodes) (folding s (limits .width) (replicate 256 1) 1 0)
 unfolding run-reading folding
@@ -44,9 +44,8 @@ decided s small = by-outcome (read run-rules s) refl
         let P = priced (replicate 256 1) 1 0 in
         let shape = run-shape s small t x e in
         let sound = sound-within (at-most 0) A (tree-of s) (omega (arith, sound-widest (at-most 0) (tree-of s) (shape .sound))) (shape .sound) in
-        let best = cheapest-optimal A P (tree-of s) (shape .plain refl) sound .fold in
-        let short : length (bytes (cheapest A P (tree-of s))) ≤ 6 * t .nodes =
-        omega (arith, run-nodes s small t x e, fold-short A (tree-of s) (cheapest A P (tree-of s)) (best .sound) (best .unrolls)) in
+        let short : length (bytes (cheapest A P (tree-of s))) ≤ 4 * t .nodes =
+        omega (arith, run-nodes s small t x e, cheapest-short A P (tree-of s) (record { plain = shape .plain refl; sound = sound })) in
         folded _ _ short
 
 -- What the folder answers and writes with this work and this output.
@@ -57,7 +56,7 @@ abbrev output : Verdict → List ℕ
 output v = fold-output v 5050 5050 (replicate 4096 0)
 
 -- A run of more than 100 nodes is refused, and one of at most 100 is folded.
-module _ (nodes : ℕ) (f : List ℕ) (c : ℕ) (short : length f ≤ 6 * nodes) where
+module _ (nodes : ℕ) (f : List ℕ) (c : ℕ) (short : length f ≤ 4 * nodes) where
   many : 100 < nodes → answered (folds nodes f c) ≡ record { refusal = 13; place = 0; length = 0; cost = 0 }
   many h = rw (lt-ltb _ _ (too-little-work nodes h))
 

@@ -4,6 +4,7 @@ pub mod Forests
 pub mod Machine
 pub mod Bridge
 pub mod Depth
+pub mod Short
 pub mod Refusals
 pub mod Heads
 pub mod More

@@ -1,9 +1,12 @@
--- The cheapest fold is optimal; the optimal fold by its least pair, and the least cost.
+-- The cheapest fold is optimal, and how long it is at most; the optimal fold by its least pair, and the least cost.
 use mathlib.Core.Path.{_≡_, sym, ap, _∙_}
-use Prim.Native.Nat.{ℕ, zero, suc, _+_, _≤_, _<_}
+use Prim.Native.Nat.{ℕ, zero, suc, _+_, _*_, _≤_, _<_}
 use native.Mathlib.Omega.{arith}
+use lib.ListN.{length}
 use Rattle.format.specs.Limits.{Prices}
-use Rattle.format.specs.Forest.{Forest, end, step, group, repeat, siblings, nodes, cost, Plain, Allowed, Sound}
+use Rattle.format.specs.Forest.{Forest, end, step, group, repeat, siblings, nodes, bytes, cost, Plain, Allowed, Sound}
+use Rattle.format.proofs.Forests.{nodes-unroll}
+use Rattle.format.proofs.Short.{sound-short}
 use Rattle.optimum.specs.Optimal.{FoldOf, Optimal}
 use Rattle.optimum.specs.Cheapest.{Run, front, back, node, build, price, Bases, usual, own, Spans, Least, choose, cheapest-by, cheapest, best-cost}
 use Rattle.optimum.proofs.Cut.{run-body}
@@ -34,6 +37,12 @@ cheapest-optimal A P t p s = fuelled A P (suc (nodes t)) t (record { plain = p; 
 module _ (A : Allowed) (P : Prices) where
   solves : (t : Forest) → Run A t → Optimal A P t (cheapest A P t)
   solves t r = cheapest-optimal A P t (r .plain) (r .sound)
+
+  -- It is a fold, and so it is short.
+  pub cheapest-short : (t : Forest) → Run A t → length (bytes (cheapest A P t)) ≤ 4 * nodes t
+  cheapest-short t r =
+      let o = solves t r .fold in
+      omega (arith, sound-short A (cheapest A P t) (o .sound), nodes-unroll (cheapest A P t), ap nodes (o .unrolls))
 
   -- It is the only one, and so the least cost is that of any.
   pub is-cheapest : {t f : Forest} → Optimal A P t f → f ≡ cheapest A P t

@@ -1,21 +1,19 @@
 -- The cheapest fold of a sequence as bytes: by the table's choice, what stands first and what follows it; of a node alone, by its
--- bytes in the run; and how many these are at most.
+-- bytes in the run.
 use mathlib.Core.Path.{_≡_, refl, sym, ap, _∙_}
 use mathlib.Core.List.{List, [], _∷_, _++_, append-assoc}
 use Prim.Native.Nat.{ℕ, zero, suc, _+_, _-_, _*_, _<_, _≤_}
-use native.Mathlib.Nat.{mul-le-mul}
-use native.Mathlib.Decide.{decLe}
 use native.Mathlib.Omega.{arith}
-use lib.ListN.{length, length-append, length-drop, getD, drop}
+use lib.ListN.{length, length-drop, getD, drop}
 use lib.Seq.{drop-drop, getD-drop}
 use Rattle.format.specs.Limits.{Prices}
-use Rattle.format.specs.Forest.{Forest, end, step, group, repeat, join, siblings, nodes, bytes, two-bytes, Allowed, Plain, Sound, unroll}
-use Rattle.format.proofs.Forests.{bytes-join, nodes-unroll, siblings-unroll, plain-unroll}
+use Rattle.format.specs.Forest.{Forest, end, step, group, repeat, join, siblings, nodes, bytes, two-bytes, Allowed, Plain}
+use Rattle.format.proofs.Forests.{bytes-join}
 use Rattle.optimum.specs.Cheapest.{Run, front, back, Power, Candidate, plain, power, build, usual, Least, cheapest, best-cost}
 use Rattle.optimum.proofs.Cut.{front-whole, siblings-le-nodes, run-front, run-body}
 use Rattle.optimum.proofs.Powers.{reach, spans-usual}
 use Rattle.optimum.proofs.Least.{least-one}
-use Rattle.optimum.proofs.Cheapest.{cheapest-optimal, is-cheapest, least-builds, optimal-end}
+use Rattle.optimum.proofs.Cheapest.{cheapest-short, is-cheapest, least-builds, optimal-end}
 use Rattle.table.specs.Keys.{packed, count-digit, width-digit}
 use Rattle.table.specs.Table.{Entry, cell, number}
 use Rattle.table.specs.Used.{to-end, itself}
@@ -25,43 +23,6 @@ use Rattle.table.proofs.Uses.{used-body, used-group}
 use Rattle.writer.specs.Writing.{WriteReady, NodeReady, fold-bytes, node-bytes, most-bytes, Follows, follow}
 use Rattle.writer.proofs.Laws.{listed-follow, listed-follows}
 use Rattle.writer.proofs.Parts.{body-part, rest-part}
-
--- A sound fold has at most four bytes for each node that it unrolls to, and one of a single node has two: a repeat takes six
--- bytes and stands for two nodes at least.
-record Small (f : Forest) : Type 0 where
-  short : length (bytes f) ≤ 4 * nodes f
-  one : nodes f ≤ 1 → length (bytes f) ≤ 2
-
-sound-some : (f : Forest) → 0 < siblings f → 0 < nodes f
-sound-some f h = omega (arith, siblings-unroll f, nodes-unroll f, siblings-le-nodes (unroll f) (plain-unroll f))
-
-small : (A : Allowed) (f : Forest) → Sound A f → Small f
-unfolding bytes nodes
-small A end s = record { short = omega arith; one = λ h. omega arith }
-small A (step l f) s =
-    let i = small A f s in
-    record { short = omega arith; one = λ h. omega (arith, i .short) }
-small A (group l b f) s =
-    let i = small A b (s .1) in
-    let j = small A f (s .2) in
-    let n = length-append (bytes b) (0x12 ∷ bytes f) in
-    record { short = omega arith; one = λ h. omega (arith, sound-some b (s .0)) }
-small A (repeat h w b f) s =
-    let i = small A b (s .1) in
-    let j = small A f (s .2) in
-    let n = length-append (bytes b) (0x21 ∷ bytes f) in
-    let some = sound-some b (s .0 .some) in
-    let more : 2 * nodes b ≤ h * nodes b = mul-le-mul (s .0 .twice) (omega arith) in
-    record {
-      short = elim (decLe (nodes b) 1) [ yes k ↦ omega (arith, i .one k) | no k ↦ omega arith ];
-      one = λ k. omega arith;
-    }
-
--- The cheapest fold is a fold, and so it is short.
-cheapest-short : (A : Allowed) (P : Prices) (t : Forest) → Run A t → length (bytes (cheapest A P t)) ≤ 4 * nodes t
-cheapest-short A P t r =
-    let o = cheapest-optimal A P t (r .plain) (r .sound) .fold in
-    omega (arith, small A (cheapest A P t) (o .sound) .short, nodes-unroll (cheapest A P t), ap nodes (o .unrolls))
 
 module _ (A : Allowed) (P : Prices) where
   cheapest-end : cheapest A P end ≡ end
