@@ -1,12 +1,29 @@
-/* The run folder for C: run reader, part of a node, fold reader, unroller and folder.
+/* The run folder for C and C++: run reader, part of a node, fold reader, unroller and folder.
  *
- * The functions are those of the crate `embed`, proved; `rt staticlib embed` writes target/staticlib/libembed.a (x86-64 Linux).
- * Build with `cc -Iinclude YOURS.c target/staticlib/libembed.a`. The library calls nothing but memset.
+ * The functions are those of the crate `embed`, proved. scripts/library.sh builds target/lib/librunfold.a (x86-64 Linux), and
+ * scripts/install.sh installs it with this header. Build a program with one of
+ *
+ *     cc YOURS.c $(pkg-config --cflags --libs runfold)
+ *     cc -Iinclude YOURS.c target/lib/librunfold.a
+ *
+ * A call, for a run of at most 3 nodes; examples/ has whole programs:
+ *
+ *     uint32_t costs[RUNFOLD_WORK(3)], choices[RUNFOLD_WORK(3)];
+ *     uint8_t out[RUNFOLD_ROOM(3)];
+ *     uint64_t answer[RUNFOLD_ENTRIES];
+ *     uint8_t refusal = runfold_fold(run, run_len, RUNFOLD_MAX_WIDTH, table, 256, first, each, costs, RUNFOLD_WORK(3), choices,
+ *                                    RUNFOLD_WORK(3), out, sizeof out, answer, RUNFOLD_ENTRIES);
+ *     if (refusal != RUNFOLD_OK)
+ *         puts(runfold_refusal_text(refusal));
+ *
+ * Memory. The caller lends all of it, so there is nothing to free: no function allocates or keeps anything, and the library
+ * calls nothing but memset. Calls may run in several threads at once. RUNFOLD_WORK and RUNFOLD_ROOM say how much to lend to the
+ * folder for as many nodes as the run reader counts, RUNFOLD_MAX_RUN how much to the unroller; the folder takes about 200 KiB of
+ * stack.
  *
  * Slices. A slice passes as a pointer and a number of entries. A pointer is never null, also with 0 entries. A slice that is
  * written (`out`, `costs`, `choices`, `answer`) overlaps no other slice of the call. Nothing else is asked of a caller: every
- * input has a defined answer. The functions keep no state, allocate nothing and may run in several threads at once; the folder
- * takes about 200 KiB of stack.
+ * input has a defined answer.
  *
  * Answers. `answer` has at least RUNFOLD_ENTRIES entries. The first five are then written, 0 where a function has no such
  * value, and the others stay as they are:
@@ -30,11 +47,36 @@
 extern "C" {
 #endif
 
+/* The version of the library, as numbers and as text. */
+#define RUNFOLD_VERSION_MAJOR 0
+#define RUNFOLD_VERSION_MINOR 1
+#define RUNFOLD_VERSION_PATCH 0
+#define RUNFOLD_VERSION \
+    RUNFOLD_QUOTE(RUNFOLD_VERSION_MAJOR) "." RUNFOLD_QUOTE(RUNFOLD_VERSION_MINOR) "." RUNFOLD_QUOTE(RUNFOLD_VERSION_PATCH)
+
+/* Helpers of this header: a macro's value as text, and a number as a size, without a C-style cast in C++. */
+#define RUNFOLD_QUOTE(value) RUNFOLD_QUOTE_AS_IS(value)
+#define RUNFOLD_QUOTE_AS_IS(value) #value
+#ifdef __cplusplus
+#define RUNFOLD_SIZE(n) static_cast<size_t>(n)
+#else
+#define RUNFOLD_SIZE(n) ((size_t)(n))
+#endif
+
 /* The limits of the format. */
 #define RUNFOLD_MAX_NODES 1024
 #define RUNFOLD_MAX_GROUPS 8
 #define RUNFOLD_MAX_REPEATS 10
 #define RUNFOLD_MAX_WIDTH 1024
+
+/* The entries that each work slice of the folder needs for a run of n nodes. */
+#define RUNFOLD_WORK(n) (RUNFOLD_SIZE(n) * (RUNFOLD_SIZE(n) + 1) / 2)
+
+/* A fold of a run of n nodes has at most so many bytes, also where it is longer than the run. */
+#define RUNFOLD_ROOM(n) (RUNFOLD_SIZE(n) * 4)
+
+/* A run that is not refused has at most so many bytes: room for whatever the unroller writes. */
+#define RUNFOLD_MAX_RUN 3072
 
 /* The entries of an answer, and where each stands. */
 #define RUNFOLD_ENTRIES 5
@@ -66,11 +108,46 @@ enum {
     RUNFOLD_SHORT = 255             /* the answer slice has fewer than RUNFOLD_ENTRIES entries */
 };
 
-/* The entries that each work slice of the folder needs for a run of n nodes. */
-#define RUNFOLD_WORK(n) ((size_t)(n) * ((size_t)(n) + 1) / 2)
-
-/* A fold of a run of n nodes has at most so many bytes, also where it is longer than the run. */
-#define RUNFOLD_ROOM(n) ((size_t)(n) * 4)
+/* The meaning of a refusal number, a call's result or answer[RUNFOLD_REFUSAL], in the words of docs/REFUSALS.md. */
+static inline const char *runfold_refusal_text(uint64_t number)
+{
+    switch (number) {
+    case RUNFOLD_OK:
+        return "success";
+    case RUNFOLD_UNKNOWN_COMMAND:
+        return "unknown command";
+    case RUNFOLD_REPEAT_IN_RUN:
+        return "20 or 21 in a run";
+    case RUNFOLD_UNFINISHED:
+        return "operands missing, or the end with something open";
+    case RUNFOLD_WRONG_CLOSE:
+        return "12 or 21 where nothing is open or the innermost open thing is not of its kind";
+    case RUNFOLD_EMPTY_BODY:
+        return "a close right after its open";
+    case RUNFOLD_SMALL_COUNT:
+        return "count 0 or 1";
+    case RUNFOLD_WIDE:
+        return "width operand over the limit";
+    case RUNFOLD_DEEP:
+        return "a 9th open group or an 11th open repeat";
+    case RUNFOLD_FALSE_WIDTH:
+        return "width operand not the true width, found at 21";
+    case RUNFOLD_MANY_NODES:
+        return "node total would pass 1,024";
+    case RUNFOLD_TABLE_SIZE:
+        return "cost table not of 256 entries";
+    case RUNFOLD_LIMIT_SIZE:
+        return "width limit over 1,024";
+    case RUNFOLD_WORK_SIZE:
+        return "a work slice too short";
+    case RUNFOLD_OUTPUT_SIZE:
+        return "output shorter than the result";
+    case RUNFOLD_SHORT:
+        return "answer slice too short";
+    default:
+        return "no refusal has this number";
+    }
+}
 
 /* The run reader: refusals 1 to 5, 8 and 10, or the nodes of the run. Writes `answer` alone. */
 uint8_t runfold_read_run(const uint8_t *run, size_t run_len, uint64_t *answer, size_t answer_len);

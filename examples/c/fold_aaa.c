@@ -8,24 +8,22 @@ int main(void)
 {
     const uint8_t run[] = {0x10, 0x01, 0x10, 0x01, 0x10, 0x01};
     uint16_t table[256];
-    uint32_t costs[RUNFOLD_WORK(3)] = {0};
-    uint32_t choices[RUNFOLD_WORK(3)] = {0};
+    uint32_t costs[RUNFOLD_WORK(3)];
+    uint32_t choices[RUNFOLD_WORK(3)];
     uint8_t out[RUNFOLD_ROOM(3)];
     uint8_t back[sizeof run];
     uint64_t answer[RUNFOLD_ENTRIES];
-    uint64_t nodes;
     size_t length;
 
     for (int label = 0; label < 256; label++)
         table[label] = 1;
     if (runfold_read_run(run, sizeof run, answer, RUNFOLD_ENTRIES) != RUNFOLD_OK)
         goto refused;
-    nodes = answer[RUNFOLD_NODES];
+    printf("nodes %llu\n", (unsigned long long)answer[RUNFOLD_NODES]);
     if (runfold_fold(run, sizeof run, RUNFOLD_MAX_WIDTH, table, 256, 1, 0, costs, RUNFOLD_WORK(3), choices, RUNFOLD_WORK(3),
                      out, sizeof out, answer, RUNFOLD_ENTRIES) != RUNFOLD_OK)
         goto refused;
     length = (size_t)answer[RUNFOLD_LENGTH];
-    printf("nodes %llu\n", (unsigned long long)nodes);
     printf("cost %llu\n", (unsigned long long)answer[RUNFOLD_COST]);
     printf("fold ");
     for (size_t i = 0; i < length; i++)
@@ -38,6 +36,7 @@ int main(void)
     return 0;
 
 refused:
-    printf("refused %llu at %llu\n", (unsigned long long)answer[RUNFOLD_REFUSAL], (unsigned long long)answer[RUNFOLD_PLACE]);
+    printf("refused %llu at %llu: %s\n", (unsigned long long)answer[RUNFOLD_REFUSAL],
+           (unsigned long long)answer[RUNFOLD_PLACE], runfold_refusal_text(answer[RUNFOLD_REFUSAL]));
     return 1;
 }
