@@ -1,0 +1,37 @@
+/* The header alone, in C and in C++ with the warnings of scripts/c.sh: its constants, also as sizes of arrays, and its text
+ * function, for a call's result and for an answer's entry. It is compiled, not run. */
+#include "runfold.h"
+
+/* Does not compile where the condition is false; C99 has no assertion of its own. */
+#define HOLDS(name, condition) typedef char name[(condition) ? 1 : -1]
+
+HOLDS(version, RUNFOLD_VERSION_MAJOR + RUNFOLD_VERSION_MINOR + RUNFOLD_VERSION_PATCH > 0 && sizeof RUNFOLD_VERSION >= 6);
+HOLDS(limits, RUNFOLD_MAX_NODES == 1024 && RUNFOLD_MAX_GROUPS == 8 && RUNFOLD_MAX_REPEATS == 10 && RUNFOLD_MAX_WIDTH == 1024);
+HOLDS(work, RUNFOLD_WORK(0) == 0 && RUNFOLD_WORK(3) == 6 && RUNFOLD_WORK(RUNFOLD_MAX_NODES) == 524800);
+HOLDS(room, RUNFOLD_ROOM(0) == 0 && RUNFOLD_ROOM(3) == 12 && RUNFOLD_ROOM(RUNFOLD_MAX_NODES) == 4096);
+HOLDS(grouped, RUNFOLD_WORK(1 + 2) == 6 && 12 / RUNFOLD_WORK(3) == 2 && RUNFOLD_ROOM(1 + 2) == 12 && 24 / RUNFOLD_ROOM(3) == 2);
+HOLDS(sizes, sizeof RUNFOLD_WORK(3) == sizeof(size_t) && sizeof RUNFOLD_ROOM(3) == sizeof(size_t));
+/* A step has 2 bytes, a group 3. */
+HOLDS(longest, RUNFOLD_MAX_RUN == 3 * RUNFOLD_MAX_NODES);
+HOLDS(entries, RUNFOLD_REFUSAL == 0 && RUNFOLD_PLACE == 1 && RUNFOLD_NODES == 2 && RUNFOLD_LENGTH == 3 &&
+      RUNFOLD_COST == 4 && RUNFOLD_ENTRIES == 5);
+HOLDS(refusals, RUNFOLD_OK == 0 && RUNFOLD_UNKNOWN_COMMAND == 1 && RUNFOLD_REPEAT_IN_RUN == 2 && RUNFOLD_UNFINISHED == 3 &&
+      RUNFOLD_WRONG_CLOSE == 4 && RUNFOLD_EMPTY_BODY == 5 && RUNFOLD_SMALL_COUNT == 6 && RUNFOLD_WIDE == 7 &&
+      RUNFOLD_DEEP == 8 && RUNFOLD_FALSE_WIDTH == 9 && RUNFOLD_MANY_NODES == 10 && RUNFOLD_TABLE_SIZE == 11 &&
+      RUNFOLD_LIMIT_SIZE == 12 && RUNFOLD_WORK_SIZE == 13 && RUNFOLD_OUTPUT_SIZE == 14 && RUNFOLD_SHORT == 255);
+
+const char *fold_small(const uint8_t *run, size_t run_len, const uint16_t *table);
+
+const char *fold_small(const uint8_t *run, size_t run_len, const uint16_t *table)
+{
+    uint32_t costs[RUNFOLD_WORK(3)];
+    uint32_t choices[RUNFOLD_WORK(3)];
+    uint8_t out[RUNFOLD_ROOM(3)];
+    uint64_t answer[RUNFOLD_ENTRIES];
+    uint8_t result = runfold_fold(run, run_len, RUNFOLD_MAX_WIDTH, table, 256, 1, 0, costs, RUNFOLD_WORK(3), choices,
+                                  RUNFOLD_WORK(3), out, sizeof out, answer, RUNFOLD_ENTRIES);
+
+    if (result == RUNFOLD_SHORT)
+        return runfold_refusal_text(result);
+    return runfold_refusal_text(answer[RUNFOLD_REFUSAL]);
+}
