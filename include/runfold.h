@@ -21,9 +21,10 @@
  * folder for as many nodes as the run reader counts, RUNFOLD_MAX_RUN how much to the unroller; the folder takes about 200 KiB of
  * stack.
  *
- * Slices. A slice passes as a pointer and a number of entries. A pointer is never null, also with 0 entries. A slice that is
- * written (`out`, `costs`, `choices`, `answer`) overlaps no other slice of the call. Nothing else is asked of a caller: every
- * input has a defined answer.
+ * Slices. A slice passes as a pointer and a number of entries. One of 0 entries may have a null pointer, for nothing is read or
+ * written there; that of `table` is answered with refusal 11, that of `answer` with RUNFOLD_SHORT. A slice that is written
+ * (`out`, `costs`, `choices`, `answer`) overlaps no other slice of the call. Nothing else is asked of a caller: every input has
+ * a defined answer.
  *
  * Answers. `answer` has at least RUNFOLD_ENTRIES entries. The first five are then written, 0 where a function has no such
  * value, and the others stay as they are:
