@@ -18,8 +18,8 @@
  *
  * Memory. The caller lends all of it, so there is nothing to free: no function allocates or keeps anything, and the library
  * calls nothing but memset. Calls may run in several threads at once. RUNFOLD_WORK and RUNFOLD_ROOM say how much to lend to the
- * folder for as many nodes as the run reader counts, RUNFOLD_MAX_RUN how much to the unroller; the folder takes about 200 KiB of
- * stack.
+ * folder for as many nodes as the run reader counts, RUNFOLD_MAX_RUN how much to the unroller, RUNFOLD_STACK how much stack a
+ * call takes.
  *
  * Slices. A slice passes as a pointer and a number of entries. One of 0 entries may have a null pointer, for nothing is read or
  * written there; that of `table` is answered with refusal 11, that of `answer` with RUNFOLD_SHORT. A slice that is written
@@ -78,6 +78,10 @@ extern "C" {
 
 /* A run that is not refused has at most so many bytes: room for whatever the unroller writes. */
 #define RUNFOLD_MAX_RUN 3072
+
+/* A call takes at most so many bytes of stack, arguments and return address included: measured by scripts/stack.sh, which
+ * prints each function's own, and not proved. */
+#define RUNFOLD_STACK 98304
 
 /* The entries of an answer, and where each stands. */
 #define RUNFOLD_ENTRIES 5

@@ -13,6 +13,8 @@ HOLDS(grouped, RUNFOLD_WORK(1 + 2) == 6 && 12 / RUNFOLD_WORK(3) == 2 && RUNFOLD_
 HOLDS(sizes, sizeof RUNFOLD_WORK(3) == sizeof(size_t) && sizeof RUNFOLD_ROOM(3) == sizeof(size_t));
 /* A step has 2 bytes, a group 3. */
 HOLDS(longest, RUNFOLD_MAX_RUN == 3 * RUNFOLD_MAX_NODES);
+/* Whole pages, as scripts/stack.sh needs it. */
+HOLDS(stack, RUNFOLD_STACK > 0 && RUNFOLD_STACK % 4096 == 0);
 HOLDS(entries, RUNFOLD_REFUSAL == 0 && RUNFOLD_PLACE == 1 && RUNFOLD_NODES == 2 && RUNFOLD_LENGTH == 3 &&
       RUNFOLD_COST == 4 && RUNFOLD_ENTRIES == 5);
 HOLDS(refusals, RUNFOLD_OK == 0 && RUNFOLD_UNKNOWN_COMMAND == 1 && RUNFOLD_REPEAT_IN_RUN == 2 && RUNFOLD_UNFINISHED == 3 &&

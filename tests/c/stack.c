@@ -1,0 +1,245 @@
+/* The stack that each exported function takes, arguments and return address included: measured on a painted stack by the lowest
+ * byte that a call has changed, less what an empty call takes there; and seen again by whether the call lives on a stack of so
+ * many pages with a guard below. */
+#define _GNU_SOURCE
+#include "runfold.h"
+
+#include <signal.h>
+#include <stdio.h>
+#include <stdlib.h>
+#include <string.h>
+#include <sys/mman.h>
+#include <sys/resource.h>
+#include <sys/wait.h>
+#include <ucontext.h>
+#include <unistd.h>
+
+enum { PAGE = 4096, PAINTED = 64 * PAGE };
+
+/* Steps in repeats of count 2 in groups, with the refusals that the functions on runs and those on folds answer. */
+struct input {
+    const char *name;
+    int groups, repeats, steps;
+    uint8_t run_refusal, fold_refusal;
+};
+
+static const struct input inputs[] = {
+    {"no steps", 0, 0, 0, RUNFOLD_OK, RUNFOLD_OK},
+    {"1 step", 0, 0, 1, RUNFOLD_OK, RUNFOLD_OK},
+    {"1024 steps", 0, 0, 1024, RUNFOLD_OK, RUNFOLD_OK},
+    {"1016 steps in 8 groups", 8, 0, 1016, RUNFOLD_OK, RUNFOLD_OK},
+    {"512 steps in 8 groups", 8, 0, 512, RUNFOLD_OK, RUNFOLD_OK},
+    {"1 step in 9 repeats in 8 groups", 8, 9, 1, RUNFOLD_REPEAT_IN_RUN, RUNFOLD_OK},
+    {"1 step in 10 repeats in 8 groups", 8, 10, 1, RUNFOLD_REPEAT_IN_RUN, RUNFOLD_MANY_NODES},
+};
+enum { INPUTS = sizeof inputs / sizeof inputs[0] };
+
+/* What a call is given, and what it answered. A repeat costs 0 and each further copy 1, so that the folder nests as many
+ * repeats as it can: ten round 1,024 steps, nine round 512. */
+static uint8_t bytes[RUNFOLD_MAX_RUN];
+static size_t len;
+static uint16_t table[256];
+static uint32_t costs[RUNFOLD_WORK(RUNFOLD_MAX_NODES)], choices[RUNFOLD_WORK(RUNFOLD_MAX_NODES)];
+static uint8_t out[RUNFOLD_ROOM(RUNFOLD_MAX_NODES)];
+static uint64_t answer[RUNFOLD_ENTRIES];
+static uint8_t result;
+
+static void nothing(void)
+{
+}
+
+static void read_run(void)
+{
+    result = runfold_read_run(bytes, len, answer, RUNFOLD_ENTRIES);
+}
+
+static void part(void)
+{
+    /* A part is no refusal; that the input is as meant is seen by the run reader. */
+    answer[RUNFOLD_LENGTH] = runfold_part(bytes, len, 0);
+}
+
+static void read_fold(void)
+{
+    result = runfold_read_fold(bytes, len, RUNFOLD_MAX_WIDTH, table, 256, 0, 1, answer, RUNFOLD_ENTRIES);
+}
+
+static void unroll(void)
+{
+    result = runfold_unroll(bytes, len, RUNFOLD_MAX_WIDTH, out, sizeof out, answer, RUNFOLD_ENTRIES);
+}
+
+static void fold(void)
+{
+    result = runfold_fold(bytes, len, RUNFOLD_MAX_WIDTH, table, 256, 0, 1, costs, RUNFOLD_WORK(RUNFOLD_MAX_NODES), choices,
+                          RUNFOLD_WORK(RUNFOLD_MAX_NODES), out, sizeof out, answer, RUNFOLD_ENTRIES);
+}
+
+static const struct function {
+    const char *name;
+    void (*call)(void);
+    int on_runs;
+} functions[] = {
+    {"runfold_read_run", read_run, 1},
+    {"runfold_part", part, 1},
+    {"runfold_read_fold", read_fold, 0},
+    {"runfold_unroll", unroll, 0},
+    {"runfold_fold", fold, 1},
+};
+enum { FUNCTIONS = sizeof functions / sizeof functions[0] };
+
+static void fail(const char *what)
+{
+    printf("%s\n", what);
+    exit(1);
+}
+
+static void build(const struct input *in)
+{
+    uint8_t *p = bytes;
+
+    for (int i = 0; i < in->groups; i++) {
+        *p++ = 0x11;
+        *p++ = 0x07;
+    }
+    for (int i = in->repeats; i > 0; i--) {
+        int width = in->steps << (i - 1);
+        *p++ = 0x20;
+        *p++ = 0;
+        *p++ = 2;
+        *p++ = (uint8_t)(width / 256);
+        *p++ = (uint8_t)(width % 256);
+    }
+    for (int i = 0; i < in->steps; i++) {
+        *p++ = 0x10;
+        *p++ = 0x07;
+    }
+    for (int i = 0; i < in->repeats; i++)
+        *p++ = 0x21;
+    for (int i = 0; i < in->groups; i++)
+        *p++ = 0x12;
+    len = (size_t)(p - bytes);
+}
+
+/* A stack of so many bytes above a page that nothing may touch. */
+static uint8_t *lend(size_t size)
+{
+    uint8_t *p = mmap(NULL, size + PAGE, PROT_READ | PROT_WRITE, MAP_PRIVATE | MAP_ANONYMOUS, -1, 0);
+
+    if (p == MAP_FAILED || mprotect(p, PAGE, PROT_NONE) != 0)
+        fail("no memory for a stack");
+    return p + PAGE;
+}
+
+static void run_on(uint8_t *stack, size_t size, void (*call)(void))
+{
+    ucontext_t here, there;
+
+    getcontext(&there);
+    there.uc_stack.ss_sp = stack;
+    there.uc_stack.ss_size = size;
+    there.uc_link = &here;
+    makecontext(&there, call, 0);
+    swapcontext(&here, &there);
+}
+
+/* The bytes from the stack's upper end to the lowest one that is changed. A byte that happens to be written in one colour is
+ * seen in the other, so that the figure is the same each time. */
+static size_t used(void (*call)(void))
+{
+    static uint8_t *stack;
+    size_t most = 0;
+
+    if (stack == NULL)
+        stack = lend(PAINTED);
+    for (int colour = 0x5A; colour <= 0xA5; colour += 0xA5 - 0x5A) {
+        size_t kept = 0;
+        memset(stack, colour, PAINTED);
+        run_on(stack, PAINTED, call);
+        while (kept < PAINTED && stack[kept] == colour)
+            kept++;
+        if (PAINTED - kept > most)
+            most = PAINTED - kept;
+    }
+    return most;
+}
+
+/* Whether a call returns on a stack of so many bytes, whole pages; else it has run into the guard. */
+static int lives(void (*call)(void), size_t size)
+{
+    uint8_t *stack = lend(size);
+    int status = 0;
+    pid_t child = fork();
+
+    if (child == 0) {
+        const struct rlimit none = {0, 0};
+        setrlimit(RLIMIT_CORE, &none);
+        run_on(stack, size, call);
+        _exit(0);
+    }
+    munmap(stack - PAGE, size + PAGE);
+    if (child < 0 || waitpid(child, &status, 0) != child)
+        fail("no child process");
+    if (WIFSIGNALED(status) && WTERMSIG(status) == SIGSEGV)
+        return 0;
+    if (!WIFEXITED(status) || WEXITSTATUS(status) != 0)
+        fail("a child process ended in another way");
+    return 1;
+}
+
+int main(void)
+{
+    size_t own, most[FUNCTIONS] = {0}, largest = 0;
+    int worst[FUNCTIONS] = {0};
+
+    for (int i = 0; i < 256; i++)
+        table[i] = 1;
+
+    /* First, while no call has bound memset: binding it takes stack too, on the first call of a program. */
+    for (int i = 0; i < INPUTS; i++) {
+        build(&inputs[i]);
+        for (int f = 0; f < FUNCTIONS; f++)
+            if (!lives(functions[f].call, RUNFOLD_STACK))
+                fail("a call overflows a stack of RUNFOLD_STACK bytes");
+    }
+
+    own = used(nothing);
+    printf("%-34s", "bytes of stack");
+    for (int f = 0; f < FUNCTIONS; f++)
+        printf("%19s", functions[f].name);
+    printf("\n");
+    for (int i = 0; i < INPUTS; i++) {
+        build(&inputs[i]);
+        printf("%-34s", inputs[i].name);
+        for (int f = 0; f < FUNCTIONS; f++) {
+            uint8_t wanted = functions[f].on_runs ? inputs[i].run_refusal : inputs[i].fold_refusal;
+            size_t bytes_used = used(functions[f].call) - own;
+            printf("%19zu", bytes_used);
+            if (functions[f].call != part && result != wanted)
+                fail(": another answer than it should be");
+            if (bytes_used > most[f]) {
+                most[f] = bytes_used;
+                worst[f] = i;
+            }
+        }
+        printf("\n");
+    }
+    printf("\n");
+    for (int f = 0; f < FUNCTIONS; f++) {
+        size_t pages = RUNFOLD_STACK / PAGE;
+        build(&inputs[worst[f]]);
+        while (lives(functions[f].call, (pages - 1) * PAGE))
+            pages--;
+        printf("%-18s %6zu at most, on %s; a stack of %zu is enough and one of %zu is not\n", functions[f].name, most[f],
+               inputs[worst[f]].name, pages * PAGE, (pages - 1) * PAGE);
+        if (pages != (most[f] + own + PAGE - 1) / PAGE)
+            fail("that is not what was measured, in whole pages");
+        if (most[f] > largest)
+            largest = most[f];
+    }
+    if (largest + PAGE > RUNFOLD_STACK)
+        fail("RUNFOLD_STACK leaves less than a page to spare");
+    printf("RUNFOLD_STACK, %d, is enough for every call, also a program's first; it leaves %zu to spare\n", RUNFOLD_STACK,
+           RUNFOLD_STACK - largest);
+    return 0;
+}
