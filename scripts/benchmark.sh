@@ -9,5 +9,5 @@ scripts/figure1.sh
 
 cc=${CC:-cc}
 export CARGO_TARGET_DIR=$PWD/target/cargo
-(cd rust && cargo build --quiet --offline --locked --release --features benchmark --bin benchmark)
+(cd rust && cargo build --quiet --offline --locked --release --package compare --features benchmark --bin benchmark)
 exec target/cargo/release/benchmark docs/BENCHMARK.md docs/benchmark.svg "$(date +%F)" "$("$cc" --version | head -n 1)"

@@ -9,7 +9,7 @@ mkdir -p "$out"
 compile() { # NAME FLAGS..
     local name=$1
     shift
-    "$cc" -std=c11 -Wall -Wextra -Werror -O3 "$@" -c "rust/figure1/$name.c" -o "$out/$name.o"
+    "$cc" -std=c11 -Wall -Wextra -Werror -O3 "$@" -c "rust/compare/figure1/$name.c" -o "$out/$name.o"
 }
 compile plain
 compile transposed -march=native -mprefer-vector-width=512

@@ -3,8 +3,8 @@
 //!
 //! Usage: differential [SEED [SCALE]]. One seed and scale give one run. The first difference ends it and prints its input.
 
-use runfold::inputs::{self, depth, Random};
-use runfold::reference::{self, Answer, Item, Prices, Solved};
+use compare::inputs::{self, depth, Random};
+use compare::reference::{self, Answer, Item, Prices, Solved};
 use runfold::{raw, work_entries, ENTRIES, SHORT};
 use std::fmt::Write;
 use std::process::exit;

@@ -3,13 +3,6 @@
 //! The functions are compiled from proved Rattle code (`crates/embed`). Nothing checks the declarations below against that
 //! source, so they are few and stand in one place, `mod declared`; `include/runfold.h` says the same in C.
 
-#[cfg(feature = "benchmark")]
-pub mod figure1;
-pub mod inputs;
-pub mod reference;
-#[cfg(feature = "benchmark")]
-pub mod timing;
-
 /// The limits of the format.
 pub const NODES: usize = 1024;
 pub const GROUPS: usize = 8;

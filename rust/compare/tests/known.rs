@@ -1,7 +1,7 @@
 //! The known folds and the examples of the numbered refusals, as document 01 lists them, on the library through its safe
 //! interface and on the independent implementation.
 
-use runfold::reference;
+use compare::reference;
 use runfold::{fold, folded, part, read_fold, read_run, unroll, work_entries, Folding, Prices, Refusal};
 
 const UNIT: [u16; 256] = [1; 256];

@@ -3,10 +3,10 @@
 //!
 //! Usage: benchmark PAGE PLOT DATE COMPILER
 
-use runfold::inputs::bytes_of;
-use runfold::inputs::families::{self, Family, Kind, FOUND, SEARCHED};
-use runfold::reference::Prices;
-use runfold::timing::{price_sets, Bench, Times};
+use compare::inputs::bytes_of;
+use compare::inputs::families::{self, Family, Kind, FOUND, SEARCHED};
+use compare::reference::Prices;
+use compare::timing::{price_sets, Bench, Times};
 use runfold::NODES;
 use std::fmt::Write;
 
@@ -221,7 +221,7 @@ Unit prices are 1 for each label, first 1, each 0; the prices \"first 0\" have 1
 
 ## The runs
 
-Runs follow from fixed seeds (`rust/src/inputs.rs`). A word such as `a^3 b`, that is aaab, stands for its first n letters as steps.
+Runs follow from fixed seeds (`rust/compare/src/inputs.rs`). A word such as `a^3 b`, that is aaab, stands for its first n letters as steps.
 
 {families}
 Powers with slips and repeated long powers were added because a slip in a long power made a former folder slow.

@@ -1,15 +1,15 @@
 //! Looks for runs of 1,024 steps on which the folder is slow: a hill climber over words of a few blocks, at each price of the
 //! benchmark. It maximises the folder's part of the time of *blocked*, the fastest form of the report's method, each the lowest
 //! of a few rounds in processor time. What is tried follows from the seed and from the times. Every cost is compared, and every
-//! fold is read back and unrolled. The last lines it prints are those of the list in rust/src/inputs.rs.
+//! fold is read back and unrolled. The last lines it prints are those of the list in rust/compare/src/inputs.rs.
 //!
 //! Usage: climb SECONDS [SEED]
 
-use runfold::figure1::Method;
-use runfold::inputs::families::steps;
-use runfold::inputs::{bytes_of, notation, word, Random};
-use runfold::reference::{decode, Prices};
-use runfold::timing::{price_sets, Bench};
+use compare::figure1::Method;
+use compare::inputs::families::steps;
+use compare::inputs::{bytes_of, notation, word, Random};
+use compare::reference::{decode, Prices};
+use compare::timing::{price_sets, Bench};
 use runfold::NODES;
 use std::time::Instant;
 
@@ -255,7 +255,7 @@ fn main() {
         }
     }
     let Climber { bench, tried } = climber;
-    println!("{} folds read back, all costs agree; for rust/src/inputs.rs:\n", bench.checked);
+    println!("{} folds read back, all costs agree; for rust/compare/src/inputs.rs:\n", bench.checked);
     print!("    pub const FOUND: &[Family] = &[\n{list}    ];\n\n");
     println!("    /// How many seconds the climber had, and how many runs it tried.");
     println!("    pub const SEARCHED: (u64, u64) = ({seconds}, {tried});");

@@ -1,8 +1,8 @@
-//! The report's method, from a run's bytes to a fold's bytes: its Figure 1 in C (rust/figure1, which scripts/figure1.sh
+//! The report's method, from a run's bytes to a fold's bytes: its Figure 1 in C (rust/compare/figure1, which scripts/figure1.sh
 //! compiles) under its Figure 6 for groups. As it stands, with a transposed copy, and in blocks.
 
 use crate::reference::Prices;
-use crate::NODES;
+use runfold::NODES;
 use std::collections::HashMap;
 
 const STRIDE: usize = 1040;

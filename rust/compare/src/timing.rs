@@ -4,7 +4,7 @@
 use crate::figure1::{seconds, Method, Tables};
 use crate::inputs::Random;
 use crate::reference::{self, Prices};
-use crate::{raw, work_entries, ENTRIES, NODES, WIDTH};
+use runfold::{raw, work_entries, ENTRIES, NODES, WIDTH};
 
 /// The report's method in the order of their times.
 pub const METHODS: [Method; 3] = [Method::Plain, Method::Transposed, Method::Blocked];
