@@ -2,7 +2,7 @@
 //! compiles) under its Figure 6 for groups. As it stands, with a transposed copy, and in blocks.
 
 use crate::reference::Prices;
-use runfold::NODES;
+use runfold::MAX_NODES;
 use std::collections::HashMap;
 
 const STRIDE: usize = 1040;
@@ -83,7 +83,7 @@ impl Tables {
     /// Fills the table for a sequence of letters with these weights.
     fn fill(&mut self, label: &[u32], weight: &[u32], prices: &Prices) -> u32 {
         let n = label.len();
-        assert!(n <= NODES && n == weight.len());
+        assert!(n <= MAX_NODES && n == weight.len());
         let (first, each) = (prices.first as u32, prices.each as u32);
         let l = self.l.as_mut_ptr().cast::<u32>();
         let second = self.second.as_mut_ptr().cast::<u32>();

@@ -4,7 +4,7 @@
 use crate::figure1::{seconds, Method, Tables};
 use crate::inputs::Random;
 use crate::reference::{self, Prices};
-use runfold::{raw, work_entries, ENTRIES, NODES, WIDTH};
+use runfold::{fold_room, raw, work_entries, MAX_NODES, MAX_WIDTH};
 
 /// The report's method in the order of their times.
 pub const METHODS: [Method; 3] = [Method::Plain, Method::Transposed, Method::Blocked];
@@ -27,11 +27,11 @@ pub struct Bench {
 impl Bench {
     #[allow(clippy::new_without_default)]
     pub fn new() -> Bench {
-        let entries = work_entries(NODES);
+        let entries = work_entries(MAX_NODES);
         Bench {
             costs: vec![0; entries],
             choices: vec![0; entries],
-            out: vec![0; 4 * NODES],
+            out: vec![0; fold_room(MAX_NODES)],
             methods: METHODS.map(Tables::new),
             fold: Vec::new(),
             checked: 0,
@@ -40,11 +40,11 @@ impl Bench {
 
     /// Folds a run with the library: the time and the cost.
     pub fn ours(&mut self, run: &[u8], prices: &Prices) -> (f64, u64) {
-        let mut answer = [0; ENTRIES];
+        let mut answer = [0; raw::ENTRIES];
         let start = seconds();
         let status = raw::fold(
             run,
-            WIDTH,
+            MAX_WIDTH,
             &prices.labels,
             prices.first,
             prices.each,
@@ -56,8 +56,8 @@ impl Bench {
         let time = seconds() - start;
         assert_eq!(status, 0, "the folder refuses a run of the benchmark");
         self.fold.clear();
-        self.fold.extend(&self.out[..answer[3] as usize]);
-        (time, answer[4])
+        self.fold.extend(&self.out[..answer[raw::LENGTH] as usize]);
+        (time, answer[raw::COST])
     }
 
     /// Folds it with a form of the report's method.
@@ -71,7 +71,7 @@ impl Bench {
     /// Reads back the fold that was written last, and holds its cost to another's. Answers the fold.
     pub fn check(&mut self, name: &str, run: &[u8], prices: &Prices, cost: u64, other: u64) -> &[u8] {
         assert_eq!(cost, other, "{name}: the methods differ in cost");
-        let read = reference::read_fold(&self.fold, WIDTH, prices);
+        let read = reference::read_fold(&self.fold, MAX_WIDTH, prices);
         assert!(read.refusal == 0 && read.cost == cost, "{name}: the fold does not cost what was said");
         assert!(reference::run_of(&self.fold) == run, "{name}: the fold is not one of the run");
         self.checked += 1;

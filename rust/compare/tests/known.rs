@@ -1,8 +1,9 @@
-//! The known folds and the examples of the numbered refusals, as document 01 lists them, on the library through its safe
-//! interface and on the independent implementation.
+//! Known folds of the format (docs/FORMAT.md) and the examples of docs/REFUSALS.md, on the library through its safe interface and
+//! on the independent implementation.
 
 use compare::reference;
-use runfold::{fold, folded, part, read_fold, read_run, unroll, work_entries, Folding, Prices, Refusal};
+use runfold::Refusal::*;
+use runfold::{fold, folded, part, read_fold, read_run, unroll, work_entries, Prices};
 
 const UNIT: [u16; 256] = [1; 256];
 
@@ -67,7 +68,7 @@ fn longest_runs() {
     assert_eq!(read_run(&run), Ok(1024));
     assert_eq!(folded(&run, 1024, unit), Ok((bytes("20 0400 0001 1001 21"), 2)));
     let over = word("a").repeat(1025);
-    let refused = Refusal { number: 10, place: 2048 };
+    let refused = ManyNodes { place: 2048 };
     assert_eq!(read_run(&over), Err(refused));
     assert_eq!(folded(&over, 1024, unit), Err(refused));
 }
@@ -75,45 +76,40 @@ fn longest_runs() {
 #[test]
 fn numbered_refusals() {
     let unit = prices(1, 0);
-    let refused = |number, place| Err(Refusal { number, place });
-    for (run, number, place) in [
-        (bytes("13"), 1, 0),
-        (bytes("1007 21"), 2, 2),
-        (bytes("1105"), 3, 2),
-        (bytes("12"), 4, 0),
-        (bytes("1105 12"), 5, 2),
-        (bytes("1101").repeat(9), 8, 16),
+    for (run, refusal) in [
+        (bytes("13"), UnknownCommand { place: 0 }),
+        (bytes("1007 21"), RepeatInRun { place: 2 }),
+        (bytes("1105"), Unfinished { place: 2 }),
+        (bytes("12"), WrongClose { place: 0 }),
+        (bytes("1105 12"), EmptyBody { place: 2 }),
+        (bytes("1101").repeat(9), Deep { place: 16 }),
     ] {
-        assert_eq!(read_run(&run), refused(number, place));
-        assert_eq!(reference::read_run(&run).numbers()[..2], [number as u64, place as u64]);
-        assert_eq!(folded(&run, 1024, unit).map(|_| 0), refused(number, place));
+        assert_eq!(read_run(&run), Err(refusal));
+        assert_eq!(reference::read_run(&run).numbers()[..2], [refusal.number() as u64, refusal.place() as u64]);
+        assert_eq!(folded(&run, 1024, unit), Err(refusal));
         assert_eq!(part(&run, 0), []);
     }
-    for (fold, limit, number, place) in [
-        (bytes("20 0001 0001 1007 21"), 1024, 6, 0),
-        (bytes("20 0002 0002 1007 1007 21"), 1, 7, 0),
-        (bytes("20 0002 0002 1007 21"), 1024, 9, 7),
-        (bytes("20 0401 0001 1007 21"), 1024, 10, 7),
-        (bytes("1007"), 1025, 12, 0),
+    for (fold, limit, refusal) in [
+        (bytes("20 0001 0001 1007 21"), 1024, SmallCount { place: 0 }),
+        (bytes("20 0002 0002 1007 1007 21"), 1, Wide { place: 0 }),
+        (bytes("20 0002 0002 1007 21"), 1024, FalseWidth { place: 7 }),
+        (bytes("20 0401 0001 1007 21"), 1024, ManyNodes { place: 7 }),
+        (bytes("1007"), 1025, LimitSize),
     ] {
-        assert_eq!(read_fold(&fold, limit, unit).map(|r| r.nodes), refused(number, place));
-        assert_eq!(unroll(&fold, limit, &mut [0; 64]), refused(number, place));
+        assert_eq!(read_fold(&fold, limit, unit), Err(refusal));
+        assert_eq!(unroll(&fold, limit, &mut [0; 64]), Err(refusal));
     }
     let short = Prices { labels: &UNIT[..255], first: 1, each: 0 };
-    assert_eq!(read_fold(&[], 1025, short).map(|r| r.nodes), refused(11, 0));
-    assert_eq!(folded(&[], 1025, short).map(|_| 0), refused(11, 0));
-    assert_eq!(folded(&[], 1025, unit).map(|_| 0), refused(12, 0));
+    assert_eq!(read_fold(&[], 1025, short), Err(TableSize));
+    assert_eq!(folded(&[], 1025, short), Err(TableSize));
+    assert_eq!(folded(&[], 1025, unit), Err(LimitSize));
     let run = word("aa");
     let mut out = [0; 8];
-    assert_eq!(fold(&run, 1024, unit, &mut [0; 2], &mut [0; 3], &mut out), refused(13, 0).map(none));
-    assert_eq!(fold(&run, 1024, unit, &mut [0; 3], &mut [0; 2], &mut out), refused(13, 0).map(none));
+    assert_eq!(fold(&run, 1024, unit, &mut [0; 2], &mut [0; 3], &mut out), Err(WorkSize));
+    assert_eq!(fold(&run, 1024, unit, &mut [0; 3], &mut [0; 2], &mut out), Err(WorkSize));
     let one = word("a");
-    assert_eq!(fold(&one, 1024, unit, &mut [0; 1], &mut [0; 1], &mut [0; 1]), refused(14, 0).map(none));
+    assert_eq!(fold(&one, 1024, unit, &mut [0; 1], &mut [0; 1], &mut [0; 1]), Err(OutputSize));
     assert_eq!(work_entries(2), 3);
-}
-
-fn none(_: usize) -> Folding {
-    unreachable!()
 }
 
 #[test]

@@ -1,214 +1,139 @@
-//! A safe interface to the run folder: run reader, part of a node, fold reader, unroller and folder.
+//! The run folder. A *run* is a record of steps and nested groups of steps, as bytes. A *fold* is the same run with nested
+//! repeats, priced by label costs and repeat prices. The folder gives the cheapest fold of a run, the fold reader reads a fold
+//! and gives its cost, the unroller gives the run back. `docs/FORMAT.md` has the bytes of both.
 //!
-//! The functions are compiled from proved Rattle code (`crates/embed`). Nothing checks the declarations below against that
-//! source, so they are few and stand in one place, `mod declared`; `include/runfold.h` says the same in C.
+//! ```
+//! use runfold::{folded, unroll, Prices, MAX_WIDTH, RUN_ROOM};
+//!
+//! fn main() -> Result<(), Box<dyn std::error::Error>> {
+//!     // aaa, three steps of label 01. Every label costs 1, and so does a repeat of any count.
+//!     let run = [0x10, 0x01, 0x10, 0x01, 0x10, 0x01];
+//!     let prices = Prices { labels: &[1; 256], first: 1, each: 0 };
+//!
+//!     // A repeat of count 3 and width 1 over one step.
+//!     let (fold, cost) = folded(&run, MAX_WIDTH, prices)?;
+//!     println!("cost {cost}, fold {fold:02X?}");
+//!     assert_eq!(cost, 2);
+//!     assert_eq!(fold, [0x20, 0x00, 0x03, 0x00, 0x01, 0x10, 0x01, 0x21]);
+//!
+//!     let mut back = [0; RUN_ROOM];
+//!     let length = unroll(&fold, MAX_WIDTH, &mut back)?;
+//!     assert_eq!(back[..length], run);
+//!     Ok(())
+//! }
+//! ```
+//!
+//! # What is promised
+//!
+//! The functions behind this crate are compiled from proved Rattle code. Their contracts stand in `crates/embed/src/lib.rt`, and
+//! `docs/CERTIFICATE.md` lists what they promise: every input has an answer, the one that the definitions give; a fold that the
+//! folder writes is a fold of its run, and no other within the width limit is cheaper; of several cheapest it is the one whose
+//! bytes come first; no function reads or writes outside the slices that it is lent.
+//!
+//! The library asks two things of a caller: pointers that are not null, and no overlap of a slice that is written with another.
+//! Both follow from the types here, so every function is safe to call with any arguments. None keeps state, and they may run in
+//! several threads at once. None panics, unless a `librunfold.a` of another version is linked that gives further refusals.
+//!
+//! Not proved are the compilers, the declarations in `src/declared.rs` and this wrapper, which only hands slices over and reads
+//! the answer; `scripts/differential.sh` compares all of it with an independent implementation.
+//!
+//! # Memory
+//!
+//! Only [`folded`] allocates; the crate is `no_std`. [`fold`] is lent its work and its output, [`unroll`] its output, and the
+//! readers need none. `docs/CERTIFICATE.md` says how much stack the folder takes.
+//!
+//! # Linking
+//!
+//! The library is `librunfold.a`, for x86-64 Linux. `scripts/library.sh` proves it and builds it into `target/lib`, where the
+//! build script looks for it; the environment variable `RUNFOLD_LIB_DIR` names another folder, such as that of an installation.
 
-/// The limits of the format.
-pub const NODES: usize = 1024;
-pub const GROUPS: usize = 8;
-pub const REPEATS: usize = 10;
-pub const WIDTH: usize = 1024;
+#![no_std]
+#![warn(missing_docs)]
 
-/// The entries of an answer: refusal, place, nodes, length, cost.
-pub const ENTRIES: usize = 5;
-/// The status where the lent answer is shorter: nothing was read or written.
-pub const SHORT: u8 = 255;
+extern crate alloc;
+
+mod declared;
+pub mod raw;
+mod refusal;
+
+pub use refusal::Refusal;
+
+use alloc::vec;
+use alloc::vec::Vec;
+
+/// The nodes of the longest run.
+pub const MAX_NODES: usize = 1024;
+/// The groups that may be open at a time.
+pub const MAX_GROUPS: usize = 8;
+/// The repeats that may be open at a time in a fold.
+pub const MAX_REPEATS: usize = 10;
+/// The highest width limit. No repeat of 1,024 nodes is wider, so this is no limit at all.
+pub const MAX_WIDTH: usize = 1024;
+
+/// The bytes of the longest run: a node has at most three.
+pub const RUN_ROOM: usize = 3 * MAX_NODES;
+
+/// The bytes that a fold of a run of that many nodes has at most, also where it is longer than the run.
+pub const fn fold_room(nodes: usize) -> usize {
+    4 * nodes
+}
 
 /// The entries that each work slice of the folder needs for a run of that many nodes.
 pub const fn work_entries(nodes: usize) -> usize {
     nodes * (nodes + 1) / 2
 }
 
-mod declared {
-    // A slice passes as a pointer, never null, and its length.
-    extern "C" {
-        pub fn runfold_read_run(run: *const u8, run_len: usize, answer: *mut u64, answer_len: usize) -> u8;
-        pub fn runfold_part(run: *const u8, run_len: usize, at: usize) -> usize;
-        pub fn runfold_read_fold(
-            fold: *const u8,
-            fold_len: usize,
-            limit: usize,
-            table: *const u16,
-            table_len: usize,
-            first: u16,
-            each: u16,
-            answer: *mut u64,
-            answer_len: usize,
-        ) -> u8;
-        pub fn runfold_unroll(
-            fold: *const u8,
-            fold_len: usize,
-            limit: usize,
-            out: *mut u8,
-            out_len: usize,
-            answer: *mut u64,
-            answer_len: usize,
-        ) -> u8;
-        pub fn runfold_fold(
-            run: *const u8,
-            run_len: usize,
-            limit: usize,
-            table: *const u16,
-            table_len: usize,
-            first: u16,
-            each: u16,
-            costs: *mut u32,
-            costs_len: usize,
-            choices: *mut u32,
-            choices_len: usize,
-            out: *mut u8,
-            out_len: usize,
-            answer: *mut u64,
-            answer_len: usize,
-        ) -> u8;
-    }
-}
-
-/// The library's functions as they are, over slices: each leaves five numbers in `answer` and returns the refusal number, or
-/// `SHORT` where `answer` has fewer entries, and then nothing is written anywhere.
-pub mod raw {
-    use super::declared;
-
-    pub fn read_run(run: &[u8], answer: &mut [u64]) -> u8 {
-        // SAFETY: pointers and lengths are those of slices, and the mutable ones overlap nothing, here and below.
-        unsafe { declared::runfold_read_run(run.as_ptr(), run.len(), answer.as_mut_ptr(), answer.len()) }
-    }
-
-    pub fn part(run: &[u8], at: usize) -> usize {
-        unsafe { declared::runfold_part(run.as_ptr(), run.len(), at) }
-    }
-
-    pub fn read_fold(fold: &[u8], limit: usize, table: &[u16], first: u16, each: u16, answer: &mut [u64]) -> u8 {
-        unsafe {
-            declared::runfold_read_fold(
-                fold.as_ptr(),
-                fold.len(),
-                limit,
-                table.as_ptr(),
-                table.len(),
-                first,
-                each,
-                answer.as_mut_ptr(),
-                answer.len(),
-            )
-        }
-    }
-
-    pub fn unroll(fold: &[u8], limit: usize, out: &mut [u8], answer: &mut [u64]) -> u8 {
-        unsafe {
-            declared::runfold_unroll(
-                fold.as_ptr(),
-                fold.len(),
-                limit,
-                out.as_mut_ptr(),
-                out.len(),
-                answer.as_mut_ptr(),
-                answer.len(),
-            )
-        }
-    }
-
-    #[allow(clippy::too_many_arguments)]
-    pub fn fold(
-        run: &[u8],
-        limit: usize,
-        table: &[u16],
-        first: u16,
-        each: u16,
-        costs: &mut [u32],
-        choices: &mut [u32],
-        out: &mut [u8],
-        answer: &mut [u64],
-    ) -> u8 {
-        unsafe {
-            declared::runfold_fold(
-                run.as_ptr(),
-                run.len(),
-                limit,
-                table.as_ptr(),
-                table.len(),
-                first,
-                each,
-                costs.as_mut_ptr(),
-                costs.len(),
-                choices.as_mut_ptr(),
-                choices.len(),
-                out.as_mut_ptr(),
-                out.len(),
-                answer.as_mut_ptr(),
-                answer.len(),
-            )
-        }
-    }
-}
-
-/// A numbered refusal and the place that it names.
-#[derive(Clone, Copy, Debug, PartialEq, Eq)]
-pub struct Refusal {
-    pub number: u8,
-    pub place: usize,
-}
-
-impl Refusal {
-    pub fn name(self) -> &'static str {
-        match self.number {
-            1 => "unknown command",
-            2 => "repeat in a run",
-            3 => "operands missing, or the end with something open",
-            4 => "close of nothing open, or of another kind",
-            5 => "close right after its open",
-            6 => "count 0 or 1",
-            7 => "width operand over the limit",
-            8 => "too many open groups or repeats",
-            9 => "width operand not the true width",
-            10 => "too many nodes",
-            11 => "cost table not of 256 entries",
-            12 => "width limit over 1,024",
-            13 => "a work slice too short",
-            14 => "output shorter than the result",
-            _ => "no refusal",
-        }
-    }
-}
-
-/// What labels and repeats cost: a table of 256 label costs, and `first + each × (count − 2)` for a repeat.
-#[derive(Clone, Copy, Debug)]
+/// What labels and repeats cost.
+#[derive(Clone, Copy, Debug, PartialEq, Eq, Hash)]
 pub struct Prices<'a> {
+    /// The cost of each label, 256 entries; any other number of entries is [`Refusal::TableSize`].
     pub labels: &'a [u16],
+    /// What a repeat of count 2 costs, beside its body.
     pub first: u16,
+    /// What each count more costs: a repeat costs `first + each × (count − 2)`.
     pub each: u16,
 }
 
-/// What the fold reader gives: the nodes and the bytes of the run, and the fold's cost.
-#[derive(Clone, Copy, Debug, PartialEq, Eq)]
+/// What the fold reader gives.
+#[derive(Clone, Copy, Debug, PartialEq, Eq, Hash)]
 pub struct Reading {
+    /// The nodes of the run that the fold unrolls to.
     pub nodes: usize,
+    /// The bytes of that run.
     pub length: usize,
+    /// The fold's cost.
     pub cost: u64,
 }
 
-/// What the folder gives: the length written and the fold's cost.
-#[derive(Clone, Copy, Debug, PartialEq, Eq)]
+/// What the folder gives.
+#[derive(Clone, Copy, Debug, PartialEq, Eq, Hash)]
 pub struct Folding {
+    /// The bytes of the fold, written at the front of the output.
     pub length: usize,
+    /// The fold's cost.
     pub cost: u64,
 }
 
-fn answered(status: u8, answer: &[u64; ENTRIES]) -> Result<(), Refusal> {
-    if status == 0 {
-        return Ok(());
+/// The refusal that a function answered, if any.
+fn answered(status: u8, answer: &[u64; raw::ENTRIES]) -> Result<(), Refusal> {
+    match status {
+        0 => Ok(()),
+        // The contracts allow no number but those of this version.
+        _ => Err(Refusal::numbered(status, answer[raw::PLACE] as usize).expect("librunfold.a is of another version")),
     }
-    Err(Refusal { number: status, place: answer[1] as usize })
 }
 
-/// The number of nodes of a run.
+/// Reads a run and gives the number of its nodes.
+///
+/// Refusals 1 to 5, 8 and 10.
 pub fn read_run(run: &[u8]) -> Result<usize, Refusal> {
-    let mut answer = [0; ENTRIES];
+    let mut answer = [0; raw::ENTRIES];
     answered(raw::read_run(run, &mut answer), &answer)?;
-    Ok(answer[2] as usize)
+    Ok(answer[raw::NODES] as usize)
 }
 
-/// The step or group that starts at an offset, with all it holds; empty where the run is refused or no node starts there.
+/// The part of a node: the bytes of the step or group that starts at the offset `at`, with all it holds. Empty where
+/// [`read_run`] refuses the run or no node starts there.
 pub fn part(run: &[u8], at: usize) -> &[u8] {
     match raw::part(run, at) {
         0 => &[],
@@ -216,23 +141,54 @@ pub fn part(run: &[u8], at: usize) -> &[u8] {
     }
 }
 
-/// Reads a fold at a width limit and prices.
+/// Reads a fold whose widths are at most `limit`, and gives the nodes and the bytes of its run and its cost at these prices.
+///
+/// Refusals 1 and 3 to 12.
 pub fn read_fold(fold: &[u8], limit: usize, prices: Prices) -> Result<Reading, Refusal> {
-    let mut answer = [0; ENTRIES];
+    let mut answer = [0; raw::ENTRIES];
     let status = raw::read_fold(fold, limit, prices.labels, prices.first, prices.each, &mut answer);
     answered(status, &answer)?;
-    Ok(Reading { nodes: answer[2] as usize, length: answer[3] as usize, cost: answer[4] })
+    Ok(Reading { nodes: answer[raw::NODES] as usize, length: answer[raw::LENGTH] as usize, cost: answer[raw::COST] })
 }
 
-/// Writes the run that a fold unrolls to at the front of `out`, and gives its length.
+/// Unrolls a fold whose widths are at most `limit`, and gives the length of its run.
+///
+/// The run then stands at the front of `out`, and what is behind it stays as it was; after a refusal all of `out` does.
+/// [`RUN_ROOM`] bytes are always enough.
+///
+/// Refusals 1, 3 to 10, 12 and 14.
 pub fn unroll(fold: &[u8], limit: usize, out: &mut [u8]) -> Result<usize, Refusal> {
-    let mut answer = [0; ENTRIES];
+    let mut answer = [0; raw::ENTRIES];
     answered(raw::unroll(fold, limit, out, &mut answer), &answer)?;
-    Ok(answer[3] as usize)
+    Ok(answer[raw::LENGTH] as usize)
 }
 
-/// Writes the cheapest fold of a run under a width limit at the front of `out`. Each work slice has at least
-/// `work_entries(nodes)` entries; on success, and where `out` is too short, these are 0 afterwards.
+/// Folds a run: gives the cheapest fold whose widths are at most `limit` and, of several, the one whose bytes come first.
+///
+/// `costs` and `choices` are work, of any contents; each needs [`work_entries`] of the run's nodes. [`fold_room`] of them is
+/// always enough for `out`.
+///
+/// On success the fold stands at the front of `out`, and what is behind it stays as it was; after a refusal all of `out` does.
+/// On success and after refusal 14 the entries of both work slices that the run needs are 0, and those behind them as they
+/// were; after any other refusal all are as they were.
+///
+/// Refusals 1 to 5, 8 and 10 to 14.
+///
+/// ```
+/// use runfold::{fold, fold_room, work_entries, Folding, Prices, Refusal, MAX_WIDTH};
+///
+/// // Room for runs of 100 nodes, without an allocation.
+/// const NODES: usize = 100;
+/// let (mut costs, mut choices) = ([0; work_entries(NODES)], [0; work_entries(NODES)]);
+/// let mut out = [0; fold_room(NODES)];
+///
+/// let run = [0x10, 0x01, 0x10, 0x01, 0x10, 0x01];
+/// let prices = Prices { labels: &[1; 256], first: 1, each: 0 };
+/// let folding = fold(&run, MAX_WIDTH, prices, &mut costs, &mut choices, &mut out)?;
+/// assert_eq!(folding, Folding { length: 8, cost: 2 });
+/// assert_eq!(out[..folding.length], [0x20, 0x00, 0x03, 0x00, 0x01, 0x10, 0x01, 0x21]);
+/// # Ok::<(), Refusal>(())
+/// ```
 pub fn fold(
     run: &[u8],
     limit: usize,
@@ -241,20 +197,22 @@ pub fn fold(
     choices: &mut [u32],
     out: &mut [u8],
 ) -> Result<Folding, Refusal> {
-    let mut answer = [0; ENTRIES];
+    let mut answer = [0; raw::ENTRIES];
     let status = raw::fold(run, limit, prices.labels, prices.first, prices.each, costs, choices, out, &mut answer);
     answered(status, &answer)?;
-    Ok(Folding { length: answer[3] as usize, cost: answer[4] })
+    Ok(Folding { length: answer[raw::LENGTH] as usize, cost: answer[raw::COST] })
 }
 
-/// The cheapest fold of a run, with memory of its own: a fold has at most four bytes a node.
+/// Folds a run as [`fold`] does, in memory of its own, and gives the bytes of the fold and its cost.
+///
+/// Refusals 1 to 5, 8 and 10 to 12.
 pub fn folded(run: &[u8], limit: usize, prices: Prices) -> Result<(Vec<u8>, u64), Refusal> {
     // A refused run needs no memory: the folder below says which refusal comes first.
     let nodes = read_run(run).unwrap_or(0);
     let mut costs = vec![0; work_entries(nodes)];
     let mut choices = vec![0; work_entries(nodes)];
-    let mut out = vec![0; 4 * nodes];
-    let given = fold(run, limit, prices, &mut costs, &mut choices, &mut out)?;
-    out.truncate(given.length);
-    Ok((out, given.cost))
+    let mut out = vec![0; fold_room(nodes)];
+    let folding = fold(run, limit, prices, &mut costs, &mut choices, &mut out)?;
+    out.truncate(folding.length);
+    Ok((out, folding.cost))
 }

@@ -7,10 +7,10 @@ use compare::inputs::bytes_of;
 use compare::inputs::families::{self, Family, Kind, FOUND, SEARCHED};
 use compare::reference::Prices;
 use compare::timing::{price_sets, Bench, Times};
-use runfold::NODES;
+use runfold::MAX_NODES;
 use std::fmt::Write;
 
-const SIZES: [usize; 4] = [128, 256, 512, NODES];
+const SIZES: [usize; 4] = [128, 256, 512, MAX_NODES];
 
 /// The times of a family at one size and price.
 struct Row {
@@ -88,7 +88,7 @@ fn main() {
         }
     }
     let groups = families::all().iter().rposition(|family| family.kind == Kind::Groups).expect("a family of groups");
-    let clearing = bench.clearing(&bytes_of(&families::run(groups, NODES, 0)), &price_sets()[0].1);
+    let clearing = bench.clearing(&bytes_of(&families::run(groups, MAX_NODES, 0)), &price_sets()[0].1);
     println!("\n{}", summary_table(&rows));
     println!("{} folds read back, all costs agree", bench.checked);
     println!("clearing both work slices takes {:.3} ms", clearing * 1e3);
@@ -103,7 +103,7 @@ fn short_table(rows: &[Row]) -> String {
         String::from("| runs of 1,024 nodes | of plain | of transposed | of blocked |\n|---|---:|---:|---:|\n");
     for (name, groups) in [("steps", false), ("groups", true)] {
         let cells = [0, 1, 2].map(|method| {
-            let those = rows.iter().filter(|row| row.nodes == NODES && (row.family.kind == Kind::Groups) == groups);
+            let those = rows.iter().filter(|row| row.nodes == MAX_NODES && (row.family.kind == Kind::Groups) == groups);
             let row = highest(those, |row| row.parts()[method]);
             format!("{:.2} ({}; {})", row.parts()[method], row.family.name, row.prices)
         });
@@ -128,7 +128,7 @@ fn summary_table(rows: &[Row]) -> String {
     for family in families::all() {
         let cells = [0, 1, 2].map(|method| {
             let mut parts: Vec<f64> =
-                rows.iter().filter(|row| row.is_of(family, NODES)).map(|row| row.parts()[method]).collect();
+                rows.iter().filter(|row| row.is_of(family, MAX_NODES)).map(|row| row.parts()[method]).collect();
             parts.sort_by(f64::total_cmp);
             format!("{:.3} to {:.3}", parts[0], parts[parts.len() - 1])
         });
@@ -141,7 +141,7 @@ fn full_table(rows: &[Row]) -> String {
     let mut table = String::from(
         "| run of 1,024 nodes | prices | folder, ms | plain, ms | transposed, ms | blocked, ms | of plain | of transposed | of blocked |\n|---|---|---:|---:|---:|---:|---:|---:|---:|\n",
     );
-    for row in rows.iter().filter(|row| row.nodes == NODES) {
+    for row in rows.iter().filter(|row| row.nodes == MAX_NODES) {
         let [ours, plain, transposed, blocked] = row.times.map(|time| time * 1e3);
         let [a, b, c] = row.parts();
         let _ = writeln!(
@@ -165,7 +165,7 @@ fn growth_table(rows: &[Row]) -> String {
         });
         let powers = [SIZES[0], SIZES[2]].map(|from| match is_found(family) {
             true => "–".to_string(),
-            false => format!("{:.2}", power(rows, family, from, NODES)),
+            false => format!("{:.2}", power(rows, family, from, MAX_NODES)),
         });
         let _ = writeln!(table, "| {} | {} | {} |", family.name, cells.join(" | "), powers.join(" | "));
     }
@@ -181,9 +181,9 @@ fn page_text(date: &str, compiler: &str, rows: &[Row], checked: u64, clearing: f
     let steepest = families::all()
         .into_iter()
         .filter(|family| !is_found(family))
-        .max_by(|a, b| power(rows, a, SIZES[0], NODES).total_cmp(&power(rows, b, SIZES[0], NODES)))
+        .max_by(|a, b| power(rows, a, SIZES[0], MAX_NODES).total_cmp(&power(rows, b, SIZES[0], MAX_NODES)))
         .expect("a family");
-    let found = highest(rows.iter().filter(|row| row.nodes == NODES && is_found(row.family)), |row| row.parts()[2]);
+    let found = highest(rows.iter().filter(|row| row.nodes == MAX_NODES && is_found(row.family)), |row| row.parts()[2]);
     let (seconds, tried) = SEARCHED;
     let thousands = |n: u64| if n < 1000 { n.to_string() } else { format!("{},{:03}", n / 1000, n % 1000) };
     format!(
@@ -255,7 +255,7 @@ shape.
         checked = thousands(checked),
         seconds = thousands(seconds),
         tried = thousands(tried),
-        steepest_power = power(rows, steepest, SIZES[0], NODES),
+        steepest_power = power(rows, steepest, SIZES[0], MAX_NODES),
         steepest_name = steepest.name,
         families = families_table(),
         found_word = found.family.about,
@@ -332,7 +332,7 @@ impl Panel {
             Line { name: "blocked, lowest of these", times: blocked, alone: false, colour: "#222", dash: "6 3" };
         let mut those: Vec<&Family> = families::all().into_iter().filter(|family| family.kind == kind).collect();
         let time = |family: &Family, nodes| slowest(rows, family, nodes).times[0];
-        those.sort_by(|a, b| time(b, NODES).total_cmp(&time(a, NODES)));
+        those.sort_by(|a, b| time(b, MAX_NODES).total_cmp(&time(a, MAX_NODES)));
         let of_family = |(k, family): (usize, &Family)| Line {
             name: family.name,
             times: SIZES.map(|nodes| time(family, nodes)),
@@ -352,7 +352,7 @@ impl Panel {
 
     /// Where a guide ends.
     fn guide(&self, power: i32) -> f64 {
-        self.start() * (NODES as f64 / SIZES[0] as f64).powi(power)
+        self.start() * (MAX_NODES as f64 / SIZES[0] as f64).powi(power)
     }
 
     fn draw(&self, svg: &mut String, corner: (f64, f64), (low, high): (f64, f64)) {

@@ -10,7 +10,7 @@ use compare::inputs::families::steps;
 use compare::inputs::{bytes_of, notation, word, Random};
 use compare::reference::{decode, Prices};
 use compare::timing::{price_sets, Bench};
-use runfold::NODES;
+use runfold::MAX_NODES;
 use std::time::Instant;
 
 /// No word has more blocks, so that it can be read.
@@ -50,7 +50,7 @@ fn random_block(r: &mut Random, labels: usize, room: usize) -> Block {
 fn random_start(r: &mut Random) -> Blocks {
     let labels = 2 + r.below(2);
     let times = 1 + r.below(4);
-    let room = NODES / times;
+    let room = MAX_NODES / times;
     let few: Blocks = (0..1 + r.below(4)).map(|_| random_block(r, labels, room)).collect();
     let mut blocks = vec![few; times].concat();
     fit(r, &mut blocks);
@@ -75,7 +75,7 @@ fn changed(r: &mut Random, blocks: &[Block]) -> Blocks {
             let parts = [(word.clone(), before), (slip, 1), (word, count - before - 1)];
             new.splice(at..=at, parts.map(|(word, count)| Block { word, count }));
         }
-        2 => new.insert(at, random_block(r, 3, NODES / 2)),
+        2 => new.insert(at, random_block(r, 3, MAX_NODES / 2)),
         3 => {
             new.remove(at);
         }
@@ -126,22 +126,22 @@ fn fit(r: &mut Random, blocks: &mut Blocks) {
             same
         });
         let sum: usize = blocks.iter().map(Block::letters).sum();
-        if sum == NODES {
+        if sum == MAX_NODES {
             return;
         }
         if blocks.is_empty() {
-            blocks.push(Block { word: vec![1], count: NODES });
+            blocks.push(Block { word: vec![1], count: MAX_NODES });
             continue;
         }
         let at = r.below(blocks.len());
         let length = blocks[at].word.len();
-        if sum > NODES {
-            let fewer = (sum - NODES).div_ceil(length).min(blocks[at].count);
+        if sum > MAX_NODES {
+            let fewer = (sum - MAX_NODES).div_ceil(length).min(blocks[at].count);
             blocks[at].count -= fewer;
-        } else if NODES - sum >= length {
-            blocks[at].count += (NODES - sum) / length;
+        } else if MAX_NODES - sum >= length {
+            blocks[at].count += (MAX_NODES - sum) / length;
         } else {
-            let word = blocks[at].word[..NODES - sum].to_vec();
+            let word = blocks[at].word[..MAX_NODES - sum].to_vec();
             blocks.insert(at + 1, Block { word, count: 1 });
         }
     }
@@ -228,7 +228,7 @@ impl Climber {
         let (run, unit) = (bytes_of(&steps(letters.clone())), &price_sets()[0].1);
         let (_, cost) = self.bench.ours(&run, unit);
         let text = notation(&decode(self.bench.check("climb", &run, unit, cost, cost)));
-        assert!(word(&text, NODES) == letters, "{text} is another word");
+        assert!(word(&text, MAX_NODES) == letters, "{text} is another word");
         text
     }
 }

@@ -5,7 +5,8 @@
 
 use compare::inputs::{self, depth, Random};
 use compare::reference::{self, Answer, Item, Prices, Solved};
-use runfold::{raw, work_entries, ENTRIES, SHORT};
+use runfold::raw::{self, ENTRIES, SHORT};
+use runfold::work_entries;
 use std::fmt::Write;
 use std::process::exit;
 use std::time::Instant;

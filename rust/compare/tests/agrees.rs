@@ -1,0 +1,75 @@
+//! The wrapper has the refusals and limits of the C header, under the same names, and says a refusal's condition in the words of
+//! docs/REFUSALS.md.
+
+use runfold::{fold_room, raw, work_entries, Refusal};
+
+const HEADER: &str = include_str!("../../../include/runfold.h");
+const REFUSALS: &str = include_str!("../../../docs/REFUSALS.md");
+
+/// What the header gives a name, in an enum or by `#define`, where it is a number.
+fn in_header(name: &str) -> Option<u64> {
+    HEADER.lines().find_map(|line| {
+        let mut words = line.split([' ', '=', ',']).filter(|word| !word.is_empty() && *word != "#define");
+        (words.next() == Some(name)).then(|| words.next()?.parse().ok())?
+    })
+}
+
+/// The header's name of a variant: `UnknownCommand` is `RUNFOLD_UNKNOWN_COMMAND`.
+fn header_name(refusal: Refusal) -> String {
+    let shown = format!("{refusal:?}");
+    let variant = shown.split(' ').next().expect("a name");
+    variant.chars().fold("RUNFOLD".to_string(), |mut name, c| {
+        if c.is_uppercase() {
+            name.push('_');
+        }
+        name.push(c.to_ascii_uppercase());
+        name
+    })
+}
+
+/// The refusals that there are.
+fn refusals() -> impl Iterator<Item = Refusal> {
+    (0..=u8::MAX).filter_map(|number| Refusal::numbered(number, 7))
+}
+
+#[test]
+fn refusals_are_named_as_in_the_header() {
+    for refusal in refusals() {
+        assert_eq!(in_header(&header_name(refusal)), Some(refusal.number() as u64), "{}", header_name(refusal));
+    }
+    assert_eq!(in_header("RUNFOLD_SHORT"), Some(raw::SHORT as u64));
+}
+
+#[test]
+fn limits_and_entries_are_as_in_the_header() {
+    for (name, value) in [
+        ("RUNFOLD_MAX_NODES", runfold::MAX_NODES),
+        ("RUNFOLD_MAX_GROUPS", runfold::MAX_GROUPS),
+        ("RUNFOLD_MAX_REPEATS", runfold::MAX_REPEATS),
+        ("RUNFOLD_MAX_WIDTH", runfold::MAX_WIDTH),
+        ("RUNFOLD_ENTRIES", raw::ENTRIES),
+        ("RUNFOLD_REFUSAL", raw::REFUSAL),
+        ("RUNFOLD_PLACE", raw::PLACE),
+        ("RUNFOLD_NODES", raw::NODES),
+        ("RUNFOLD_LENGTH", raw::LENGTH),
+        ("RUNFOLD_COST", raw::COST),
+    ] {
+        assert_eq!(in_header(name), Some(value as u64), "{name}");
+    }
+    assert_eq!((work_entries(1024), fold_room(1024), runfold::RUN_ROOM), (524_800, 4096, 3072));
+}
+
+#[test]
+fn refusals_are_worded_as_in_the_table() {
+    let mut listed = 0;
+    for line in REFUSALS.lines() {
+        let cells: Vec<&str> = line.split('|').map(str::trim).collect();
+        let Some(number) = cells.get(1).and_then(|cell| cell.parse().ok()) else { continue };
+        let refusal = Refusal::numbered(number, 7).expect("a refusal of the table");
+        // Only a command has a place.
+        let place = if cells[3] == "0" { 0 } else { 7 };
+        assert_eq!(refusal.to_string(), format!("refused {number} at {place}: {}", cells[2].replace('`', "")));
+        listed += 1;
+    }
+    assert_eq!(listed, refusals().count());
+}

@@ -1,0 +1,45 @@
+//! The functions of the static library. Nothing checks these declarations against the proved source (`crates/embed`), so they
+//! stand in one place; `include/runfold.h` says the same in C.
+
+// A slice passes as a pointer, never null, and its length.
+extern "C" {
+    pub fn runfold_read_run(run: *const u8, run_len: usize, answer: *mut u64, answer_len: usize) -> u8;
+    pub fn runfold_part(run: *const u8, run_len: usize, at: usize) -> usize;
+    pub fn runfold_read_fold(
+        fold: *const u8,
+        fold_len: usize,
+        limit: usize,
+        table: *const u16,
+        table_len: usize,
+        first: u16,
+        each: u16,
+        answer: *mut u64,
+        answer_len: usize,
+    ) -> u8;
+    pub fn runfold_unroll(
+        fold: *const u8,
+        fold_len: usize,
+        limit: usize,
+        out: *mut u8,
+        out_len: usize,
+        answer: *mut u64,
+        answer_len: usize,
+    ) -> u8;
+    pub fn runfold_fold(
+        run: *const u8,
+        run_len: usize,
+        limit: usize,
+        table: *const u16,
+        table_len: usize,
+        first: u16,
+        each: u16,
+        costs: *mut u32,
+        costs_len: usize,
+        choices: *mut u32,
+        choices_len: usize,
+        out: *mut u8,
+        out_len: usize,
+        answer: *mut u64,
+        answer_len: usize,
+    ) -> u8;
+}

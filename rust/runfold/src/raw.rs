@@ -1,0 +1,110 @@
+//! The library's functions as they are, over slices: each leaves five numbers in `answer` and returns the refusal number, 0 for
+//! success. They are for callers who want the five numbers themselves; the functions of the crate's root say the same in types.
+//!
+//! `answer` has at least [`ENTRIES`] entries. The first five are then written, 0 where a function has no such value and after a
+//! refusal (but for its number and place), and the others stay as they are. Where `answer` has fewer entries the function
+//! returns [`SHORT`], and nothing is written anywhere.
+
+use crate::declared;
+
+/// The entries of an answer.
+pub const ENTRIES: usize = 5;
+/// Where the refusal number stands in an answer, 0 for success.
+pub const REFUSAL: usize = 0;
+/// Where the place of a refusal stands: an offset in the input, 0 for refusals 11 to 14 and on success.
+pub const PLACE: usize = 1;
+/// Where the nodes of the run stand (run reader, fold reader).
+pub const NODES: usize = 2;
+/// Where a length stands: of the run that a fold unrolls to (fold reader), or of what was written (unroller, folder).
+pub const LENGTH: usize = 3;
+/// Where the cost of a fold stands (fold reader, folder).
+pub const COST: usize = 4;
+
+/// What a function returns where `answer` has fewer than [`ENTRIES`] entries. No refusal has this number.
+pub const SHORT: u8 = 255;
+
+// SAFETY, of every call below: each pointer and length is that of a slice, which is never null, and a slice that is written is
+// borrowed mutably, so it overlaps no other. The library asks for nothing else.
+
+/// The run reader: as [`read_run`](crate::read_run), with [`NODES`] in the answer.
+pub fn read_run(run: &[u8], answer: &mut [u64]) -> u8 {
+    // SAFETY: see above.
+    unsafe { declared::runfold_read_run(run.as_ptr(), run.len(), answer.as_mut_ptr(), answer.len()) }
+}
+
+/// The length of the part of a node: as [`part`](crate::part), which gives its bytes. 0 where the run is refused or no node
+/// starts at `at`.
+pub fn part(run: &[u8], at: usize) -> usize {
+    // SAFETY: see above.
+    unsafe { declared::runfold_part(run.as_ptr(), run.len(), at) }
+}
+
+/// The fold reader: as [`read_fold`](crate::read_fold), with [`NODES`], [`LENGTH`] and [`COST`] in the answer. `table` has the
+/// label costs.
+pub fn read_fold(fold: &[u8], limit: usize, table: &[u16], first: u16, each: u16, answer: &mut [u64]) -> u8 {
+    // SAFETY: see above.
+    unsafe {
+        declared::runfold_read_fold(
+            fold.as_ptr(),
+            fold.len(),
+            limit,
+            table.as_ptr(),
+            table.len(),
+            first,
+            each,
+            answer.as_mut_ptr(),
+            answer.len(),
+        )
+    }
+}
+
+/// The unroller: as [`unroll`](crate::unroll), with [`LENGTH`] in the answer.
+pub fn unroll(fold: &[u8], limit: usize, out: &mut [u8], answer: &mut [u64]) -> u8 {
+    // SAFETY: see above.
+    unsafe {
+        declared::runfold_unroll(
+            fold.as_ptr(),
+            fold.len(),
+            limit,
+            out.as_mut_ptr(),
+            out.len(),
+            answer.as_mut_ptr(),
+            answer.len(),
+        )
+    }
+}
+
+/// The folder: as [`fold`](crate::fold), with [`LENGTH`] and [`COST`] in the answer. `table` has the label costs.
+#[allow(clippy::too_many_arguments)] // The C function has them.
+pub fn fold(
+    run: &[u8],
+    limit: usize,
+    table: &[u16],
+    first: u16,
+    each: u16,
+    costs: &mut [u32],
+    choices: &mut [u32],
+    out: &mut [u8],
+    answer: &mut [u64],
+) -> u8 {
+    // SAFETY: see above.
+    unsafe {
+        declared::runfold_fold(
+            run.as_ptr(),
+            run.len(),
+            limit,
+            table.as_ptr(),
+            table.len(),
+            first,
+            each,
+            costs.as_mut_ptr(),
+            costs.len(),
+            choices.as_mut_ptr(),
+            choices.len(),
+            out.as_mut_ptr(),
+            out.len(),
+            answer.as_mut_ptr(),
+            answer.len(),
+        )
+    }
+}
