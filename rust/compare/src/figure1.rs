@@ -138,15 +138,11 @@ impl Tables {
         }
         let width = if self.method == Method::Plain {
             let kind = self.kind(i, j);
-            if kind >> 16 == 1 {
-                kind & 0xFFFF
-            } else {
-                0
-            }
+            (kind >> 16 == 1).then_some(kind & 0xFFFF)
         } else {
             self.repeat_at(nodes, prices, i, j)
         };
-        if width > 0 {
+        if let Some(width) = width {
             out.push(0x20);
             out.extend((((j - i + 1) / width) as u16).to_be_bytes());
             out.extend((width as u16).to_be_bytes());
@@ -163,17 +159,15 @@ impl Tables {
         self.construct(nodes, prices, cut + 1, j, out);
     }
 
-    /// The width at which the letters i to j are cheapest as one repeat, 0 where they are not.
-    fn repeat_at(&self, nodes: &Nodes, prices: &Prices, i: usize, j: usize) -> usize {
+    /// The width at which the letters i to j are cheapest as one repeat, if they are.
+    fn repeat_at(&self, nodes: &Nodes, prices: &Prices, i: usize, j: usize) -> Option<usize> {
         let d = j - i + 1;
-        (1..=d / 2)
-            .find(|&w| {
-                let price = prices.first as u32 + prices.each as u32 * (d / w - 2) as u32;
-                d % w == 0
-                    && self.length(i, i + w - 1) + price == self.length(i, j)
-                    && nodes.labels[i..=j - w] == nodes.labels[i + w..=j]
-            })
-            .unwrap_or(0)
+        (1..=d / 2).find(|&w| {
+            let price = prices.first as u32 + prices.each as u32 * (d / w - 2) as u32;
+            d.is_multiple_of(w)
+                && self.length(i, i + w - 1) + price == self.length(i, j)
+                && nodes.labels[i..=j - w] == nodes.labels[i + w..=j]
+        })
     }
 }
 

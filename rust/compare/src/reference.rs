@@ -1,6 +1,6 @@
-//! An independent implementation, to compare the library with: readers, unroller and folder, written from the document that
-//! fixes the bytes and from the report, and not from the Rattle code. It is plain and slow. The folder is the report's
-//! dynamic programme over the intervals of each sequence; ties are settled by comparing the bytes of whole folds.
+//! An independent implementation, to compare the library with: readers, unroller and folder, written from the rules of
+//! docs/FORMAT.md and from the report, and not from the Rattle code. It is plain and slow. The folder is the report's dynamic
+//! programme over the intervals of each sequence; ties are settled by comparing the bytes of whole folds.
 
 use std::cmp::Ordering;
 
@@ -422,7 +422,7 @@ fn cheapest_stretch(
     let (left, right) = split.unwrap();
     let mut found = (lowest, [left, right].concat());
     for width in 1..=limit.min(d / 2) {
-        if d % width == 0 && (width..d).all(|k| nodes[i + k] == nodes[i + k - width]) {
+        if d.is_multiple_of(width) && (width..d).all(|k| nodes[i + k] == nodes[i + k - width]) {
             let count = d / width;
             let (body_cost, body) = &best[i][width - 1];
             let mut bytes = vec![0x20];

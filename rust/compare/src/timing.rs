@@ -24,9 +24,8 @@ pub struct Bench {
     pub checked: usize,
 }
 
-impl Bench {
-    #[allow(clippy::new_without_default)]
-    pub fn new() -> Bench {
+impl Default for Bench {
+    fn default() -> Bench {
         let entries = work_entries(MAX_NODES);
         Bench {
             costs: vec![0; entries],
@@ -37,7 +36,9 @@ impl Bench {
             checked: 0,
         }
     }
+}
 
+impl Bench {
     /// Folds a run with the library: the time and the cost.
     pub fn ours(&mut self, run: &[u8], prices: &Prices) -> (f64, u64) {
         let mut answer = [0; raw::ENTRIES];

@@ -71,7 +71,7 @@ fn measure(bench: &mut Bench, which: usize, nodes: usize, prices: &Prices) -> Ti
 fn main() {
     let args: Vec<String> = std::env::args().skip(1).collect();
     let [page, plot, date, compiler] = &args[..] else { panic!("usage: benchmark PAGE PLOT DATE COMPILER") };
-    let mut bench = Bench::new();
+    let mut bench = Bench::default();
     let mut rows = Vec::new();
     for (which, family) in families::all().into_iter().enumerate() {
         for nodes in SIZES {

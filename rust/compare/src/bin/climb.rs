@@ -3,7 +3,7 @@
 //! of a few rounds in processor time. What is tried follows from the seed and from the times. Every cost is compared, and every
 //! fold is read back and unrolled. The last lines it prints are those of the list in rust/compare/src/inputs.rs.
 //!
-//! Usage: climb SECONDS [SEED]
+//! Usage: `climb SECONDS [SEED]`
 
 use compare::figure1::Method;
 use compare::inputs::families::steps;
@@ -240,7 +240,7 @@ fn main() {
         [seconds, seed] => (seconds, seed),
         _ => panic!("usage: climb SECONDS [SEED]"),
     };
-    let mut climber = Climber { bench: Bench::new(), tried: 0 };
+    let mut climber = Climber { bench: Bench::default(), tried: 0 };
     let sets = price_sets();
     let mut list = String::new();
     for (k, (name, prices)) in sets.iter().enumerate() {

@@ -1,7 +1,7 @@
 //! Compares the library with the independent implementation on many inputs, short and long, sound and damaged. Every answer,
 //! every byte of the lent output and every entry of the lent work is compared, also those that a call must leave alone.
 //!
-//! Usage: differential [SEED [SCALE]]. One seed and scale give one run. The first difference ends it and prints its input.
+//! Usage: `differential [SEED [SCALE]]`. One seed and scale give one run. The first difference ends it and prints its input.
 
 use compare::inputs::{self, depth, Random};
 use compare::reference::{self, Answer, Item, Prices, Solved};
