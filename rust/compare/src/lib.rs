@@ -1,8 +1,12 @@
-//! What the comparisons and the benchmark share: the independent implementation, the inputs, the report's method and the timing.
+//! What the comparisons and the benchmark share: the independent implementation, the inputs, the report's method, the timing,
+//! and the benchmark's page and plot.
 
 #[cfg(feature = "benchmark")]
 pub mod figure1;
 pub mod inputs;
+pub mod measured;
+pub mod page;
+pub mod plot;
 pub mod reference;
 #[cfg(feature = "benchmark")]
 pub mod timing;

@@ -3,14 +3,12 @@
 
 use crate::figure1::{seconds, Method, Tables};
 use crate::inputs::Random;
+use crate::measured::Times;
 use crate::reference::{self, Prices};
 use runfold::{fold_room, raw, work_entries, MAX_NODES, MAX_WIDTH};
 
 /// The report's method in the order of their times.
 pub const METHODS: [Method; 3] = [Method::Plain, Method::Transposed, Method::Blocked];
-
-/// The times of one run in seconds: ours, plain, transposed, blocked.
-pub type Times = [f64; 4];
 
 /// The memory of all methods, allocated once.
 pub struct Bench {
