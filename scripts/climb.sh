@@ -1,6 +1,6 @@
 #!/usr/bin/env bash
-# Looks for runs on which the folder takes the largest part of *blocked*'s time, and prints them with the list of found runs that
-# stands in rust/compare/src/inputs.rs, to be pasted there.
+# Looks for runs on which the folder takes the largest part of *blocked*'s time, and prints them with the list of found runs
+# that stands in rust/compare/src/inputs.rs, to be pasted there.
 # Usage: scripts/climb.sh [SECONDS [SEED]]   all prices together
 set -euo pipefail
 cd "$(dirname "$0")/.."

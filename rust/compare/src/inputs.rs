@@ -411,8 +411,8 @@ pub mod families {
         begun(Powers, "three long powers, slips", "(a^(2n/9) b a^(n/9))^n"),
     ];
 
-    /// The slowest run that the climber found at each price. To make it again: `scripts/climb.sh SECONDS`, whose last lines take
-    /// the place of this constant and the next one.
+    /// The slowest run that the climber found at each price. To make it again: `scripts/climb.sh SECONDS`, whose last lines
+    /// take the place of this constant and the next one.
     pub const FOUND: &[Family] = &[
         begun(Powers, "found, unit", "(accb)^254 caaccbac"),
         begun(Powers, "found, first 0, each 0", "(aabb)^251 (aab)^3 baacabbaabb"),

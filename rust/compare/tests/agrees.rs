@@ -1,5 +1,5 @@
-//! The wrapper has the refusals and limits of the C header, under the same names, and says a refusal's condition in the words of
-//! docs/REFUSALS.md.
+//! The wrapper has the refusals and limits of the C header, under the same names, and says a refusal's condition in the words
+//! of docs/REFUSALS.md.
 
 use runfold::{fold_room, raw, work_entries, Refusal};
 

@@ -1,5 +1,5 @@
-//! Known folds of the format (docs/FORMAT.md) and the examples of docs/REFUSALS.md, on the library through its safe interface and
-//! on the independent implementation.
+//! Known folds of the format (docs/FORMAT.md) and the examples of docs/REFUSALS.md, on the library through its safe interface
+//! and on the independent implementation.
 
 use compare::reference;
 use runfold::Refusal::*;

@@ -25,10 +25,11 @@
 //!
 //! # What is promised
 //!
-//! The functions behind this crate are compiled from proved Rattle code. Their contracts stand in `crates/embed/src/lib.rt`, and
-//! `docs/CERTIFICATE.md` lists what they promise: every input has an answer, the one that the definitions give; a fold that the
-//! folder writes is a fold of its run, and no other within the width limit is cheaper; of several cheapest it is the one whose
-//! bytes come first; no function reads or writes outside the slices that it is lent.
+//! The functions behind this crate are compiled from proved Rattle code. Their contracts stand in `crates/embed/src/lib.rt`,
+//! their proofs in `crates/embed/proofs` and the crates below it, and `docs/CERTIFICATE.md` lists what they promise: every
+//! input has an answer, the one that the definitions give; a fold that the folder writes is a fold of its run, and no other
+//! within the width limit is cheaper; of several cheapest it is the one whose bytes come first; no function reads or writes
+//! outside the slices that it is lent.
 //!
 //! The library asks two things of a caller: pointers that are not null, and no overlap of a slice that is written with another.
 //! Both follow from the types here, so every function is safe to call with any arguments. None keeps state, and they may run in

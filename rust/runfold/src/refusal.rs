@@ -83,8 +83,8 @@ pub enum Refusal {
 use Refusal::*;
 
 impl Refusal {
-    /// The refusal of a number and a place, as the functions of [`raw`](crate::raw) answer them; none for 0 and for numbers that
-    /// this version does not know. 11 to 14 have no place.
+    /// The refusal of a number and a place, as the functions of [`raw`](crate::raw) answer them; none for 0 and for numbers
+    /// that this version does not know. 11 to 14 have no place.
     pub const fn numbered(number: u8, place: usize) -> Option<Refusal> {
         Some(match number {
             1 => UnknownCommand { place },
