@@ -1,12 +1,14 @@
 //! The folder beside the report's method, in one run on the same inputs: Figure 1 as it stands, with a transposed copy, and in
 //! blocks. Every cost is compared, and every fold is read back and unrolled. Prints the times and writes a page and a plot.
 //!
-//! Usage: benchmark PAGE PLOT DATE COMPILER
+//! Usage: `benchmark PAGE PLOT DATE CODES`, where CODES is a file with a line for each code that is measured: name, compiler,
+//! flags, and how many of its instructions name a vector register of 16, 32 and 64 bytes, between bars.
 
 use compare::inputs::bytes_of;
 use compare::inputs::families::{self, Kind};
+use compare::machine::machine;
 use compare::measured::{Row, Times, SIZES};
-use compare::page::{page_text, summary_table};
+use compare::page::{page_text, summary_table, Code, Results};
 use compare::plot::plot_text;
 use compare::reference::Prices;
 use compare::timing::{price_sets, Bench};
@@ -30,7 +32,9 @@ fn measure(bench: &mut Bench, which: usize, nodes: usize, prices: &Prices) -> Ti
 
 fn main() {
     let args: Vec<String> = std::env::args().skip(1).collect();
-    let [page, plot, date, compiler] = &args[..] else { panic!("usage: benchmark PAGE PLOT DATE COMPILER") };
+    let [page, plot, date, codes] = &args[..] else { panic!("usage: benchmark PAGE PLOT DATE CODES") };
+    let codes = std::fs::read_to_string(codes).expect("the file of codes is read");
+    let codes: Vec<Code> = codes.lines().map(|line| Code::new(line).expect("a line of the file of codes")).collect();
     let mut bench = Bench::default();
     let mut rows = Vec::new();
     for (which, family) in families::all().into_iter().enumerate() {
@@ -52,7 +56,8 @@ fn main() {
     println!("\n{}", summary_table(&rows));
     println!("{} folds read back, all costs agree", bench.checked);
     println!("clearing both work slices takes {:.3} ms", clearing * 1e3);
-    let text = page_text(date, compiler, &rows, bench.checked as u64, clearing);
-    std::fs::write(page, text).expect("the page is written");
+    let machine = &machine();
+    let results = Results { date, machine, codes: &codes, rows: &rows, checked: bench.checked as u64, clearing };
+    std::fs::write(page, page_text(&results)).expect("the page is written");
     std::fs::write(plot, plot_text(&rows)).expect("the plot is written");
 }
