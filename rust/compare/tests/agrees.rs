@@ -47,6 +47,7 @@ fn limits_and_entries_are_as_in_the_header() {
         ("RUNFOLD_MAX_GROUPS", runfold::MAX_GROUPS),
         ("RUNFOLD_MAX_REPEATS", runfold::MAX_REPEATS),
         ("RUNFOLD_MAX_WIDTH", runfold::MAX_WIDTH),
+        ("RUNFOLD_MAX_RUN", runfold::RUN_ROOM),
         ("RUNFOLD_ENTRIES", raw::ENTRIES),
         ("RUNFOLD_REFUSAL", raw::REFUSAL),
         ("RUNFOLD_PLACE", raw::PLACE),
@@ -56,7 +57,7 @@ fn limits_and_entries_are_as_in_the_header() {
     ] {
         assert_eq!(in_header(name), Some(value as u64), "{name}");
     }
-    assert_eq!((work_entries(1024), fold_room(1024), runfold::RUN_ROOM), (524_800, 4096, 3072));
+    assert_eq!((work_entries(1024), fold_room(1024)), (524_800, 4096));
 }
 
 #[test]

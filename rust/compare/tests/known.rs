@@ -1,5 +1,5 @@
-//! Known folds of the format (docs/FORMAT.md) and the examples of docs/REFUSALS.md, on the library through its safe interface
-//! and on the independent implementation.
+//! The known folds of docs/FORMAT.md and the examples of docs/REFUSALS.md, on the library through its safe interface and on the
+//! independent implementation.
 
 use compare::reference;
 use runfold::Refusal::*;
@@ -58,7 +58,9 @@ fn folds_that_a_habit_misses() {
     check(&word("abbcaabbca"), 4, unit, &word("abbcaabbca"), 10);
     let half = [bytes("20 0002 0005"), word("abaab"), vec![0x21]].concat();
     check(&word("abaababaab"), 1024, unit, &half, 6);
-    assert!(folded(&word("abaababaabbaab"), 1024, unit).unwrap().1 <= 9);
+    let [first, second] = [("20 0002 0003", "aba"), ("20 0002 0004", "baab")]
+        .map(|(open, body)| [bytes(open), word(body), vec![0x21]].concat());
+    check(&word("abaababaabbaab"), 1024, unit, &[first, second].concat(), 9);
 }
 
 #[test]

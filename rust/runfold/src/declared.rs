@@ -1,7 +1,7 @@
 //! The functions of the static library. Nothing checks these declarations against the proved source (`crates/embed`), so they
 //! stand in one place; `include/runfold.h` says the same in C.
 
-// A slice passes as a pointer, never null, and its length.
+// A slice passes as a pointer and its length.
 extern "C" {
     pub fn runfold_read_run(run: *const u8, run_len: usize, answer: *mut u64, answer_len: usize) -> u8;
     pub fn runfold_part(run: *const u8, run_len: usize, at: usize) -> usize;

@@ -31,9 +31,9 @@
 //! within the width limit is cheaper; of several cheapest it is the one whose bytes come first; no function reads or writes
 //! outside the slices that it is lent.
 //!
-//! The library asks two things of a caller: pointers that are not null, and no overlap of a slice that is written with another.
-//! Both follow from the types here, so every function is safe to call with any arguments. None keeps state, and they may run in
-//! several threads at once. None panics, unless a `librunfold.a` of another version is linked that gives further refusals.
+//! The library asks one thing of a caller: a slice that is written overlaps no other. That follows from the types here, so
+//! every function is safe to call with any arguments. None keeps state, and they may run in several threads at once. None
+//! panics, unless a `librunfold.a` of another version is linked that gives further refusals.
 //!
 //! Not proved are the compilers, the declarations in `src/declared.rs` and this wrapper, which only hands slices over and reads
 //! the answer; `scripts/differential.sh` compares all of it with an independent implementation.
@@ -41,7 +41,7 @@
 //! # Memory
 //!
 //! Only [`folded`] allocates; the crate is `no_std`. [`fold`] is lent its work and its output, [`unroll`] its output, and the
-//! readers need none. `docs/CERTIFICATE.md` says how much stack the folder takes.
+//! readers need none. `docs/CERTIFICATE.md` says how much stack each function takes, as measured.
 //!
 //! # Linking
 //!
@@ -71,7 +71,7 @@ pub const MAX_REPEATS: usize = 10;
 /// The highest width limit. No repeat of 1,024 nodes is wider, so this is no limit at all.
 pub const MAX_WIDTH: usize = 1024;
 
-/// The bytes of the longest run: a node has at most three.
+/// The bytes that a run has at most, three a node: room for whatever the unroller writes.
 pub const RUN_ROOM: usize = 3 * MAX_NODES;
 
 /// The bytes that a fold of a run of that many nodes has at most, also where it is longer than the run.

@@ -23,8 +23,8 @@ pub const COST: usize = 4;
 /// What a function returns where `answer` has fewer than [`ENTRIES`] entries. No refusal has this number.
 pub const SHORT: u8 = 255;
 
-// SAFETY, of every call below: each pointer and length is that of a slice, which is never null, and a slice that is written is
-// borrowed mutably, so it overlaps no other. The library asks for nothing else.
+// SAFETY, of every call below: each pointer and length is that of a slice, and a slice that is written is borrowed mutably,
+// so it overlaps no other. The library asks for nothing else.
 
 /// The run reader: as [`read_run`](crate::read_run), with [`NODES`] in the answer.
 pub fn read_run(run: &[u8], answer: &mut [u64]) -> u8 {
