@@ -1,17 +1,19 @@
 /* The run folder for C and C++: run reader, part of a node, fold reader, unroller and folder.
  *
- * The functions are those of the crate `embed`, proved. scripts/library.sh builds target/lib/librunfold.a (x86-64 Linux), and
- * scripts/install.sh installs it with this header. Build a program with one of
+ * For C99 or C++11 and later. The functions are those of the crate `embed`, proved. scripts/library.sh builds
+ * target/lib/librunfold.a (x86-64 Linux), and scripts/install.sh installs it with this header. Build a program with one of
  *
  *     cc YOURS.c $(pkg-config --cflags --libs runfold)
  *     cc -Iinclude YOURS.c target/lib/librunfold.a
  *
- * A call, for a run of at most 3 nodes; examples/ has whole programs:
+ * A call, for a run of at most 3 nodes; examples/ has whole programs, docs/FORMAT.md the bytes of runs and folds:
  *
- *     uint32_t costs[RUNFOLD_WORK(3)], choices[RUNFOLD_WORK(3)];
+ *     const uint8_t run[] = {0x10, 0x01, 0x10, 0x01, 0x10, 0x01};
+ *     uint16_t table[256];                                          (what each label costs, and a repeat: first 1, each 0)
+ *     uint32_t costs[RUNFOLD_WORK(3)], choices[RUNFOLD_WORK(3)];    (work; for long runs better not on the stack)
  *     uint8_t out[RUNFOLD_ROOM(3)];
  *     uint64_t answer[RUNFOLD_ENTRIES];
- *     uint8_t refusal = runfold_fold(run, run_len, RUNFOLD_MAX_WIDTH, table, 256, first, each, costs, RUNFOLD_WORK(3), choices,
+ *     uint8_t refusal = runfold_fold(run, sizeof run, RUNFOLD_MAX_WIDTH, table, 256, 1, 0, costs, RUNFOLD_WORK(3), choices,
  *                                    RUNFOLD_WORK(3), out, sizeof out, answer, RUNFOLD_ENTRIES);
  *     if (refusal != RUNFOLD_OK)
  *         puts(runfold_refusal_text(refusal));
@@ -22,16 +24,16 @@
  * call takes.
  *
  * Slices. A slice passes as a pointer and a number of entries. One of 0 entries may have a null pointer, for nothing is read or
- * written there; that of `table` is answered with refusal 11, that of `answer` with RUNFOLD_SHORT. A slice that is written
- * (`out`, `costs`, `choices`, `answer`) overlaps no other slice of the call. Nothing else is asked of a caller: every input has
- * a defined answer.
+ * written there; that of `table` is answered with refusal 11, that of `answer` with RUNFOLD_SHORT. Any other points to so many
+ * entries, aligned for their type. A slice that is written (`out`, `costs`, `choices`, `answer`) overlaps no other slice of the
+ * call. Nothing else is asked of a caller: every input has a defined answer.
  *
  * Answers. `answer` has at least RUNFOLD_ENTRIES entries. The first five are then written, 0 where a function has no such
  * value, and the others stay as they are:
  *
  *     answer[RUNFOLD_REFUSAL]   refusal number, 0 for success
  *     answer[RUNFOLD_PLACE]     place of the refusal: a byte offset in the input, 0 for refusals 11 to 14 and on success
- *     answer[RUNFOLD_NODES]     nodes of the run (run reader, fold reader)
+ *     answer[RUNFOLD_NODES]     nodes of the run (run reader, fold reader; the folder leaves 0, so ask the run reader first)
  *     answer[RUNFOLD_LENGTH]    bytes: of the run that the fold unrolls to (fold reader), or those written (unroller, folder)
  *     answer[RUNFOLD_COST]      cost of the fold (fold reader, folder)
  *
@@ -70,7 +72,7 @@ extern "C" {
 #define RUNFOLD_MAX_REPEATS 10
 #define RUNFOLD_MAX_WIDTH 1024
 
-/* The entries that each work slice of the folder needs for a run of n nodes. */
+/* The entries that each work slice of the folder needs for a run of n nodes; n is evaluated twice. */
 #define RUNFOLD_WORK(n) (RUNFOLD_SIZE(n) * (RUNFOLD_SIZE(n) + 1) / 2)
 
 /* A fold of a run of n nodes has at most so many bytes, also where it is longer than the run. */
@@ -98,7 +100,7 @@ enum {
     RUNFOLD_OK = 0,
     RUNFOLD_UNKNOWN_COMMAND = 1,
     RUNFOLD_REPEAT_IN_RUN = 2,      /* 20 or 21 in a run */
-    RUNFOLD_UNFINISHED = 3,         /* operands missing, or the end with something open; the place is the input's length */
+    RUNFOLD_UNFINISHED = 3,         /* operands missing, or the end with something open; the place is the input's size */
     RUNFOLD_WRONG_CLOSE = 4,        /* 12 or 21 where nothing is open, or the innermost open thing is of the other kind */
     RUNFOLD_EMPTY_BODY = 5,         /* a close right after its open */
     RUNFOLD_SMALL_COUNT = 6,        /* count 0 or 1 */
@@ -172,8 +174,9 @@ uint8_t runfold_unroll(const uint8_t *fold, size_t fold_len, size_t limit, uint8
                        size_t answer_len);
 
 /* The folder: refusals 1 to 5, 8, 10 to 14, or the length and the cost of the cheapest fold of the run whose widths are within
- * the limit; of several, the one whose bytes come first. `table` prices the labels as above. `costs` and `choices` are work
- * slices of at least RUNFOLD_WORK(nodes) entries each, with any contents.
+ * the limit; of several, the one whose bytes come first. `table` prices the labels as above. `costs` and `choices` are work, of
+ * at least RUNFOLD_WORK(nodes) entries each and with any contents; they hold no prices. RUNFOLD_ROOM(nodes) bytes of output are
+ * always enough: refusal 14 does not say how many are missing.
  * On success the fold stands in the first bytes of `out`, as many as the length says, and the others stay as they are; after a
  * refusal `out` stays as it is. On success and after refusal 14 the first RUNFOLD_WORK(nodes) entries of both work slices are
  * 0 and the others stay as they are; after any other refusal both stay as they are. */

@@ -32,7 +32,7 @@ pub enum Refusal {
     },
     /// 3: operands are missing, or the input ends with something open.
     Unfinished {
-        /// The input's length.
+        /// The input's size.
         place: usize,
     },
     /// 4: `12` or `21` where nothing is open, or the innermost open thing is not of its kind.
