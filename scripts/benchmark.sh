@@ -30,7 +30,7 @@ cc=$("${CC:-cc}" --version | head -n 1)
     for name in plain transposed blocked; do
         code $name "$cc" "$(cat target/benchmark/$name.flags)" target/benchmark/$name.o
     done
-    code "Rust around these three" "$(rustc --version)" "release profile, opt-level 3, baseline x86-64"
+    code "Rust around plain, transposed, blocked" "$(rustc --version)" "release profile, opt-level 3, baseline x86-64"
 } >"$codes"
 
 exec target/cargo/release/benchmark docs/BENCHMARK.md docs/benchmark.svg "$(date +%F)" "$codes"

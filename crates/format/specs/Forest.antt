@@ -1,5 +1,5 @@
 -- Sequences as trees. A run is an ordered forest of labelled nodes, a fold a forest that may hold repetition nodes as well
--- (the report's repetition representation tree, source 001 section 3.1, without its root).
+-- (the repetition representation tree of the report's section 3.1, without its root).
 use mathlib.Core.Path.{_≡_}
 use mathlib.Core.List.{List, [], _∷_, _++_}
 use Prim.Native.Nat.{ℕ, zero, suc, _+_, _*_, _/_, _%_, _≤_, _<_, max}

@@ -1,4 +1,4 @@
--- The repetition representation trees of the 2008 report (source 001), in its own words: expansion, representing, width
+-- The repetition representation trees of the report that README.md cites, in its own words: expansion, representing, width
 -- and size. Its strings (section 2.1) are the forests in which no letter has children, their length is the size.
 use mathlib.Core.Path.{_≡_}
 use Prim.Native.Nat.{ℕ, zero, suc, _+_, _≤_, _<_}

@@ -24,7 +24,7 @@ pub struct Head {
     pub limit: usize,
 }
 
-// The format of runs and folds. A run is an ordered forest, a fold its repetition representation (source 001).
+// The format of runs and folds. A run is an ordered forest, a fold its repetition representation.
 pub struct Format {}
 
 impl Format {

@@ -1,9 +1,10 @@
 //! The report's method, from a run's bytes to a fold's bytes: its Figure 1 in C (rust/compare/figure1, which scripts/figure1.sh
 //! compiles) under its Figure 6 for groups. As it stands, with a transposed copy, and in blocks.
 
+use crate::letters::Letters;
 use crate::reference::Prices;
 use runfold::MAX_NODES;
-use std::collections::HashMap;
+use std::mem::take;
 
 const STRIDE: usize = 1040;
 
@@ -57,19 +58,41 @@ pub enum Method {
 #[repr(align(64))]
 struct Lane([u32; 16]);
 
-/// The tables of the report's method, allocated once and used again by every sequence.
+/// The tables of the report's method, and what a sequence is listed in: allocated once and used again by every sequence.
 pub struct Tables {
     method: Method,
     l: Vec<Lane>,
     /// The types of Figure 1, or the transposed copy.
     second: Vec<Lane>,
     matches: Vec<Lane>,
+    letters: Letters,
+    siblings: Siblings,
+    /// The fold of a sequence while it is written.
+    written: Vec<u8>,
+}
+
+/// The siblings of the sequences that are being listed, those of a group above those around it. Each has a letter, a weight and
+/// the place of its fold, which goes up to the next one's.
+#[derive(Default)]
+struct Siblings {
+    labels: Vec<u32>,
+    weights: Vec<u32>,
+    starts: Vec<usize>,
+    folds: Vec<u8>,
 }
 
 impl Tables {
     pub fn new(method: Method) -> Tables {
         let table = |rows: usize| vec![Lane([0; 16]); rows * STRIDE / 16];
-        Tables { method, l: table(STRIDE), second: table(STRIDE), matches: table(5) }
+        Tables {
+            method,
+            l: table(STRIDE),
+            second: table(STRIDE),
+            matches: table(5),
+            letters: Letters::default(),
+            siblings: Siblings::default(),
+            written: Vec::new(),
+        }
     }
 
     fn length(&self, i: usize, j: usize) -> u32 {
@@ -80,8 +103,9 @@ impl Tables {
         self.second[(i * STRIDE + j) / 16].0[(i * STRIDE + j) % 16] as usize
     }
 
-    /// Fills the table for a sequence of letters with these weights.
-    fn fill(&mut self, label: &[u32], weight: &[u32], prices: &Prices) -> u32 {
+    /// Fills the table for the siblings from `base` on, as a string of letters.
+    fn fill(&mut self, base: usize, prices: &Prices) -> u32 {
+        let (label, weight) = (&self.siblings.labels[base..], &self.siblings.weights[base..]);
         let n = label.len();
         assert!(n <= MAX_NODES && n == weight.len());
         let (first, each) = (prices.first as u32, prices.each as u32);
@@ -99,41 +123,59 @@ impl Tables {
         }
     }
 
-    /// The report's MinimumRRT on a sequence of bytes: the groups' insides first, then the sequence as a string whose letters
-    /// are its siblings. Appends the fold and answers its cost.
+    /// The report's MinimumRRT on a run. Appends the fold and answers its cost.
     pub fn minimum(&mut self, run: &[u8], prices: &Prices, out: &mut Vec<u8>) -> u32 {
-        if run.is_empty() {
-            return 0;
-        }
-        let (mut labels, mut weights, mut folds, mut starts) = (vec![], vec![], vec![], vec![]);
-        let mut known: HashMap<&[u8], u32> = HashMap::new();
-        let mut at = 0;
-        while at < run.len() {
-            let end = at + node_length(&run[at..]);
-            let part = &run[at..end];
-            let fresh = known.len() as u32;
-            labels.push(*known.entry(part).or_insert(fresh));
-            starts.push(folds.len());
-            folds.extend(&part[..2]);
-            let mut weight = prices.labels[part[1] as usize] as u32;
-            if part[0] == 0x11 {
-                weight += self.minimum(&part[2..part.len() - 1], prices, &mut folds);
-                folds.push(0x12);
+        self.letters.clear();
+        let (cost, _) = self.sequence(run, 0, prices);
+        out.append(&mut self.siblings.folds);
+        cost
+    }
+
+    /// The sequence from an offset on: the groups' insides first, then the sequence as a string whose letters are its siblings.
+    /// Appends its fold to the folds, and answers its cost and the offset behind it.
+    fn sequence(&mut self, run: &[u8], mut at: usize, prices: &Prices) -> (u32, usize) {
+        let (base, folds) = (self.siblings.labels.len(), self.siblings.folds.len());
+        while at < run.len() && run[at] != 0x12 {
+            let (begin, start) = (at, self.siblings.folds.len());
+            let mut weight = prices.labels[run[at + 1] as usize] as u32;
+            self.siblings.folds.extend(&run[at..at + 2]);
+            at += 2;
+            if run[begin] == 0x11 {
+                let (inside, end) = self.sequence(run, at, prices);
+                weight += inside;
+                self.siblings.folds.push(0x12);
+                at = end + 1;
             }
-            weights.push(weight);
-            at = end;
+            self.siblings.labels.push(self.letters.letter(run, begin, at));
+            self.siblings.weights.push(weight);
+            self.siblings.starts.push(start);
         }
-        starts.push(folds.len());
-        let cost = self.fill(&labels, &weights, prices);
-        let nodes = Nodes { labels: &labels, folds: &folds, starts: &starts };
-        self.construct(&nodes, prices, 0, labels.len() - 1, out);
+        let siblings = self.siblings.labels.len() - base;
+        let cost = if siblings == 0 { 0 } else { self.fold(base, siblings, prices) };
+        self.siblings.labels.truncate(base);
+        self.siblings.weights.truncate(base);
+        self.siblings.starts.truncate(base);
+        self.siblings.folds.truncate(folds);
+        self.siblings.folds.append(&mut self.written);
+        (cost, at)
+    }
+
+    /// Writes the fold of the siblings from `base` on, and answers its cost.
+    fn fold(&mut self, base: usize, siblings: usize, prices: &Prices) -> u32 {
+        let cost = self.fill(base, prices);
+        let mut written = take(&mut self.written);
+        let Siblings { labels, starts, folds, .. } = &self.siblings;
+        let nodes = Nodes { labels: &labels[base..], starts: &starts[base..], folds };
+        self.construct(&nodes, prices, 0, siblings - 1, &mut written);
+        self.written = written;
         cost
     }
 
     /// Writes the representation of the letters i to j.
     fn construct(&self, nodes: &Nodes, prices: &Prices, i: usize, j: usize, out: &mut Vec<u8>) {
         if i == j {
-            out.extend(&nodes.folds[nodes.starts[i]..nodes.starts[i + 1]]);
+            let end = nodes.starts.get(i + 1).copied().unwrap_or(nodes.folds.len());
+            out.extend(&nodes.folds[nodes.starts[i]..end]);
             return;
         }
         let width = if self.method == Method::Plain {
@@ -176,25 +218,4 @@ struct Nodes<'a> {
     labels: &'a [u32],
     folds: &'a [u8],
     starts: &'a [usize],
-}
-
-/// The bytes of the node at the front.
-fn node_length(run: &[u8]) -> usize {
-    let (mut at, mut depth) = (0, 0);
-    loop {
-        match run[at] {
-            0x10 => at += 2,
-            0x11 => {
-                depth += 1;
-                at += 2;
-            }
-            _ => {
-                depth -= 1;
-                at += 1;
-            }
-        }
-        if depth == 0 {
-            return at;
-        }
-    }
 }

@@ -4,6 +4,7 @@
 #[cfg(feature = "benchmark")]
 pub mod figure1;
 pub mod inputs;
+pub mod letters;
 pub mod machine;
 pub mod measured;
 pub mod page;

@@ -269,7 +269,8 @@ times.
 
 {losses}
 The folder leaves both work slices cleared, as docs/FORMAT.md asks. For 1,024 nodes that takes {clearing:.2} ms by itself (the
-same stores, timed in the same run), whatever the run is; the other methods need nothing of the kind.
+same stores, timed in the same run), whatever the run is; the other methods need nothing of the kind. What is close here may
+turn on another machine: docs/DECISIONS.md, Speed, speaks of one.
 
 ## Where it is fastest
 
@@ -303,12 +304,13 @@ All on the same bytes:
 - *plain*: Figure 1 of the report in C, line by line, under its Figure 6 for groups.
 - *transposed*: a vectorised form. The same table with a transposed copy, so that the inner loop runs over two contiguous rows;
   rows from the last to the first; copies counted once for each pair of letters.
-- *blocked*: a vectorised form too, and the fastest form of the report's method that we wrote. The same table in blocks of four
-  rows by four columns.
+- *blocked*: a vectorised form too. The same table in blocks of four rows by four columns. It is the fastest form of the report's
+  method that we wrote on long sequences; on short ones, as those of groups, *transposed* is faster.
 
-The report's forms get the siblings' letters from a hash table and write a cheapest fold too, any one of them: they have no tie
-rule. Width limit 1,024. Memory is allocated once and touched before the first round; the folder's work is 0 at entry and at
-exit, the others set up their tables themselves. A time is processor time, the lowest of at least five rounds (plain on long
+Around the report's forms stands Rust: one pass over the run lists the siblings of each sequence, with letters from a hash table,
+and behind each sequence a cheapest fold is written too, any one of them: they have no tie rule. Width limit 1,024. Memory is
+allocated once and used again in every round; the folder's work is 0 at entry and at exit, the others set up their tables
+themselves. A time is processor time, the lowest of at least five rounds (plain on long
 runs: two, and one on powers); in a round each method runs once. Where a family has several runs the mean is given. The costs of
 all four are compared on every input, and each fold is read back and unrolled ({checked} folds in this run). No time is a test.
 

@@ -1,6 +1,6 @@
 //! Looks for runs of 1,024 steps on which the folder is slow: a hill climber over words of a few blocks, at each price of the
-//! benchmark. It maximises the folder's part of the time of *blocked*, the fastest form of the report's method, each the lowest
-//! of a few rounds in processor time. What is tried follows from the seed and from the times. Every cost is compared, and every
+//! benchmark. It maximises the folder's part of the time of *blocked*, the fastest form of the report's method on steps, each
+//! the lowest of a few rounds in processor time. What is tried follows from the seed and from the times. Every cost is compared, and every
 //! fold is read back and unrolled. The last lines it prints are those of the list in rust/compare/src/inputs.rs.
 //!
 //! Usage: `climb SECONDS [SEED]`
