@@ -9,7 +9,7 @@
  * A call, for a run of at most 3 nodes; examples/ has whole programs, docs/FORMAT.md the bytes of runs and folds:
  *
  *     const uint8_t run[] = {0x10, 0x01, 0x10, 0x01, 0x10, 0x01};
- *     uint16_t table[256];                                          (what each label costs, and a repeat: first 1, each 0)
+ *     uint16_t table[256];                                          (what each label costs, filled in before)
  *     uint32_t costs[RUNFOLD_WORK(3)], choices[RUNFOLD_WORK(3)];    (work; for long runs better not on the stack)
  *     uint8_t out[RUNFOLD_ROOM(3)];
  *     uint64_t answer[RUNFOLD_ENTRIES];
@@ -24,9 +24,9 @@
  * call takes.
  *
  * Slices. A slice passes as a pointer and a number of entries. One of 0 entries may have a null pointer, for nothing is read or
- * written there; that of `table` is answered with refusal 11, that of `answer` with RUNFOLD_SHORT. Any other points to so many
- * entries, aligned for their type. A slice that is written (`out`, `costs`, `choices`, `answer`) overlaps no other slice of the
- * call. Nothing else is asked of a caller: every input has a defined answer.
+ * written there (tested by scripts/c.sh, not proved); that of `table` is answered with refusal 11, that of `answer` with
+ * RUNFOLD_SHORT. Any other points to so many entries, aligned for their type. A slice that is written (`out`, `costs`,
+ * `choices`, `answer`) overlaps no other slice of the call. Nothing else is asked of a caller: every input has a defined answer.
  *
  * Answers. `answer` has at least RUNFOLD_ENTRIES entries. The first five are then written, 0 where a function has no such
  * value, and the others stay as they are:

@@ -48,6 +48,7 @@ fn limits_and_entries_are_as_in_the_header() {
         ("RUNFOLD_MAX_REPEATS", runfold::MAX_REPEATS),
         ("RUNFOLD_MAX_WIDTH", runfold::MAX_WIDTH),
         ("RUNFOLD_MAX_RUN", runfold::RUN_ROOM),
+        ("RUNFOLD_STACK", runfold::STACK),
         ("RUNFOLD_ENTRIES", raw::ENTRIES),
         ("RUNFOLD_REFUSAL", raw::REFUSAL),
         ("RUNFOLD_PLACE", raw::PLACE),
@@ -58,6 +59,8 @@ fn limits_and_entries_are_as_in_the_header() {
         assert_eq!(in_header(name), Some(value as u64), "{name}");
     }
     assert_eq!((work_entries(1024), fold_room(1024)), (524_800, 4096));
+    // Far beyond the longest run they stay at the highest number.
+    assert_eq!((work_entries(usize::MAX), fold_room(usize::MAX)), (usize::MAX / 2, usize::MAX));
 }
 
 #[test]

@@ -33,7 +33,7 @@
 //!
 //! The library asks one thing of a caller: a slice that is written overlaps no other. That follows from the types here, so
 //! every function is safe to call with any arguments. None keeps state, and they may run in several threads at once. None
-//! panics, unless a `librunfold.a` of another version is linked that gives further refusals.
+//! panics, unless a `librunfold.a` of another version is linked that gives further refusals, or memory for [`folded`] is short.
 //!
 //! Not proved are the compilers, the declarations in `src/declared.rs` and this wrapper, which only hands slices over and reads
 //! the answer; `scripts/differential.sh` compares all of it with an independent implementation.
@@ -41,7 +41,7 @@
 //! # Memory
 //!
 //! Only [`folded`] allocates; the crate is `no_std`. [`fold`] is lent its work and its output, [`unroll`] its output, and the
-//! readers need none. `docs/CERTIFICATE.md` says how much stack each function takes, as measured.
+//! readers need none. A call takes up to [`STACK`] bytes of stack; `docs/CERTIFICATE.md` has each function's own.
 //!
 //! # Linking
 //!
@@ -76,13 +76,16 @@ pub const RUN_ROOM: usize = 3 * MAX_NODES;
 
 /// The bytes that a fold of a run of that many nodes has at most, also where it is longer than the run.
 pub const fn fold_room(nodes: usize) -> usize {
-    4 * nodes
+    nodes.saturating_mul(4)
 }
 
 /// The entries that each work slice of the folder needs for a run of that many nodes.
 pub const fn work_entries(nodes: usize) -> usize {
-    nodes * (nodes + 1) / 2
+    nodes.saturating_add(1).saturating_mul(nodes) / 2
 }
+
+/// The bytes of stack that a call takes at most, as measured: what a thread that folds has to have left.
+pub const STACK: usize = 98_304;
 
 /// What labels and repeats cost.
 #[derive(Clone, Copy, Debug, PartialEq, Eq, Hash)]

@@ -6,7 +6,8 @@ use core::fmt;
 /// Why an input was refused: one variant for each number of `docs/REFUSALS.md`, which has an example of each and the order in
 /// which they are looked for.
 ///
-/// The place is an offset in the input, of the command that is refused; refusals 11 to 14 have none.
+/// The place is an offset in the input: that of the command that is refused, or for 3 the input's size. Refusals 11 to 14 have
+/// none, which counts as 0. `{}` shows number, place and condition; `?` out of `main` shows the variant.
 ///
 /// ```
 /// use runfold::{read_run, Refusal};
