@@ -10,17 +10,13 @@ use lib.ListN.{length, take, drop, replicate}
 use lib.Seq.{take-append-seam}
 use Rattle.format.specs.Limits.{limits, priced}
 use Rattle.format.specs.Order.{Bytes}
-use Rattle.format.specs.Forest.{bytes, at-most}
+use Rattle.format.specs.Forest.{at-most}
 use Rattle.format.specs.Machine.{Outcome, refused, accepted, read}
 use Rattle.format.specs.Readings.{run-rules, as-run-reading, run-reading}
-use Rattle.format.specs.Tree.{tree-of}
 use Rattle.format.specs.declared.RunReading.{RunReading}
 use Rattle.format.specs.declared.Folded.{Folded}
 use Rattle.format.proofs.Refusals.{refused-some}
-use Rattle.format.proofs.Bridge.{sound-widest, sound-within}
-use Rattle.optimum.specs.Cheapest.{cheapest}
-use Rattle.optimum.proofs.Cheapest.{cheapest-short}
-use Rattle.optimum.proofs.Demands.{run-shape, run-nodes}
+use Rattle.optimum.proofs.Demands.{cheapest-room}
 use Rattle.optimum.specs.Verdict.{Verdict, refuses, folds, verdict}
 use Rattle.folder.specs.Folding.{folding, fold-answer, fold-output}
 use Rattle.fold.specs.Text.{three-lines, refusal-line}
@@ -39,14 +35,7 @@ decided s small = by-outcome (read run-rules s) refl
     by-outcome : (o : Outcome) → read run-rules s ≡ o → Decided (as-run-reading o .nodes) (verdict (at-most (limits .width)) (priced (replicate 256 1) 1 0) s o)
     by-outcome (refused n p) e = refusing n p (refused-some run-rules s n p e)
     by-outcome (accepted t x) e =
-        let k = limits .width in
-        let A = at-most k in
-        let P = priced (replicate 256 1) 1 0 in
-        let shape = run-shape s small t x e in
-        let sound = sound-within (at-most 0) A (tree-of s) (omega (arith, sound-widest (at-most 0) (tree-of s) (shape .sound))) (shape .sound) in
-        let short : length (bytes (cheapest A P (tree-of s))) ≤ 4 * t .nodes =
-        omega (arith, run-nodes s small t x e, cheapest-short A P (tree-of s) (record { plain = shape .plain refl; sound = sound })) in
-        folded _ _ short
+        folded _ _ (cheapest-room s small t x e (limits .width) (priced (replicate 256 1) 1 0))
 
 -- What the folder answers and writes with this work and this output.
 abbrev answered : Verdict → Folded

@@ -1,4 +1,5 @@
--- What the proofs of the functions share.
+-- What the proofs of the functions share, and what is always enough to lend.
 pub mod PriceLists
 pub mod Runs
 pub mod Verdicts
+pub mod Enough

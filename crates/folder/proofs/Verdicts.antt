@@ -120,7 +120,7 @@ module _ (s : List ℕ) (k : ℕ) (table : List ℕ) (first each : ℕ) (r : Run
       by-outcome (accepted t x) e = record { tally = t; text = x; admits = e; all = sym (ap (λ (y : RunReading). y .nodes) (answer-at (accepted t x) e)) }
 
   module _ (a : Accepted) where
-    accepts : read run-rules s ≡ accepted (a .tally) (a .text)
+    pub accepts : read run-rules s ≡ accepted (a .tally) (a .text)
     unfolding run-outcome
     accepts = headed-accepted limits (full-head table k) (read run-rules s) (a .tally) (a .text) (a .admits)
 

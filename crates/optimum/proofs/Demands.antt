@@ -5,6 +5,7 @@ use Prim.Native.Nat.{ℕ, zero, suc, _*_, _≤_, _<_}
 use native.Mathlib.Nat.{mul-le-mul-left}
 use mathlib.Core.Bool.{false≢true}
 use native.Mathlib.Omega.{arith}
+use lib.ListN.{length}
 use Rattle.format.specs.Limits.{limits, Prices}
 use Rattle.format.specs.Order.{Bytes, Before}
 use Rattle.format.specs.Forest.{Forest, end, step, group, repeat, join, copies, unroll, nodes, cost, bytes, Allowed, at-most, Sound, Coded, group-depth, widest-of}
@@ -20,7 +21,7 @@ use Rattle.format.proofs.Tree.{tree-of-bytes}
 use Rattle.optimum.specs.Optimal.{FoldOf, NoWorse, cheaper, same, earlier, Optimal}
 use Rattle.optimum.specs.Cheapest.{cheapest, best-cost}
 use Rattle.optimum.specs.Demands.{FoldWithin, CheapestWithin}
-use Rattle.optimum.proofs.Cheapest.{cheapest-optimal}
+use Rattle.optimum.proofs.Cheapest.{cheapest-optimal, cheapest-short}
 
 -- What a joined sequence has, its parts have.
 coded-parts : (f g : Forest) → Coded (join f g) → Coded f × Coded g
@@ -159,6 +160,13 @@ module _ (s : List ℕ) (small : Bytes s) (t : Tally) (x : List ℕ) (run : read
   pub run-nodes : t .nodes ≡ nodes (tree-of s)
   unfolding tally-of
   run-nodes = ap (λ (y : Tally). y .nodes) (sym (spelled .counts)) ∙ ap nodes (sym tree-is)
+
+  -- Its cheapest fold has at most four bytes for each node.
+  pub cheapest-room : (k : ℕ) (P : Prices) → length (bytes (cheapest (at-most k) P (tree-of s))) ≤ 4 * t .nodes
+  cheapest-room k P =
+      let A = at-most k in
+      let sound = sound-within (at-most 0) A (tree-of s) (omega (arith, sound-widest (at-most 0) (tree-of s) (run-shape .sound))) (run-shape .sound) in
+      omega (arith, run-nodes, cheapest-short A P (tree-of s) (record { plain = run-shape .plain refl; sound = sound }))
 
   -- A run has few nodes.
   pub run-few : t .nodes ≤ limits .nodes

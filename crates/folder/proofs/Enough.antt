@@ -1,0 +1,36 @@
+-- What is always enough to lend: the work that a run needs, and four bytes of output for each of its nodes.
+use mathlib.Core.Path.{_≡_, refl}
+use mathlib.Core.List.{List}
+use Prim.Native.Nat.{ℕ, _*_, _≤_}
+use native.Mathlib.Omega.{arith}
+use lib.ListN.{length}
+use borrow.Author.Tests.{le-ltb}
+use Rattle.format.specs.Limits.{priced, cells}
+use Rattle.format.specs.Order.{Bytes}
+use Rattle.format.specs.Forest.{bytes, at-most}
+use Rattle.format.specs.Head.{full-head}
+use Rattle.format.specs.Readings.{as-run-reading, run-outcome}
+use Rattle.format.specs.Tree.{tree-of}
+use Rattle.format.specs.declared.RunReading.{RunReading}
+use Rattle.optimum.specs.Cheapest.{cheapest}
+use Rattle.optimum.proofs.Demands.{cheapest-room}
+use Rattle.folder.specs.Folding.{folding, fold-answer}
+use Rattle.folder.proofs.Verdicts.{accepted-run, accepts, verdict-folds}
+
+-- What the folder's call makes of the run before it looks at work and output.
+abbrev pub admission : (s : List ℕ) (k : ℕ) (table : List ℕ) → RunReading
+admission s k table = as-run-reading (run-outcome (full-head table k) s)
+
+-- A run that is admitted is then folded, for neither 13 nor 14 is left.
+pub lent-enough : (s : List ℕ) → Bytes s → (k : ℕ) (table : List ℕ) (first each : ℕ) → admission s k table .refusal ≡ 0
+    → (costs choices room : ℕ) → cells (admission s k table .nodes) ≤ costs → cells (admission s k table .nodes) ≤ choices
+    → 4 * admission s k table .nodes ≤ room
+    → fold-answer (folding s k table first each) costs choices room .refusal ≡ 0
+lent-enough s small k table first each z costs choices room x y o =
+    let r = admission s k table in
+    let a = accepted-run s k table first each r refl z in
+    let n = r .nodes in
+    let f = bytes (cheapest (at-most k) (priced table first each) (tree-of s)) in
+    let short : length f ≤ room =
+    omega (arith, cheapest-room s small (a .tally) (a .text) (accepts s k table first each r refl a) k (priced table first each), a .all) in
+    rw (verdict-folds s k table first each r refl a, le-ltb costs (cells n) x, le-ltb choices (cells n) y, le-ltb room (length f) short)
