@@ -1,6 +1,7 @@
 #!/usr/bin/env bash
 # Tries the fold program at the edges of its input, and where it cannot read or print: what stands on standard output and
-# standard error afterwards, to the byte, and the exit status. The first that is another than expected ends it.
+# standard error afterwards, to the byte, and the exit status. The first that is another than expected ends it. CC names the C
+# compiler.
 set -euo pipefail
 cd "$(dirname "$0")/.."
 
@@ -73,6 +74,9 @@ exec 3>"$scratch/written"
 call <&3
 expect "a standard input that is open for writing alone" 0 "" 'fold: standard input: Bad file descriptor\n'
 exec 3>&-
+"${CC:-cc}" -std=c11 -Wall -Wextra -Werror -shared -fPIC tests/c/failing_read.c -o "$scratch/failing_read.so"
+LD_PRELOAD=$scratch/failing_read.so call </dev/null
+expect "a read that fails after three bytes" 0 "" 'fold: standard input: Input/output error\n'
 
 : >"$out"
 status=0
