@@ -28,7 +28,7 @@
  * RUNFOLD_SHORT. Any other points to so many entries, aligned for their type. A slice that is written (`out`, `costs`,
  * `choices`, `answer`) overlaps no other slice of the call. Nothing else is asked of a caller: every input has a defined answer.
  *
- * Answers. `answer` has at least RUNFOLD_ENTRIES entries. The first five are then written, 0 where a function has no such
+ * Answers. `answer` has at least RUNFOLD_ENTRIES entries. The first seven are then written, 0 where a function has no such
  * value, and the others stay as they are:
  *
  *     answer[RUNFOLD_REFUSAL]   refusal number, 0 for success
@@ -36,8 +36,10 @@
  *     answer[RUNFOLD_NODES]     nodes of the run (run reader, fold reader; the folder leaves 0, so ask the run reader first)
  *     answer[RUNFOLD_LENGTH]    bytes: of the run that the fold unrolls to (fold reader), or those written (unroller, folder)
  *     answer[RUNFOLD_COST]      cost of the fold (fold reader, folder)
+ *     answer[RUNFOLD_STEPS]     nodes of the run that are steps (run reader, fold reader)
+ *     answer[RUNFOLD_DEPTH]     the most groups of the run open together, 0 for a run without groups (run reader, fold reader)
  *
- * After a refusal the last three are 0. The result of each call is the refusal number again, or RUNFOLD_SHORT where `answer`
+ * After a refusal the last five are 0. The result of each call is the refusal number again, or RUNFOLD_SHORT where `answer`
  * has fewer entries: then nothing at all is written.
  */
 #ifndef RUNFOLD_H
@@ -52,7 +54,7 @@ extern "C" {
 
 /* The version of the library, as numbers and as text. */
 #define RUNFOLD_VERSION_MAJOR 0
-#define RUNFOLD_VERSION_MINOR 1
+#define RUNFOLD_VERSION_MINOR 2
 #define RUNFOLD_VERSION_PATCH 0
 #define RUNFOLD_VERSION \
     RUNFOLD_QUOTE(RUNFOLD_VERSION_MAJOR) "." RUNFOLD_QUOTE(RUNFOLD_VERSION_MINOR) "." RUNFOLD_QUOTE(RUNFOLD_VERSION_PATCH)
@@ -86,13 +88,15 @@ extern "C" {
 #define RUNFOLD_STACK 98304
 
 /* The entries of an answer, and where each stands. */
-#define RUNFOLD_ENTRIES 5
+#define RUNFOLD_ENTRIES 7
 enum {
     RUNFOLD_REFUSAL = 0,
     RUNFOLD_PLACE = 1,
     RUNFOLD_NODES = 2,
     RUNFOLD_LENGTH = 3,
-    RUNFOLD_COST = 4
+    RUNFOLD_COST = 4,
+    RUNFOLD_STEPS = 5,
+    RUNFOLD_DEPTH = 6
 };
 
 /* What a call returns: success, a refusal, or that the answer slice is too short. */
@@ -156,15 +160,15 @@ static inline const char *runfold_refusal_text(uint64_t number)
     }
 }
 
-/* The run reader: refusals 1 to 5, 8 and 10, or the nodes of the run. Writes `answer` alone. */
+/* The run reader: refusals 1 to 5, 8 and 10, or the nodes, the steps and the depth of the run. Writes `answer` alone. */
 uint8_t runfold_read_run(const uint8_t *run, size_t run_len, uint64_t *answer, size_t answer_len);
 
 /* The part of a node: the step or group that starts at the offset `at` of the run, with all it holds, is the bytes from `at`
  * on, as many as the result says; 0 where the run reader refuses the run or no node starts there. Writes nothing. */
 size_t runfold_part(const uint8_t *run, size_t run_len, size_t at);
 
-/* The fold reader: refusals 1, 3 to 12, or the nodes and the bytes of the run and the fold's cost. `table` prices the labels
- * and has 256 entries; a repeat of count h costs first + each * (h - 2). Writes `answer` alone. */
+/* The fold reader: refusals 1, 3 to 12, or the nodes, the bytes, the steps and the depth of the run, and the fold's cost.
+ * `table` prices the labels and has 256 entries; a repeat of count h costs first + each * (h - 2). Writes `answer` alone. */
 uint8_t runfold_read_fold(const uint8_t *fold, size_t fold_len, size_t limit, const uint16_t *table, size_t table_len,
                           uint16_t first, uint16_t each, uint64_t *answer, size_t answer_len);
 

@@ -19,7 +19,8 @@ int main(void)
         table[label] = 1;
     if (runfold_read_run(run, sizeof run, answer, RUNFOLD_ENTRIES) != RUNFOLD_OK)
         goto refused;
-    printf("nodes %llu\n", (unsigned long long)answer[RUNFOLD_NODES]);
+    printf("nodes %llu, steps %llu, depth %llu\n", (unsigned long long)answer[RUNFOLD_NODES],
+           (unsigned long long)answer[RUNFOLD_STEPS], (unsigned long long)answer[RUNFOLD_DEPTH]);
     if (runfold_fold(run, sizeof run, RUNFOLD_MAX_WIDTH, table, 256, 1, 0, costs, RUNFOLD_WORK(3), choices, RUNFOLD_WORK(3),
                      out, sizeof out, answer, RUNFOLD_ENTRIES) != RUNFOLD_OK)
         goto refused;

@@ -25,7 +25,7 @@ int main()
     if (runfold_read_run(run.data(), run.size(), answer.data(), answer.size()) != RUNFOLD_OK)
         return refused(answer);
     const std::size_t nodes = answer[RUNFOLD_NODES];
-    std::cout << "nodes " << nodes << "\n";
+    std::cout << "nodes " << nodes << ", steps " << answer[RUNFOLD_STEPS] << ", depth " << answer[RUNFOLD_DEPTH] << "\n";
 
     std::array<std::uint16_t, 256> table;
     table.fill(1);

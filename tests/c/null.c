@@ -5,19 +5,19 @@
 #include <stdio.h>
 #include <string.h>
 
-enum { LIMIT = RUNFOLD_MAX_WIDTH, FIVE = RUNFOLD_ENTRIES, UNWRITTEN = 9 };
+enum { LIMIT = RUNFOLD_MAX_WIDTH, ALL = RUNFOLD_ENTRIES, UNWRITTEN = 9 };
 
-static uint64_t answer[FIVE];
+static uint64_t answer[ALL];
 static int failures;
 
-/* Compares a call's result, and the answer: the refusal and four zeros, for in all cases here the place is 0 and what is read
+/* Compares a call's result, and the answer: the refusal and zeros, for in all cases here the place is 0 and what is read
  * without a refusal is empty; or, where the answer is too short, nothing written. */
 static void expect(const char *call, const char *where, unsigned result, unsigned wanted)
 {
     int written = wanted != RUNFOLD_SHORT;
     int right = result == wanted;
 
-    for (int i = 0; i < FIVE; i++) {
+    for (int i = 0; i < ALL; i++) {
         right = right && answer[i] == (!written ? UNWRITTEN : i == RUNFOLD_REFUSAL ? wanted : 0);
         answer[i] = UNWRITTEN;
     }
@@ -37,7 +37,7 @@ static void calls(const char *where, uint8_t *b, uint16_t *t, uint32_t *w, uint6
     uint32_t costs[1], choices[1];
     uint8_t out[4];
 
-    EXPECT(RUNFOLD_OK, runfold_read_run(b, 0, answer, FIVE));
+    EXPECT(RUNFOLD_OK, runfold_read_run(b, 0, answer, ALL));
     EXPECT(RUNFOLD_SHORT, runfold_read_run(step, 2, a, 0));
     EXPECT(RUNFOLD_SHORT, runfold_read_run(b, 0, a, 0));
 
@@ -46,27 +46,27 @@ static void calls(const char *where, uint8_t *b, uint16_t *t, uint32_t *w, uint6
         failures++;
     }
 
-    EXPECT(RUNFOLD_OK, runfold_read_fold(b, 0, LIMIT, table, 256, 1, 0, answer, FIVE));
-    EXPECT(RUNFOLD_TABLE_SIZE, runfold_read_fold(step, 2, LIMIT, t, 0, 1, 0, answer, FIVE));
-    EXPECT(RUNFOLD_TABLE_SIZE, runfold_read_fold(b, 0, LIMIT, t, 0, 1, 0, answer, FIVE));
+    EXPECT(RUNFOLD_OK, runfold_read_fold(b, 0, LIMIT, table, 256, 1, 0, answer, ALL));
+    EXPECT(RUNFOLD_TABLE_SIZE, runfold_read_fold(step, 2, LIMIT, t, 0, 1, 0, answer, ALL));
+    EXPECT(RUNFOLD_TABLE_SIZE, runfold_read_fold(b, 0, LIMIT, t, 0, 1, 0, answer, ALL));
     EXPECT(RUNFOLD_SHORT, runfold_read_fold(step, 2, LIMIT, table, 256, 1, 0, a, 0));
     EXPECT(RUNFOLD_SHORT, runfold_read_fold(b, 0, LIMIT, t, 0, 1, 0, a, 0));
 
-    EXPECT(RUNFOLD_OK, runfold_unroll(b, 0, LIMIT, out, 4, answer, FIVE));
-    EXPECT(RUNFOLD_OK, runfold_unroll(b, 0, LIMIT, b, 0, answer, FIVE));
-    EXPECT(RUNFOLD_OUTPUT_SIZE, runfold_unroll(step, 2, LIMIT, b, 0, answer, FIVE));
-    EXPECT(RUNFOLD_LIMIT_SIZE, runfold_unroll(b, 0, LIMIT + 1, b, 0, answer, FIVE));
+    EXPECT(RUNFOLD_OK, runfold_unroll(b, 0, LIMIT, out, 4, answer, ALL));
+    EXPECT(RUNFOLD_OK, runfold_unroll(b, 0, LIMIT, b, 0, answer, ALL));
+    EXPECT(RUNFOLD_OUTPUT_SIZE, runfold_unroll(step, 2, LIMIT, b, 0, answer, ALL));
+    EXPECT(RUNFOLD_LIMIT_SIZE, runfold_unroll(b, 0, LIMIT + 1, b, 0, answer, ALL));
     EXPECT(RUNFOLD_SHORT, runfold_unroll(step, 2, LIMIT, out, 4, a, 0));
     EXPECT(RUNFOLD_SHORT, runfold_unroll(b, 0, LIMIT, b, 0, a, 0));
 
-    EXPECT(RUNFOLD_OK, runfold_fold(b, 0, LIMIT, table, 256, 1, 0, costs, 1, choices, 1, out, 4, answer, FIVE));
-    EXPECT(RUNFOLD_OK, runfold_fold(b, 0, LIMIT, table, 256, 1, 0, w, 0, w, 0, b, 0, answer, FIVE));
-    EXPECT(RUNFOLD_TABLE_SIZE, runfold_fold(step, 2, LIMIT, t, 0, 1, 0, costs, 1, choices, 1, out, 4, answer, FIVE));
-    EXPECT(RUNFOLD_TABLE_SIZE, runfold_fold(b, 0, LIMIT, t, 0, 1, 0, w, 0, w, 0, b, 0, answer, FIVE));
-    EXPECT(RUNFOLD_WORK_SIZE, runfold_fold(step, 2, LIMIT, table, 256, 1, 0, w, 0, choices, 1, out, 4, answer, FIVE));
-    EXPECT(RUNFOLD_WORK_SIZE, runfold_fold(step, 2, LIMIT, table, 256, 1, 0, costs, 1, w, 0, out, 4, answer, FIVE));
-    EXPECT(RUNFOLD_WORK_SIZE, runfold_fold(step, 2, LIMIT, table, 256, 1, 0, w, 0, w, 0, b, 0, answer, FIVE));
-    EXPECT(RUNFOLD_OUTPUT_SIZE, runfold_fold(step, 2, LIMIT, table, 256, 1, 0, costs, 1, choices, 1, b, 0, answer, FIVE));
+    EXPECT(RUNFOLD_OK, runfold_fold(b, 0, LIMIT, table, 256, 1, 0, costs, 1, choices, 1, out, 4, answer, ALL));
+    EXPECT(RUNFOLD_OK, runfold_fold(b, 0, LIMIT, table, 256, 1, 0, w, 0, w, 0, b, 0, answer, ALL));
+    EXPECT(RUNFOLD_TABLE_SIZE, runfold_fold(step, 2, LIMIT, t, 0, 1, 0, costs, 1, choices, 1, out, 4, answer, ALL));
+    EXPECT(RUNFOLD_TABLE_SIZE, runfold_fold(b, 0, LIMIT, t, 0, 1, 0, w, 0, w, 0, b, 0, answer, ALL));
+    EXPECT(RUNFOLD_WORK_SIZE, runfold_fold(step, 2, LIMIT, table, 256, 1, 0, w, 0, choices, 1, out, 4, answer, ALL));
+    EXPECT(RUNFOLD_WORK_SIZE, runfold_fold(step, 2, LIMIT, table, 256, 1, 0, costs, 1, w, 0, out, 4, answer, ALL));
+    EXPECT(RUNFOLD_WORK_SIZE, runfold_fold(step, 2, LIMIT, table, 256, 1, 0, w, 0, w, 0, b, 0, answer, ALL));
+    EXPECT(RUNFOLD_OUTPUT_SIZE, runfold_fold(step, 2, LIMIT, table, 256, 1, 0, costs, 1, choices, 1, b, 0, answer, ALL));
     EXPECT(RUNFOLD_SHORT, runfold_fold(step, 2, LIMIT, table, 256, 1, 0, costs, 1, choices, 1, out, 4, a, 0));
     EXPECT(RUNFOLD_SHORT, runfold_fold(b, 0, LIMIT, t, 0, 1, 0, w, 0, w, 0, b, 0, a, 0));
 }
@@ -78,7 +78,7 @@ int main(void)
 
     memset(spare, 0xA5, sizeof spare);
     memcpy(before, spare, sizeof spare);
-    for (int i = 0; i < FIVE; i++)
+    for (int i = 0; i < ALL; i++)
         answer[i] = UNWRITTEN;
     calls("spare memory", (uint8_t *)middle, (uint16_t *)middle, (uint32_t *)middle, middle);
     if (memcmp(before, spare, sizeof spare) != 0) {

@@ -1,54 +1,55 @@
--- The lent answer: five numbers put in front of it, and what the definitions of the answers say where it is too short and
+-- The lent answer: its numbers put in front of it, and what the definitions of the answers say where it is too short and
 -- where it is not. Assumes nothing.
 use mathlib.Core.Path.{_≡_, sym, ap, subst, _∙_}
 use mathlib.Core.Bool.{Bool, cond}
-use mathlib.Core.List.{List, [], _∷_}
+use mathlib.Core.List.{List, _++_}
 use Prim.Native.Nat.{ℕ, _<_, _≤_}
 use lib.ListN.{length, drop, set, getD}
 use lib.Seq.{sets-eq}
 use borrow.Author.Tests.{lt-ltb, le-ltb}
 use Rattle.format.specs.declared.FoldReading.{FoldReading}
-use Rattle.embed.specs.Answers.{status, kept, entries}
+use Rattle.embed.specs.Answers.{entry-count, status, kept, numbers, entries}
 
--- Five stores, one after the other.
-pub five-set : (a : List ℕ) (x y z u v : ℕ) → 5 ≤ length a
-    → set (set (set (set (set a 0 x) 1 y) 2 z) 3 u) 4 v ≡ x ∷ y ∷ z ∷ u ∷ v ∷ drop 5 a
-five-set a x y z u v h = sets-eq (x ∷ y ∷ z ∷ u ∷ v ∷ []) a 0 h
+-- The stores, one after the other.
+pub all-set : (a : List ℕ) (r : FoldReading) → entry-count ≤ length a
+    → set (set (set (set (set (set (set a 0 (r .refusal)) 1 (r .place)) 2 (r .nodes)) 3 (r .length)) 4 (r .cost)) 5 (r .steps)) 6 (r .depth)
+    ≡ numbers r ++ drop entry-count a
+all-set a r h = sets-eq (numbers r) a 0 h
 
--- An answer slice of fewer than five entries: status 255, and every lent slice as it was.
-module _ (a : List ℕ) (short : length a < 5) where
+-- An answer slice that is too short: status 255, and every lent slice as it was.
+module _ (a : List ℕ) (short : length a < entry-count) where
   pub short-status : (n : ℕ) → 255 ≡ status a n
   unfolding status
-  short-status n = sym (ap (λ (t : Bool). cond t 255 n) (lt-ltb (length a) 5 short))
+  short-status n = sym (ap (λ (t : Bool). cond t 255 n) (lt-ltb (length a) entry-count short))
 
   pub short-kept : (b d : List ℕ) → b ≡ kept a b d
   unfolding kept
-  short-kept b d = sym (ap (λ (t : Bool). cond t b d) (lt-ltb (length a) 5 short))
+  short-kept b d = sym (ap (λ (t : Bool). cond t b d) (lt-ltb (length a) entry-count short))
 
   pub short-entries : (r : FoldReading) → a ≡ entries a r
   unfolding entries
-  short-entries r = short-kept a (r .refusal ∷ r .place ∷ r .nodes ∷ r .length ∷ r .cost ∷ drop 5 a)
+  short-entries r = short-kept a (numbers r ++ drop entry-count a)
 
--- One of five entries or more: the refusal, and what the function inside leaves.
-module _ (a : List ℕ) (long : 5 ≤ length a) where
+-- One that is long enough: the refusal, and what the function inside leaves.
+module _ (a : List ℕ) (long : entry-count ≤ length a) where
   pub long-status : (n : ℕ) → n ≡ status a n
   unfolding status
-  long-status n = sym (ap (λ (t : Bool). cond t 255 n) (le-ltb (length a) 5 long))
+  long-status n = sym (ap (λ (t : Bool). cond t 255 n) (le-ltb (length a) entry-count long))
 
   pub long-kept : (b d : List ℕ) → d ≡ kept a b d
   unfolding kept
-  long-kept b d = sym (ap (λ (t : Bool). cond t b d) (le-ltb (length a) 5 long))
+  long-kept b d = sym (ap (λ (t : Bool). cond t b d) (le-ltb (length a) entry-count long))
 
-  -- What a function inside answered, and the five numbers that were stored of it.
+  -- What a function inside answered, and the numbers that were stored of it.
   pub stored : (b : List ℕ) (r q : FoldReading) → r ≡ q
-      → b ≡ r .refusal ∷ r .place ∷ r .nodes ∷ r .length ∷ r .cost ∷ drop 5 a
+      → b ≡ numbers r ++ drop entry-count a
       → (r .refusal ≡ status a (q .refusal)) × (b ≡ entries a q)
   unfolding entries
-  stored b r q e five =
+  stored b r q e all =
       subst (λ (x : FoldReading). (r .refusal ≡ status a (x .refusal)) × (b ≡ entries a x)) e
-      (long-status (r .refusal), five ∙ long-kept a (r .refusal ∷ r .place ∷ r .nodes ∷ r .length ∷ r .cost ∷ drop 5 a))
+      (long-status (r .refusal), all ∙ long-kept a (numbers r ++ drop entry-count a))
 
 -- What holds of an answer's length and cost holds of the numbers that were stored: entries 3 and 4.
 pub of-stored : (Q : (length cost : ℕ) → Type 0) (b : List ℕ) (r : FoldReading) (rest : List ℕ)
-    → b ≡ r .refusal ∷ r .place ∷ r .nodes ∷ r .length ∷ r .cost ∷ rest → Q (r .length) (r .cost) → Q (getD b 3 0) (getD b 4 0)
-of-stored Q b r rest five = subst (λ (x : List ℕ). Q (getD x 3 0) (getD x 4 0)) (sym five)
+    → b ≡ numbers r ++ rest → Q (r .length) (r .cost) → Q (getD b 3 0) (getD b 4 0)
+of-stored Q b r rest all = subst (λ (x : List ℕ). Q (getD x 3 0) (getD x 4 0)) (sym all)

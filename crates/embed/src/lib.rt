@@ -1,5 +1,6 @@
 // The static library's boundary for C and Rust: the readers, the unroller and the folder over numbers and lent slices. Every
-// answer is five numbers in a lent slice: refusal, place, nodes, length and cost, 0 where the function gives no such value.
+// answer is seven numbers in a lent slice: refusal, place, nodes, length, cost, steps and depth, 0 where the function gives no
+// such value.
 use folder::fold;
 use format::FoldReading;
 use format::wide;
@@ -8,7 +9,7 @@ use reader::read_fold;
 use reader::read_run;
 use unroller::unroll;
 ghost use mathlib.Core.Path.{_≡_};
-ghost use mathlib.Core.List.{_∷_};
+ghost use mathlib.Core.List.{_++_};
 ghost use Prim.Native.Nat.{_≤_};
 ghost use lib.ListN.{length, getD, take, drop};
 ghost use Rattle.format.specs.Limits.{priced};
@@ -18,26 +19,28 @@ ghost use Rattle.format.specs.Parts.{part-of};
 ghost use Rattle.optimum.specs.Demands.{CheapestWithin, CheapestOver, MinimumTree};
 ghost use Rattle.unroller.specs.Unrolling.{unroll-answer, unroll-output};
 ghost use Rattle.folder.specs.Folding.{folding, fold-answer, fold-output, fold-work};
-ghost use Rattle.embed.specs.Answers.{status, kept, entries, from-run-reading, from-unrolled, from-folded};
+ghost use Rattle.embed.specs.Answers.{entry-count, status, kept, numbers, entries, from-run-reading, from-unrolled, from-folded};
 
 // The entries of an answer.
-const ENTRIES: usize = 5;
+const ENTRIES: usize = 7;
 // The status where the lent answer is shorter: nothing was read or written. No refusal has this number.
 const SHORT: u8 = 255;
 
-// Puts an answer into the first five entries.
+// Puts an answer into the first entries.
 fn store(answer: &mut [u64], a: FoldReading)
-    requires { ⌜ 5 ≤ length (now answer) ⌝ }
-    ensures { λ _. ⌜ now (answer .exit) ≡ (a .refusal) ∷ (a .place) ∷ (a .nodes) ∷ (a .length) ∷ (a .cost) ∷ drop 5 (now (answer .entry)) ⌝ }
+    requires { ⌜ entry-count ≤ length (now answer) ⌝ }
+    ensures { λ _. ⌜ now (answer .exit) ≡ numbers a ++ drop entry-count (now (answer .entry)) ⌝ }
 {
     answer[0] = wide(a.refusal) as u64;
     answer[1] = a.place as u64;
     answer[2] = a.nodes as u64;
     answer[3] = a.length as u64;
     answer[4] = a.cost;
+    answer[5] = a.steps as u64;
+    answer[6] = a.depth as u64;
 }
 
-// The run reader: the number of nodes.
+// The run reader: the number of nodes, how many of them are steps, and the most groups open together.
 #[no_mangle]
 pub extern "C" fn runfold_read_run(run: &[u8], answer: &mut [u64]) -> u8
     ensures returned { λ r. ⌜ r ≡ status (now (answer .entry)) (run-reading (now (run .entry)) .refusal) ⌝ }
@@ -55,6 +58,8 @@ pub extern "C" fn runfold_read_run(run: &[u8], answer: &mut [u64]) -> u8
             nodes: r.nodes,
             length: 0,
             cost: 0,
+            steps: r.steps,
+            depth: r.depth,
         },
     );
     r.refusal
@@ -70,7 +75,7 @@ pub extern "C" fn runfold_part(run: &[u8], at: usize) -> usize
     part(run, at).len()
 }
 
-// The fold reader at a width limit and costs: the nodes and the bytes of the run, and the fold's cost.
+// The fold reader at a width limit and costs: the nodes and the bytes of the run, the fold's cost, and the run's steps and depth.
 #[no_mangle]
 pub extern "C" fn runfold_read_fold(
     fold: &[u8],
@@ -117,6 +122,8 @@ pub extern "C" fn runfold_unroll(
             nodes: 0,
             length: r.length,
             cost: 0,
+            steps: 0,
+            depth: 0,
         },
     );
     r.refusal
@@ -156,6 +163,8 @@ pub extern "C" fn runfold_fold(
             nodes: 0,
             length: r.length,
             cost: r.cost,
+            steps: 0,
+            depth: 0,
         },
     );
     r.refusal

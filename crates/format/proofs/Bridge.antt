@@ -4,18 +4,18 @@ use mathlib.Core.Path.{_≡_, refl, sym, ap, _∙_}
 use mathlib.Core.Bool.{Bool, true, false, false≢true}
 use mathlib.Core.List.{List, [], _∷_, _++_, append-assoc, append-nil}
 use mathlib.Core.Logic.{_≢_, _↔_}
-use Prim.Native.Nat.{ℕ, zero, suc, _+_, _-_, _*_, _/_, _%_, _≤_, _<_}
+use Prim.Native.Nat.{ℕ, zero, suc, _+_, _-_, _*_, _/_, _%_, _≤_, _<_, max}
 use native.Mathlib.Nat.{zero-add}
 use native.Mathlib.Omega.{arith}
 use lib.ListN.{length, length-append, getD, drop}
 use lib.Seq.{drop-at, getD-append-add}
 use Rattle.format.specs.Limits.{Prices}
 use Rattle.format.specs.Order.{Bytes}
-use Rattle.format.specs.Forest.{Forest, end, step, group, repeat, join, copies, unroll, siblings, nodes, cost, bytes, two-bytes, Plain, Allowed, at-most, Repeats, Sound, Coded, group-depth, repeat-depth, widest-of}
+use Rattle.format.specs.Forest.{Forest, end, step, group, repeat, join, copies, unroll, siblings, nodes, steps, cost, bytes, two-bytes, Plain, Allowed, at-most, Repeats, Sound, Coded, group-depth, repeat-depth, widest-of}
 use Rattle.format.specs.Machine.{Rules, State, Open, a-group, a-repeat, open-groups, open-repeats, times, put-step, enter-group, leave-group, enter-repeat, leave-repeat, repeated, scan, read, start, refused, accepted, refusal}
 use Rattle.format.specs.Shape.{Shaped, tally-of, Reads}
 use Rattle.format.specs.declared.Tally.{Tally}
-use Rattle.format.proofs.Forests.{bytes-join, bytes-copies, siblings-join, nodes-join, cost-join, unroll-join, join-end, sound-join, plain-join, coded-join, group-depth-join, repeat-depth-join}
+use Rattle.format.proofs.Forests.{bytes-join, bytes-copies, siblings-join, nodes-join, steps-join, cost-join, unroll-join, join-end, sound-join, plain-join, coded-join, group-depth-join, repeat-depth-join}
 use Rattle.format.proofs.Machine.{scan-end, scan-passed, refusal-unknown, scan-step, scan-group, scan-group-end, scan-repeat, scan-repeat-end, step-passes, group-passes, group-end-passes, repeat-passes, repeat-end-passes, step-passed, group-passed, group-end-passed, repeat-passed, repeat-end-passed, Command, step-byte, group-byte, group-end-byte, repeat-byte, repeat-end-byte, other-byte, command, StepPasses, GroupPasses, GroupEndPasses, RepeatPasses, RepeatEndPasses}
 
 -- The state after a sequence is read.
@@ -28,6 +28,8 @@ after R f st =
         nodes = st .tally .nodes + nodes f;
         size = st .tally .size + length (bytes (unroll f));
         cost = st .tally .cost + cost (R .prices) f;
+        steps = st .tally .steps + steps f;
+        depth = max (st .tally .depth) (open-groups (st .opens) + group-depth f);
       };
       text = st .text ++ bytes (unroll f);
     }
@@ -42,9 +44,13 @@ inside-repeat R h w st = enter-repeat (R .prices) h w st
 -- States agree when their parts do.
 same-state : {st st' : State} → st .opens ≡ st' .opens → st .tally .siblings ≡ st' .tally .siblings
     → st .tally .nodes ≡ st' .tally .nodes → st .tally .size ≡ st' .tally .size → st .tally .cost ≡ st' .tally .cost
-    → st .text ≡ st' .text → st ≡ st'
-same-state o a b c d x =
-    λ i. record { opens = o i; tally = record { siblings = a i; nodes = b i; size = c i; cost = d i }; text = x i }
+    → st .tally .steps ≡ st' .tally .steps → st .tally .depth ≡ st' .tally .depth → st .text ≡ st' .text → st ≡ st'
+same-state o a b c d e g x =
+    λ i. record {
+      opens = o i;
+      tally = record { siblings = a i; nodes = b i; size = c i; cost = d i; steps = e i; depth = g i };
+      text = x i;
+    }
 
 -- All passes of a repeat, where o was counted before it and n in one pass.
 repeated-all : (h o n : ℕ) → 1 ≤ h → repeated h o (o + n) ≡ o + h * n
@@ -69,14 +75,17 @@ unfolding times
 times-more zero s some = absurd (omega arith)
 times-more (suc k) s some = let e : suc k - 1 ≡ k = omega arith in rw e
 
--- The text so far is as long as counted: so a repeat finds its body's text.
-abbrev pub Even : State → Type 0
-Even st = length (st .text) ≡ st .tally .size
+-- What every state of a reading keeps: the text so far is as long as counted, so that a repeat finds its body's text; and as
+-- many groups as are open now were open together.
+pub record Kept (st : State) : Type 0 where
+  pub long : length (st .text) ≡ st .tally .size
+  pub deep : open-groups (st .opens) ≤ st .tally .depth
 
 module _ (R : Rules) (st : State) where
-  pub after-end : after R end st ≡ st
-  unfolding after unroll bytes siblings nodes cost
-  after-end = same-state refl (omega arith) (omega arith) (omega arith) (omega arith) (append-nil (st .text))
+  pub after-end : Kept st → after R end st ≡ st
+  unfolding after unroll bytes siblings nodes steps cost group-depth
+  after-end kept =
+      same-state refl (omega arith) (omega arith) (omega arith) (omega arith) (omega arith) (omega arith) (append-nil (st .text))
 
   pub after-join : (f g : Forest) → after R g (after R f st) ≡ after R (join f g) st
   unfolding after
@@ -87,23 +96,26 @@ module _ (R : Rules) (st : State) where
       (omega (arith, nodes-join f g))
       (omega (arith, ap length x ∙ length-append (bytes (unroll f)) (bytes (unroll g))))
       (omega (arith, cost-join (R .prices) f g))
+      (omega (arith, steps-join f g))
+      (omega (arith, group-depth-join f g))
       (append-assoc (st .text) (bytes (unroll f)) (bytes (unroll g)) ∙ ap (λ (y : List ℕ). st .text ++ y) (sym x))
 
-  pub after-step : (l : ℕ) → put-step (R .prices) l st ≡ after R (step l end) st
-  unfolding after put-step unroll bytes siblings nodes cost
-  after-step l = same-state refl refl refl refl (omega arith) refl
+  pub after-step : (l : ℕ) → Kept st → put-step (R .prices) l st ≡ after R (step l end) st
+  unfolding after put-step unroll bytes siblings nodes steps cost group-depth
+  after-step l kept = same-state refl refl refl refl (omega arith) refl (omega arith) refl
 
   pub counted-group : (l : ℕ) (b : Forest)
       → leave-group ((after R b (inside-group R l st)) .opens) (after R b (inside-group R l st)) ≡ after R (group l b end) st
-  unfolding after leave-group enter-group unroll bytes siblings nodes cost
+  unfolding after leave-group enter-group unroll bytes siblings nodes steps cost group-depth
   counted-group l b =
-      same-state refl (omega arith) (omega arith) (simp length-append (omega arith)) (omega arith) (simp append-assoc)
+      same-state refl (omega arith) (omega arith) (simp length-append (omega arith)) (omega arith) (omega arith) (omega arith)
+      (simp append-assoc)
 
-  pub counted-repeat : (h w : ℕ) (b : Forest) → 1 ≤ h → Even st
+  pub counted-repeat : (h w : ℕ) (b : Forest) → 1 ≤ h → Kept st
       → leave-repeat ((after R b (inside-repeat R h w st)) .opens) (after R b (inside-repeat R h w st))
       ≡ after R (repeat h w b end) st
-  unfolding after leave-repeat enter-repeat unroll siblings nodes cost
-  counted-repeat h w b some even =
+  unfolding after leave-repeat enter-repeat unroll siblings nodes steps cost group-depth
+  counted-repeat h w b some kept =
       let x : List ℕ = bytes (unroll b) in
       let r : bytes (join (copies h (unroll b)) end) ≡ times h x =
       ap bytes (join-end (copies h (unroll b))) ∙ bytes-copies h (unroll b) in
@@ -112,20 +124,25 @@ module _ (R : Rules) (st : State) where
       (omega (arith, repeated-all h (st .tally .nodes) (nodes b) some))
       (repeated-all h (st .tally .size) (length x) some ∙ rw (r, length-times))
       (omega arith)
-      (rw (drop-at (st .text) x (st .tally .size) even, r, append-assoc, times-more h x some))
+      (omega (arith, repeated-all h (st .tally .steps) (steps b) some))
+      (omega arith)
+      (rw (drop-at (st .text) x (st .tally .size) (kept .long), r, append-assoc, times-more h x some))
 
-  module _ (even : Even st) where
-    even-after : (f : Forest) → Even (after R f st)
+  module _ (kept : Kept st) where
+    kept-after : (f : Forest) → Kept (after R f st)
     unfolding after
-    even-after f = simp length-append (omega arith)
+    kept-after f = record { long = simp length-append (omega arith); deep = omega arith }
 
-    even-inside-group : (l : ℕ) → Even (inside-group R l st)
+    kept-inside-group : (l : ℕ) → Kept (inside-group R l st)
     unfolding enter-group
-    even-inside-group l = simp length-append (omega arith)
+    kept-inside-group l = record { long = simp length-append (omega arith); deep = omega arith }
 
-    even-inside-repeat : (h w : ℕ) → Even (inside-repeat R h w st)
+    kept-inside-repeat : (h w : ℕ) → Kept (inside-repeat R h w st)
     unfolding enter-repeat
-    even-inside-repeat h w = even
+    kept-inside-repeat h w = record { long = kept .long; deep = kept .deep }
+
+pub kept-start : Kept start
+kept-start = record { long = refl; deep = omega arith }
 
 -- Room for a sequence beside what is open and counted.
 pub record RoomBeside (R : Rules) (st : State) (f : Forest) : Type 0 where
@@ -221,30 +238,30 @@ module _ (R : Rules) where
       → inside-repeat R (h / 256 * 256 + h % 256) (w / 256 * 256 + w % 256) st ≡ inside-repeat R h w st
   same-operands h w st = rw (word-again h, word-again w)
 
-  pub scan-forest : (f : Forest) (p : ℕ) (st : State) (s : List ℕ) → Fits R st f → Even st
+  pub scan-forest : (f : Forest) (p : ℕ) (st : State) (s : List ℕ) → Fits R st f → Kept st
       → scan R p 0 st (bytes f ++ s) ≡ scan R (p + length (bytes f)) 0 (after R f st) s
   unfolding bytes join
-  scan-forest end p st s z even = onward s (omega arith) (sym (after-end R st))
-  scan-forest (step l f) p st s z even =
+  scan-forest end p st s z kept = onward s (omega arith) (sym (after-end R st kept))
+  scan-forest (step l f) p st s z kept =
       let st1 : State = after R (step l end) st in
       let r : List ℕ = bytes f ++ s in
       scan-step R p st r l (step-on R st l f z r)
-      ∙ onward r refl (after-step R st l)
-      ∙ scan-forest f (p + 2) st1 s (step-rest R st l f z) (even-after R st even (step l end))
+      ∙ onward r refl (after-step R st l kept)
+      ∙ scan-forest f (p + 2) st1 s (step-rest R st l f z) (kept-after R st kept (step l end))
       ∙ onward s (omega arith) (after-join R st (step l end) f)
-  scan-forest (group l b f) p st s z even =
+  scan-forest (group l b f) p st s z kept =
       let inner : State = after R b (inside-group R l st) in
       let st1 : State = after R (group l b end) st in
       let q : ℕ = p + 2 + length (bytes b) in
       let r : List ℕ = bytes f ++ s in
       rw append-assoc
       (scan-group R p st (bytes b ++ 0x12 ∷ r) l (group-opens R st l b f z (bytes b ++ 0x12 ∷ r))
-      ∙ scan-forest b (p + 2) (inside-group R l st) (0x12 ∷ r) (group-body R st l b f z) (even-inside-group R st even l)
+      ∙ scan-forest b (p + 2) (inside-group R l st) (0x12 ∷ r) (group-body R st l b f z) (kept-inside-group R st kept l)
       ∙ scan-group-end R q inner r (group-closes R st l b f z r)
       ∙ onward r refl (counted-group R st l b)
-      ∙ scan-forest f (q + 1) st1 s (group-rest R st l b f z) (even-after R st even (group l b end))
+      ∙ scan-forest f (q + 1) st1 s (group-rest R st l b f z) (kept-after R st kept (group l b end))
       ∙ onward s (omega (arith, length-append (bytes b) (0x12 ∷ bytes f))) (after-join R st (group l b end) f))
-  scan-forest (repeat h w b f) p st s z even =
+  scan-forest (repeat h w b f) p st s z kept =
       let inner : State = after R b (inside-repeat R h w st) in
       let st1 : State = after R (repeat h w b end) st in
       let q : ℕ = p + 5 + length (bytes b) in
@@ -253,10 +270,10 @@ module _ (R : Rules) where
       rw append-assoc
       (scan-repeat R p st o (h / 256) (h % 256) (w / 256) (w % 256) (repeat-opens R st h w b f z o)
       ∙ onward o refl (same-operands h w st)
-      ∙ scan-forest b (p + 5) (inside-repeat R h w st) (0x21 ∷ r) (repeat-body R st h w b f z) (even-inside-repeat R st even h w)
+      ∙ scan-forest b (p + 5) (inside-repeat R h w st) (0x21 ∷ r) (repeat-body R st h w b f z) (kept-inside-repeat R st kept h w)
       ∙ scan-repeat-end R q inner r (repeat-closes R st h w b f z r)
-      ∙ onward r refl (counted-repeat R st h w b (omega arith) even)
-      ∙ scan-forest f (q + 1) st1 s (repeat-rest R st h w b f z) (even-after R st even (repeat h w b end))
+      ∙ onward r refl (counted-repeat R st h w b (omega arith) kept)
+      ∙ scan-forest f (q + 1) st1 s (repeat-rest R st h w b f z) (kept-after R st kept (repeat h w b end))
       ∙ onward s (omega (arith, length-append (bytes b) (0x21 ∷ bytes f))) (after-join R st (repeat h w b end) f))
 
 -- The machine accepts every tree of the right shape, with the tree's counts and its unrolled bytes.
@@ -265,8 +282,9 @@ pub accepts : (R : Rules) (f : Forest) → Shaped R f
 unfolding read tally-of after
 accepts R f z =
     let fits : Fits R start f = record { coded = z .coded; sound = z .sound; plain = z .plain; room = omega arith } in
+    let deep : max (start .tally .depth) (group-depth f) ≡ group-depth f = omega arith in
     rw (← append-nil (bytes f))
-    (scan-forest R f 0 start [] fits refl ∙ scan-end R (0 + length (bytes f)) (after R f start) ∙ simp zero-add)
+    (scan-forest R f 0 start [] fits kept-start ∙ scan-end R (0 + length (bytes f)) (after R f start) ∙ simp (zero-add, deep))
 
 -- Back: accepted bytes begin with a sequence that fits, up to where its reading stops: the end, or a close.
 data Stops : List ℕ → Type 0 where
@@ -375,9 +393,9 @@ module _ (R : Rules) (t : Tally) (x : List ℕ) where
     shuts-nothing top (at-repeat-end {s}) e = absurd (false≢true (rw top at (repeat-end-there s e .inner)))
 
   -- Where the reading of what begins stops.
-  stopped : (p : ℕ) (st : State) (s : List ℕ) (q : Begins R st s) → Even st → Accepts p st s
+  stopped : (p : ℕ) (st : State) (s : List ℕ) (q : Begins R st s) → Kept st → Accepts p st s
       → Accepts (p + length (bytes (q .tree))) (after R (q .tree) st) (q .rest)
-  stopped p st s q even e = sym (scan-forest R (q .tree) p st (q .rest) (q .fits) even) ∙ rw (q .form) e
+  stopped p st s q kept e = sym (scan-forest R (q .tree) p st (q .rest) (q .fits) kept) ∙ rw (q .form) e
 
   -- No item begins at a stop.
   none-read : (st : State) → RoomBeside R st end → (s : List ℕ) → Stops s → Begins R st s
@@ -394,9 +412,9 @@ module _ (R : Rules) (t : Tally) (x : List ℕ) where
   -- What is read of at most n bytes, from any state with room.
   abbrev Parses : ℕ → Type 0
   Parses n =
-      (p : ℕ) (st : State) (s : List ℕ) → length s ≤ n → Bytes s → RoomBeside R st end → Even st → Accepts p st s → Begins R st s
+      (p : ℕ) (st : State) (s : List ℕ) → length s ≤ n → Bytes s → RoomBeside R st end → Kept st → Accepts p st s → Begins R st s
 
-  module _ (n : ℕ) (ih : Parses n) (p : ℕ) (st : State) (room : RoomBeside R st end) (even : Even st) where
+  module _ (n : ℕ) (ih : Parses n) (p : ℕ) (st : State) (room : RoomBeside R st end) (kept : Kept st) where
     -- Past a first item that fits.
     past : (f : Forest) (s whole : List ℕ) → bytes f ++ s ≡ whole → 0 < length (bytes f) → length whole ≤ suc n
         → Bytes whole → Fits R st f → Accepts p st whole → Begins R st whole
@@ -405,8 +423,8 @@ module _ (R : Rules) (t : Tally) (x : List ℕ) where
         let small' : Bytes s = λ i. rw (← getD-append-add (bytes f) s i 0, form) (small (length (bytes f) + i)) in
         let e' : Accepts p st (bytes f ++ s) = rw form e in
         joined
-        (ih (p + length (bytes f)) (after R f st) s shorter small' (room-after R st f (fits .room)) (even-after R st even f)
-        (sym (scan-forest R f p st s fits even) ∙ e'))
+        (ih (p + length (bytes f)) (after R f st) s shorter small' (room-after R st f (fits .room)) (kept-after R st kept f)
+        (sym (scan-forest R f p st s fits kept) ∙ e'))
       where
         joined : Begins R (after R f st) s → Begins R st whole
         joined q =
@@ -449,7 +467,7 @@ module _ (R : Rules) (t : Tally) (x : List ℕ) where
           group-shut q
           (shuts-group (p + 2 + length (bytes (q .tree))) (after R (q .tree) (inside-group R l st))
           (room-after R (inside-group R l st) (q .tree) (q .fits .room)) (st .tally) (st .opens) refl (q .stops)
-          (stopped (p + 2) (inside-group R l st) s q (even-inside-group R st even l) in-body))
+          (stopped (p + 2) (inside-group R l st) s q (kept-inside-group R st kept l) in-body))
 
     parse-group : (s : List ℕ) → length s ≤ n → Bytes (0x11 ∷ s) → GroupPasses R st s → Accepts p st (0x11 ∷ s)
         → Begins R st (0x11 ∷ s)
@@ -457,7 +475,7 @@ module _ (R : Rules) (t : Tally) (x : List ℕ) where
     parse-group (l ∷ s) short small z e =
         group-read l s short small z e
         (ih (p + 2) (inside-group R l st) s (omega arith) (λ i. small (suc (suc i))) (group-room R st room l (l ∷ s) z)
-        (even-inside-group R st even l)
+        (kept-inside-group R st kept l)
         (in-body l s short small z e))
 
     -- A repeat: the same, and its operands are its bytes again.
@@ -495,7 +513,7 @@ module _ (R : Rules) (t : Tally) (x : List ℕ) where
           repeat-shut (a * 256 + b) (c * 256 + d) refl refl q
           (shuts-repeat (p + 5 + length (bytes (q .tree))) (after R (q .tree) in-pass)
           (room-after R in-pass (q .tree) (q .fits .room)) (a * 256 + b) (c * 256 + d) (st .tally) (st .opens) refl (q .stops)
-          (stopped (p + 5) in-pass s q (even-inside-repeat R st even (a * 256 + b) (c * 256 + d)) in-one-pass))
+          (stopped (p + 5) in-pass s q (kept-inside-repeat R st kept (a * 256 + b) (c * 256 + d)) in-one-pass))
 
     parse-repeat : (s : List ℕ) → length s ≤ n → Bytes (0x20 ∷ s) → RepeatPasses R st s → Accepts p st (0x20 ∷ s)
         → Begins R st (0x20 ∷ s)
@@ -507,7 +525,7 @@ module _ (R : Rules) (t : Tally) (x : List ℕ) where
         repeat-read a b c d s short small z e
         (ih (p + 5) (inside-repeat R (a * 256 + b) (c * 256 + d) st) s (omega arith) (λ i. small (suc (suc (suc (suc (suc i))))))
         (repeat-room R st room (a * 256 + b) (c * 256 + d) (a ∷ b ∷ c ∷ d ∷ s) z)
-        (even-inside-repeat R st even (a * 256 + b) (c * 256 + d))
+        (kept-inside-repeat R st kept (a * 256 + b) (c * 256 + d))
         (in-one-pass a b c d s short small z e))
 
     parse-command : {c : ℕ} (s : List ℕ) → Command c → length s ≤ n → Bytes (c ∷ s) → refusal R st c s ≡ 0
@@ -521,14 +539,14 @@ module _ (R : Rules) (t : Tally) (x : List ℕ) where
     parse-command s (other-byte {c} h) short small pass e = absurd (omega (arith, sym (refusal-unknown R st s c h) ∙ pass))
 
   grow : (n : ℕ) → Parses n → Parses (suc n)
-  grow n ih p st [] short small room even e = none-read st room [] at-nothing
-  grow n ih p st (c ∷ s) short small room even e =
-      parse-command n ih p st room even s (command c) (omega arith) small (scan-passed R p st c s e) e
+  grow n ih p st [] short small room kept e = none-read st room [] at-nothing
+  grow n ih p st (c ∷ s) short small room kept e =
+      parse-command n ih p st room kept s (command c) (omega arith) small (scan-passed R p st c s e) e
 
   parse : (n : ℕ) → Parses n
-  parse zero p st [] short small room even e = none-read st room [] at-nothing
-  parse zero p st (c ∷ s) short small room even e = absurd (omega arith)
-  parse (suc n) p st s short small room even e = grow n (λ p st s. parse n p st s) p st s short small room even e
+  parse zero p st [] short small room kept e = none-read st room [] at-nothing
+  parse zero p st (c ∷ s) short small room kept e = absurd (omega arith)
+  parse (suc n) p st s short small room kept e = grow n (λ p st s. parse n p st s) p st s short small room kept e
 
   -- What begins a whole accepted input is all of it.
   whole-read : (s : List ℕ) → Accepts 0 start s → Begins R start s → Reads R s t x
@@ -536,7 +554,7 @@ module _ (R : Rules) (t : Tally) (x : List ℕ) where
   whole-read s e q =
       let none : q .rest ≡ [] =
       shuts-nothing (0 + length (bytes (q .tree))) (after R (q .tree) start) (room-after R start (q .tree) (q .fits .room))
-      refl (q .stops) (stopped 0 start s q refl e) in
+      refl (q .stops) (stopped 0 start s q kept-start e) in
       let form : bytes (q .tree) ≡ s = sym (append-nil (bytes (q .tree))) ∙ rw none at (q .form) in
       let z = q .fits in
       let shape : Shaped R (q .tree) =
@@ -555,7 +573,7 @@ module _ (R : Rules) (t : Tally) (x : List ℕ) where
 pub parses : (R : Rules) (s : List ℕ) → Bytes s → (t : Tally) (x : List ℕ) → read R s ≡ accepted t x → Reads R s t x
 unfolding read nodes group-depth repeat-depth
 parses R s small t x e =
-    whole-read R t x s e (parse R t x (length s) 0 start s (omega arith) small (omega arith) refl e)
+    whole-read R t x s e (parse R t x (length s) 0 start s (omega arith) small (omega arith) kept-start e)
 
 -- What follows a sequence does not begin with an item.
 abbrev pub NoItem : List ℕ → Type 0

@@ -1,5 +1,5 @@
 -- Examples of what the readers answer, checked by computation: every check of docs/REFUSALS.md, the order of the checks, each
--- limit met and passed, widths, costs and parts. A table is a list of cases with one statement: every case holds.
+-- limit met and passed, widths, costs, steps, depth and parts. A table is a list of cases with one statement: every case holds.
 use mathlib.Core.Path.{_≡_, refl}
 use mathlib.Core.List.{List, [], _∷_, _++_, map}
 use Prim.Native.Nat.{ℕ, _/_, _%_}
@@ -27,15 +27,16 @@ abbrev pub fold : List ℕ → Asked
 unfolding fold-within
 fold s = fold-within 1024 s
 
--- The answers: a refusal's number and place with every value 0; the nodes, length and cost of a fold; the nodes of a run.
+-- The answers: a refusal's number and place with every value 0; the nodes, length, cost, steps and depth of a fold; the nodes,
+-- steps and depth of a run.
 abbrev pub a-refusal : (number place : ℕ) → FoldReading
-a-refusal n p = record { refusal = n; place = p; nodes = 0; length = 0; cost = 0 }
+a-refusal n p = record { refusal = n; place = p; nodes = 0; length = 0; cost = 0; steps = 0; depth = 0 }
 
-abbrev pub fold-values : (nodes length cost : ℕ) → FoldReading
-fold-values n l c = record { refusal = 0; place = 0; nodes = n; length = l; cost = c }
+abbrev pub fold-values : (nodes length cost steps depth : ℕ) → FoldReading
+fold-values n l c s d = record { refusal = 0; place = 0; nodes = n; length = l; cost = c; steps = s; depth = d }
 
-abbrev pub run-values : (nodes : ℕ) → FoldReading
-run-values n = fold-values n 0 0
+abbrev pub run-values : (nodes steps depth : ℕ) → FoldReading
+run-values n s d = fold-values n 0 0 s d
 
 -- A case: what is asked, and the answer.
 pub data Case : Type 0 where
@@ -46,7 +47,15 @@ unfoldable pub answer : Asked → FoldReading
 unfolding run-reading fold-reading
 answer (run s) =
     let r = run-reading s in
-    record { refusal = r .refusal; place = r .place; nodes = r .nodes; length = 0; cost = 0 }
+    record {
+      refusal = r .refusal;
+      place = r .place;
+      nodes = r .nodes;
+      length = 0;
+      cost = 0;
+      steps = r .steps;
+      depth = r .depth;
+    }
 answer (fold-with k table first each s) = fold-reading s k table first each
 
 unfoldable pub answered : Case → FoldReading
@@ -141,21 +150,21 @@ unfoldable pub bounds : List Case
 unfolding fold times
 bounds =
     -- counts from 2
-    fold (repeating 2 1 one-step) gives fold-values 2 4 2
+    fold (repeating 2 1 one-step) gives fold-values 2 4 2 2 0
     -- 1,024 nodes, by themselves or by a repeat
-    ∷ run (times 1024 one-step) gives run-values 1024
+    ∷ run (times 1024 one-step) gives run-values 1024 1024 0
     ∷ run (times 1025 one-step) gives a-refusal 10 2048
-    ∷ fold (repeating 1024 1 one-step) gives fold-values 1024 2048 2
+    ∷ fold (repeating 1024 1 one-step) gives fold-values 1024 2048 2 1024 0
     -- 8 open groups; those that are closed do not count
-    ∷ run (times 8 group-start ++ one-step ++ times 8 (0x12 ∷ [])) gives run-values 9
-    ∷ run (times 9 (grouping one-step)) gives run-values 18
+    ∷ run (times 8 group-start ++ one-step ++ times 8 (0x12 ∷ [])) gives run-values 9 1 8
+    ∷ run (times 9 (grouping one-step)) gives run-values 18 9 1
     -- 10 open repeats; the 11th is refused at its open
-    ∷ fold ten-nested gives fold-values 1024 2048 11
+    ∷ fold ten-nested gives fold-values 1024 2048 11 1024 0
     ∷ fold (times 11 (repeat-start 2 1)) gives a-refusal 8 50
     -- a width operand that is the limit
-    ∷ fold-within 2 (repeating 2 2 (one-step ++ one-step)) gives fold-values 4 8 3
+    ∷ fold-within 2 (repeating 2 2 (one-step ++ one-step)) gives fold-values 4 8 3 4 0
     -- limit 1,024 and 256 entries; one more entry
-    ∷ fold [] gives fold-values 0 0 0
+    ∷ fold [] gives fold-values 0 0 0 0 0
     ∷ fold-with 1024 (ones 257) 1 0 [] gives a-refusal 11 0
     ∷ []
 
@@ -163,29 +172,64 @@ pub bounds-hold : Hold bounds
 unfolding answered expected bounds
 bounds-hold = refl
 
--- What is counted: nodes, the length of the run, and the cost.
+-- What is counted: nodes, the length of the run, the cost, steps and depth.
 unfoldable pub values : List Case
 unfolding fold times
 values =
     -- a label may look like a command
-    run (0x11 ∷ 0x12 ∷ 0x10 ∷ 0x21 ∷ 0x12 ∷ []) gives run-values 2
+    run (0x11 ∷ 0x12 ∷ 0x10 ∷ 0x21 ∷ 0x12 ∷ []) gives run-values 2 1 1
     -- the place of 3 is the input's length
     ∷ run (0x10 ∷ []) gives a-refusal 3 1
     -- the width is counted in siblings after unrolling: a repeat is not one item
-    ∷ fold (repeating 2 4 (one-step ++ repeating 3 1 one-step)) gives fold-values 8 16 4
+    ∷ fold (repeating 2 4 (one-step ++ repeating 3 1 one-step)) gives fold-values 8 16 4 8 0
     ∷ fold (repeating 2 2 (one-step ++ repeating 3 1 one-step)) gives a-refusal 9 15
     -- nodes inside groups do not count for the width
-    ∷ fold (repeating 2 1 (grouping (one-step ++ one-step))) gives fold-values 6 14 4
+    ∷ fold (repeating 2 1 (grouping (one-step ++ one-step))) gives fold-values 6 14 4 4 1
     ∷ fold (repeating 2 3 (grouping (one-step ++ one-step))) gives a-refusal 9 12
     -- a repeat of count h costs first + each × (h − 2), and its body once
-    ∷ fold-with 1024 (ones 256) 3 10 (repeating 5 1 one-step) gives fold-values 5 10 34
+    ∷ fold-with 1024 (ones 256) 3 10 (repeating 5 1 one-step) gives fold-values 5 10 34 5 0
     -- a label is priced by its entry, for steps and groups alike: 02 for 9, 01 for 7, FF for 65,535
-    ∷ fold-with 1024 (1 ∷ 7 ∷ 9 ∷ ones 252 ++ 65535 ∷ []) 0 0 (0x11 ∷ 0x02 ∷ 0x10 ∷ 0x01 ∷ 0x12 ∷ 0x10 ∷ 0xFF ∷ []) gives fold-values 3 7 65551
+    ∷ fold-with 1024 (1 ∷ 7 ∷ 9 ∷ ones 252 ++ 65535 ∷ []) 0 0 (0x11 ∷ 0x02 ∷ 0x10 ∷ 0x01 ∷ 0x12 ∷ 0x10 ∷ 0xFF ∷ []) gives fold-values 3 7 65551 2 1
     ∷ []
 
 pub values-hold : Hold values
 unfolding answered expected values
 values-hold = refl
+
+-- Two groups 05 holding aaa: as a run, and as its cheapest fold at unit costs (`known` in crates/optimum/specs/Known.antt).
+abbrev pub two-groups : List ℕ
+unfolding times
+two-groups = times 2 (0x11 ∷ 0x05 ∷ times 3 (0x10 ∷ 0x01 ∷ []) ++ 0x12 ∷ [])
+
+abbrev pub two-groups-folded : List ℕ
+two-groups-folded = repeating 2 1 (0x11 ∷ 0x05 ∷ repeating 3 1 (0x10 ∷ 0x01 ∷ []) ++ 0x12 ∷ [])
+
+-- How many of the nodes are steps, and how many groups are open together; `bounds` has eight inside each other.
+unfoldable pub shapes : List Case
+unfolding fold times
+shapes =
+    -- the same of a run and of its fold; 8 nodes, 18 bytes, cost 8 plain and 4 folded
+    run two-groups gives run-values 8 6 1
+    ∷ fold two-groups gives fold-values 8 18 8 6 1
+    ∷ fold two-groups-folded gives fold-values 8 18 4 6 1
+    -- flat runs: nothing, three steps
+    ∷ run [] gives run-values 0 0 0
+    ∷ run (times 3 one-step) gives run-values 3 3 0
+    -- a repeat of a group multiplies its steps and not its depth
+    ∷ fold (repeating 5 1 (grouping (one-step ++ grouping one-step))) gives fold-values 20 50 5 10 2
+    -- a repeat between two groups adds no depth
+    ∷ fold (grouping (repeating 2 1 (grouping one-step))) gives fold-values 5 13 4 2 2
+    -- groups side by side are not open together: the deeper one counts, before or behind
+    ∷ run (grouping (grouping one-step) ++ grouping one-step) gives run-values 5 2 2
+    ∷ run (grouping one-step ++ grouping (grouping one-step)) gives run-values 5 2 2
+    -- nothing of what was counted stays after a refusal
+    ∷ run (grouping one-step ++ 0x13 ∷ []) gives a-refusal 1 5
+    ∷ fold (grouping one-step ++ 0x13 ∷ []) gives a-refusal 1 5
+    ∷ []
+
+pub shapes-hold : Hold shapes
+unfolding answered expected shapes
+shapes-hold = refl
 
 -- Parts of the run a, group 05 of b and c, a: a node with all it holds at 0, 2, 4 and 9; nothing at a label, at the close and at
 -- the end; nothing in a refused run.

@@ -7,7 +7,7 @@ use native.Mathlib.Omega.{arith}
 use lib.ListN.{getD}
 use Rattle.format.specs.Limits.{Prices}
 use Rattle.format.specs.Order.{Bytes}
-use Rattle.format.specs.Forest.{Forest, end, step, group, repeat, join, copies, unroll, siblings, nodes, cost, bytes, Plain, Allowed, Sound, Coded, group-depth, repeat-depth, widest-of}
+use Rattle.format.specs.Forest.{Forest, end, step, group, repeat, join, copies, unroll, siblings, nodes, steps, cost, bytes, Plain, Allowed, Sound, Coded, group-depth, repeat-depth, widest-of}
 use Rattle.format.specs.Machine.{times}
 
 pub join-end : (f : Forest) → join f end ≡ f
@@ -45,6 +45,13 @@ nodes-join (step l f) g = omega (arith, nodes-join f g)
 nodes-join (group l b f) g = omega (arith, nodes-join f g)
 nodes-join (repeat h w b f) g = omega (arith, nodes-join f g)
 
+pub steps-join : (f g : Forest) → steps (join f g) ≡ steps f + steps g
+unfolding join steps
+steps-join end g = omega arith
+steps-join (step l f) g = omega (arith, steps-join f g)
+steps-join (group l b f) g = omega (arith, steps-join f g)
+steps-join (repeat h w b f) g = omega (arith, steps-join f g)
+
 pub cost-join : (P : Prices) (f g : Forest) → cost P (join f g) ≡ cost P f + cost P g
 unfolding join cost
 cost-join P end g = omega arith
@@ -75,6 +82,11 @@ unfolding copies nodes
 nodes-copies zero f = omega arith
 nodes-copies (suc h) f = omega (arith, nodes-join f (copies h f), nodes-copies h f)
 
+steps-copies : (h : ℕ) (f : Forest) → steps (copies h f) ≡ h * steps f
+unfolding copies steps
+steps-copies zero f = omega arith
+steps-copies (suc h) f = omega (arith, steps-join f (copies h f), steps-copies h f)
+
 pub copies-add : (m n : ℕ) (f : Forest) → join (copies m f) (copies n f) ≡ copies (m + n) f
 unfolding copies join
 copies-add zero n f = rw zero-add
@@ -97,6 +109,15 @@ nodes-unroll (group l b f) = ap₂ (λ (m n : ℕ). 1 + m + n) (nodes-unroll b) 
 nodes-unroll (repeat h w b f) =
     nodes-join (copies h (unroll b)) (unroll f)
     ∙ ap₂ (λ (m n : ℕ). m + n) (nodes-copies h (unroll b) ∙ ap (λ (n : ℕ). h * n) (nodes-unroll b)) (nodes-unroll f)
+
+pub steps-unroll : (f : Forest) → steps (unroll f) ≡ steps f
+unfolding unroll steps
+steps-unroll end = refl
+steps-unroll (step l f) = ap (λ (n : ℕ). 1 + n) (steps-unroll f)
+steps-unroll (group l b f) = ap₂ (λ (m n : ℕ). m + n) (steps-unroll b) (steps-unroll f)
+steps-unroll (repeat h w b f) =
+    steps-join (copies h (unroll b)) (unroll f)
+    ∙ ap₂ (λ (m n : ℕ). m + n) (steps-copies h (unroll b) ∙ ap (λ (n : ℕ). h * n) (steps-unroll b)) (steps-unroll f)
 
 -- Joining and copying runs gives runs, and so does unrolling anything.
 pub plain-join : (f g : Forest) → Plain f → Plain g → Plain (join f g)
@@ -178,7 +199,7 @@ repeat-depth-join (step l f) g = repeat-depth-join f g
 repeat-depth-join (group l b f) g = omega (arith, repeat-depth-join f g)
 repeat-depth-join (repeat h w b f) g = omega (arith, repeat-depth-join f g)
 
--- Unrolling adds no label, and opens no group deeper.
+-- Unrolling adds no label, and leaves groups as deep as they were.
 coded-copies : (h : ℕ) (f : Forest) → Coded f → Coded (copies h f)
 unfolding copies
 coded-copies zero f p = tt
@@ -192,19 +213,24 @@ coded-unroll (group l b f) p = (p .0, coded-unroll b (p .1), coded-unroll f (p .
 coded-unroll (repeat h w b f) p =
     coded-join (copies h (unroll b)) (unroll f) (coded-copies h (unroll b) (coded-unroll b (p .2))) (coded-unroll f (p .3))
 
-group-depth-copies : (h : ℕ) (f : Forest) → group-depth (copies h f) ≤ group-depth f
+group-depth-copies : (h : ℕ) (f : Forest) → group-depth (copies (suc h) f) ≡ group-depth f
 unfolding copies group-depth
-group-depth-copies zero f = omega arith
-group-depth-copies (suc h) f = omega (arith, group-depth-join f (copies h f), group-depth-copies h f)
+group-depth-copies zero f = ap group-depth (join-end f)
+group-depth-copies (suc h) f = omega (arith, group-depth-join f (copies (suc h) f), group-depth-copies h f)
 
-pub group-depth-unroll : (f : Forest) → group-depth (unroll f) ≤ group-depth f
+-- A repeat has a pass, and every pass is as deep as the body.
+group-depth-passes : (h : ℕ) (f : Forest) → 1 ≤ h → group-depth (copies h f) ≡ group-depth f
+group-depth-passes zero f some = absurd (omega arith)
+group-depth-passes (suc h) f some = group-depth-copies h f
+
+pub group-depth-unroll : (A : Allowed) (f : Forest) → Sound A f → group-depth (unroll f) ≡ group-depth f
 unfolding unroll group-depth
-group-depth-unroll end = omega arith
-group-depth-unroll (step l f) = group-depth-unroll f
-group-depth-unroll (group l b f) = omega (arith, group-depth-unroll b, group-depth-unroll f)
-group-depth-unroll (repeat h w b f) =
+group-depth-unroll A end z = refl
+group-depth-unroll A (step l f) z = group-depth-unroll A f z
+group-depth-unroll A (group l b f) z = omega (arith, group-depth-unroll A b (z .1), group-depth-unroll A f (z .2))
+group-depth-unroll A (repeat h w b f) z =
     omega
-    (arith, group-depth-join (copies h (unroll b)) (unroll f), group-depth-copies h (unroll b), group-depth-unroll b, group-depth-unroll f)
+    (arith, group-depth-join (copies h (unroll b)) (unroll f), group-depth-passes h (unroll b) (omega (arith, z .0 .twice)), group-depth-unroll A b (z .1), group-depth-unroll A f (z .2))
 
 -- A run has no repeat that could be too deep or too wide.
 pub repeat-depth-plain : (f : Forest) → Plain f → repeat-depth f ≡ 0

@@ -15,5 +15,6 @@ pub mod Tree
 pub mod Runs
 pub mod Expansion
 pub mod Report
+pub mod StepsAndDepth
 pub mod Parts
 pub mod Examples

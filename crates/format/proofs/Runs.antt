@@ -25,7 +25,7 @@ module _ (k : ℕ) (P : Prices) (f : Forest) (z : Shaped (fold-rules k P) f) whe
         coded = coded-unroll f (z .coded);
         sound = sound-within (at-most k) (at-most 0) (unroll f) (omega (arith, widest-plain (unroll f) p)) s;
         plain = λ e. p;
-        groups = omega (arith, group-depth-unroll f, z .groups);
+        groups = omega (arith, group-depth-unroll (at-most k) f (z .sound), z .groups);
         repeats = omega (arith, repeat-depth-plain (unroll f) p);
         total = omega (arith, nodes-unroll f, z .total);
       }

@@ -48,6 +48,13 @@ nodes (step l f) = 1 + nodes f
 nodes (group l b f) = 1 + nodes b + nodes f
 nodes (repeat h w b f) = h * nodes b + nodes f
 
+-- The steps after unrolling: the nodes that are no groups.
+unfoldable pub steps : Forest → ℕ
+steps end = 0
+steps (step l f) = 1 + steps f
+steps (group l b f) = steps b + steps f
+steps (repeat h w b f) = h * steps b + steps f
+
 -- The cost of a fold: the sum over its own commands, a body's cost not multiplied.
 unfoldable pub cost : Prices → Forest → ℕ
 cost P end = 0

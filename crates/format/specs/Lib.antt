@@ -6,6 +6,7 @@ pub mod Machine
 pub mod Reasons
 pub mod Head
 pub mod Readings
+pub mod StepsAndDepth
 pub mod Difference
 pub mod Shape
 pub mod Parts

@@ -2,7 +2,7 @@
 -- docs/REFUSALS.md that applies, and counts.
 use mathlib.Core.Bool.{Bool, true, false, not, cond, _&&_, _||_}
 use mathlib.Core.List.{List, [], _∷_, _++_}
-use Prim.Native.Nat.{ℕ, zero, suc, _+_, _-_, _*_}
+use Prim.Native.Nat.{ℕ, zero, suc, _+_, _-_, _*_, max}
 use lib.Dec.{ltb, leb, eqb}
 use lib.ListN.{length, getD, drop}
 use Rattle.format.specs.Limits.{Limits, Prices, of-repeat}
@@ -89,27 +89,69 @@ total-of (a-repeat h w t ∷ os) n = repeated h (t .nodes) n
 abbrev pub node-total : ℕ → List Open → ℕ → ℕ
 node-total c os n = cond (is-node c) (n + 1) (cond (eqb c 0x21) (total-of os n) n)
 
--- The counts after one more node of that many bytes and that price.
-abbrev pub with-node : Tally → ℕ → ℕ → Tally
-with-node t bytes price =
-    record { siblings = t .siblings + 1; nodes = t .nodes + 1; size = t .size + bytes; cost = t .cost + price }
+-- Nothing counted.
+abbrev pub none : Tally
+none = record { siblings = 0; nodes = 0; size = 0; cost = 0; steps = 0; depth = 0 }
 
--- The counts inside what is opened at a price: no sibling yet.
-abbrev pub inside : Tally → ℕ → Tally
-inside t price = record { siblings = 0; nodes = t .nodes; size = t .size; cost = t .cost + price }
-
--- The counts after a group: outside it, it is one sibling.
-abbrev pub after-group : (outer inner : Tally) → Tally
-after-group o t = record { siblings = o .siblings + 1; nodes = t .nodes; size = t .size + 1; cost = t .cost }
-
--- The counts after a repeat: all but the cost are those of h passes.
-abbrev pub after-repeat : ℕ → (outer inner : Tally) → Tally
-after-repeat h o t =
+-- The counts after a step of that price: two bytes.
+abbrev pub with-step : Tally → ℕ → Tally
+with-step t price =
     record {
-      siblings = o .siblings + h * t .siblings;
-      nodes = repeated h (o .nodes) (t .nodes);
-      size = repeated h (o .size) (t .size);
-      cost = t .cost;
+      siblings = t .siblings + 1;
+      nodes = t .nodes + 1;
+      size = t .size + 2;
+      cost = t .cost + price;
+      steps = t .steps + 1;
+      depth = t .depth;
+    }
+
+-- The counts inside a group that is opened at a price, where `g` groups were open before it: one node more, two bytes, no
+-- sibling yet, and g + 1 groups open together.
+abbrev pub group-entered : (g : ℕ) → (outer : Tally) → ℕ → Tally
+group-entered g outer price =
+    record {
+      siblings = 0;
+      nodes = outer .nodes + 1;
+      size = outer .size + 2;
+      cost = outer .cost + price;
+      steps = outer .steps;
+      depth = max (outer .depth) (g + 1);
+    }
+
+-- The counts after a group, by those before it and those inside it: outside it, it is one sibling.
+abbrev pub after-group : (outer inner : Tally) → Tally
+after-group outer inner =
+    record {
+      siblings = outer .siblings + 1;
+      nodes = inner .nodes;
+      size = inner .size + 1;
+      cost = inner .cost;
+      steps = inner .steps;
+      depth = inner .depth;
+    }
+
+-- The counts inside a repeat that is opened at a price: no sibling yet.
+abbrev pub repeat-entered : (before : Tally) → ℕ → Tally
+repeat-entered before price =
+    record {
+      siblings = 0;
+      nodes = before .nodes;
+      size = before .size;
+      cost = before .cost + price;
+      steps = before .steps;
+      depth = before .depth;
+    }
+
+-- The counts after a repeat, by those before it and those after one pass: all h passes count, but not for cost and depth.
+abbrev pub after-repeat : ℕ → (before pass : Tally) → Tally
+after-repeat h before pass =
+    record {
+      siblings = before .siblings + h * pass .siblings;
+      nodes = repeated h (before .nodes) (pass .nodes);
+      size = repeated h (before .size) (pass .size);
+      cost = pass .cost;
+      steps = repeated h (before .steps) (pass .steps);
+      depth = pass .depth;
     }
 
 -- n copies of a list, end to end.
@@ -127,13 +169,13 @@ pub record State : Type 0 where
 -- The state after a passed command.
 unfoldable pub put-step : Prices → ℕ → State → State
 put-step P l st =
-    record { opens = st .opens; tally = with-node (st .tally) 2 (P .of-step l); text = st .text ++ 0x10 ∷ l ∷ [] }
+    record { opens = st .opens; tally = with-step (st .tally) (P .of-step l); text = st .text ++ 0x10 ∷ l ∷ [] }
 
 unfoldable pub enter-group : Prices → ℕ → State → State
 enter-group P l st =
     record {
       opens = a-group (st .tally) ∷ st .opens;
-      tally = inside (with-node (st .tally) 2 (P .of-group l)) 0;
+      tally = group-entered (open-groups (st .opens)) (st .tally) (P .of-group l);
       text = st .text ++ 0x11 ∷ l ∷ [];
     }
 
@@ -144,7 +186,7 @@ leave-group (a-repeat h w o ∷ os) st = st
 
 unfoldable pub enter-repeat : Prices → (count width : ℕ) → State → State
 enter-repeat P h w st =
-    record { opens = a-repeat h w (st .tally) ∷ st .opens; tally = inside (st .tally) (of-repeat P h); text = st .text }
+    record { opens = a-repeat h w (st .tally) ∷ st .opens; tally = repeat-entered (st .tally) (of-repeat P h); text = st .text }
 
 unfoldable pub leave-repeat : List Open → State → State
 unfolding times
@@ -226,7 +268,7 @@ scan R p (suc k) st (c ∷ s) = scan R (suc p) k st s
 
 -- Before anything is read.
 abbrev pub start : State
-start = record { opens = []; tally = record { siblings = 0; nodes = 0; size = 0; cost = 0 }; text = [] }
+start = record { opens = []; tally = none; text = [] }
 
 -- The reading of whole bytes.
 unfoldable pub read : Rules → List ℕ → Outcome

@@ -4,7 +4,7 @@ use mathlib.Core.Bool.{true, false}
 use mathlib.Core.List.{List, []}
 use Prim.Native.Nat.{ℕ}
 use Rattle.format.specs.Limits.{limits, Prices, priced}
-use Rattle.format.specs.Machine.{Rules, Outcome, refused, accepted, read}
+use Rattle.format.specs.Machine.{Rules, none, Outcome, refused, accepted, read}
 use Rattle.format.specs.Head.{Head, headed, limit-head, full-head}
 use Rattle.format.specs.declared.Tally.{Tally}
 use Rattle.format.specs.declared.RunReading.{RunReading}
@@ -33,10 +33,13 @@ pub record WellFormed (R : Rules) (s : List ℕ) : Type 0 where
   pub text : List ℕ
   pub reading : read R s ≡ accepted tally text
 
--- What is answered about a run.
+-- What is answered about a run: number and place of a refusal and nothing counted, or 0 and 0 and the counts.
+abbrev pub run-numbers : (refusal place : ℕ) → Tally → RunReading
+run-numbers n p t = record { refusal = n; place = p; nodes = t .nodes; steps = t .steps; depth = t .depth }
+
 abbrev pub as-run-reading : Outcome → RunReading
-as-run-reading (refused n p) = record { refusal = n; place = p; nodes = 0 }
-as-run-reading (accepted t x) = record { refusal = 0; place = 0; nodes = t .nodes }
+as-run-reading (refused n p) = run-numbers n p none
+as-run-reading (accepted t x) = run-numbers 0 0 t
 
 unfoldable pub run-reading : List ℕ → RunReading
 unfolding read
@@ -47,10 +50,22 @@ unfoldable pub run-outcome : Head → List ℕ → Outcome
 unfolding headed read
 run-outcome h s = headed limits h (read run-rules s)
 
--- What is answered about a fold.
+-- What is answered about a fold, likewise.
+abbrev pub fold-numbers : (refusal place : ℕ) → Tally → FoldReading
+fold-numbers n p t =
+    record {
+      refusal = n;
+      place = p;
+      nodes = t .nodes;
+      length = t .size;
+      cost = t .cost;
+      steps = t .steps;
+      depth = t .depth;
+    }
+
 abbrev pub as-fold-reading : Outcome → FoldReading
-as-fold-reading (refused n p) = record { refusal = n; place = p; nodes = 0; length = 0; cost = 0 }
-as-fold-reading (accepted t x) = record { refusal = 0; place = 0; nodes = t .nodes; length = t .size; cost = t .cost }
+as-fold-reading (refused n p) = fold-numbers n p none
+as-fold-reading (accepted t x) = fold-numbers 0 0 t
 
 -- A fold at an entry point with this head: the checks of the head, then the commands at its limit.
 unfoldable pub fold-outcome : Head → Prices → List ℕ → Outcome

@@ -5,7 +5,7 @@ use mathlib.Core.List.{List}
 use Prim.Native.Nat.{ℕ, _≤_}
 use lib.ListN.{length}
 use Rattle.format.specs.Limits.{Prices}
-use Rattle.format.specs.Forest.{Forest, at-most, Coded, Sound, Plain, group-depth, repeat-depth, siblings, nodes, cost, bytes, unroll}
+use Rattle.format.specs.Forest.{Forest, at-most, Coded, Sound, Plain, group-depth, repeat-depth, siblings, nodes, steps, cost, bytes, unroll}
 use Rattle.format.specs.Machine.{Rules}
 use Rattle.format.specs.declared.Tally.{Tally}
 
@@ -20,7 +20,15 @@ pub record Shaped (R : Rules) (f : Forest) : Type 0 where
 
 -- The counts of a tree.
 unfoldable pub tally-of : Prices → Forest → Tally
-tally-of P f = record { siblings = siblings f; nodes = nodes f; size = length (bytes (unroll f)); cost = cost P f }
+tally-of P f =
+    record {
+      siblings = siblings f;
+      nodes = nodes f;
+      size = length (bytes (unroll f));
+      cost = cost P f;
+      steps = steps f;
+      depth = group-depth f;
+    }
 
 -- A byte list that reads as a tree: it is the byte form of one of the right shape, with these counts and this text.
 pub record Reads (R : Rules) (s : List ℕ) (t : Tally) (x : List ℕ) : Type 0 where

@@ -4,7 +4,7 @@
 ghost use mathlib.Core.Path.{_≡_};
 ghost use Prim.Native.Nat.{_<_};
 ghost use Rattle.format.specs.Limits.{limits};
-ghost use Rattle.format.specs.Machine.{first-of};
+ghost use Rattle.format.specs.Machine.{none, first-of};
 ghost use Rattle.format.specs.Head.{head-checks};
 
 // What the format bounds: the nodes of a run, the groups and the repeats open at a time, the width limit; and the entries
@@ -91,28 +91,53 @@ pub fn head_refusal(bounds: Limits, head: Head) -> u8
 }
 
 // What is counted while a sequence is read: the siblings of the innermost level, and of all that was read the nodes,
-// the run's length in bytes and the cost, an open repeat at one pass.
+// the run's length in bytes, the cost, the nodes that are steps, an open repeat at one pass; and the most groups that were
+// open together.
 pub struct Tally {
     pub siblings: usize,
     pub nodes: usize,
     pub size: usize,
     pub cost: u64,
+    pub steps: usize,
+    pub depth: usize,
 }
 
-// The run reader's answer: refusal number and place (0 and 0 on success), and the nodes of the run.
+impl Tally {
+    // Nothing counted.
+    pub fn none() -> Tally
+        ensures { λ r. ⌜ r ≡ none ⌝ }
+    {
+        Tally {
+            siblings: 0,
+            nodes: 0,
+            size: 0,
+            cost: 0,
+            steps: 0,
+            depth: 0,
+        }
+    }
+}
+
+// The run reader's answer: refusal number and place (0 and 0 on success), the nodes of the run, how many of them are steps,
+// and the most groups open together.
 pub struct RunReading {
     pub refusal: u8,
     pub place: usize,
     pub nodes: usize,
+    pub steps: usize,
+    pub depth: usize,
 }
 
-// The fold reader's answer: refusal number and place, the nodes and the bytes of the run, and the fold's cost.
+// The fold reader's answer: refusal number and place, the nodes and the bytes of the run, the fold's cost, and the run's
+// steps and depth.
 pub struct FoldReading {
     pub refusal: u8,
     pub place: usize,
     pub nodes: usize,
     pub length: usize,
     pub cost: u64,
+    pub steps: usize,
+    pub depth: usize,
 }
 
 // The unroller's answer: refusal number and place, and the length written.

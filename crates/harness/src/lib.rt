@@ -1,5 +1,7 @@
-// What the programs that try the library share: the calls that look at every entry of the lent slices, and small helpers.
+// What the programs that try the library share: the calls that look at every entry of the lent slices, whether a fold is read
+// as its run is, and small helpers.
 mod lent;
+mod reading;
 mod small;
 
 pub use lent::Checked;
@@ -8,6 +10,7 @@ pub use lent::fill_bytes;
 pub use lent::fold_checked;
 pub use lent::unrolls;
 pub use lent::untouched;
+pub use reading::alike;
 pub use small::above;
 pub use small::product;
 pub use small::put_byte;

@@ -3,6 +3,7 @@ use crate::runs::spell;
 use crate::runs::steps_of;
 use format::Folded;
 use harness::Checked;
+use harness::alike;
 use harness::begins;
 use harness::fold_checked;
 use harness::unrolls;
@@ -13,7 +14,7 @@ use print::word;
 use reader::read_fold;
 use reader::read_run;
 
-// Whether a fold has these values by the fold reader.
+// Whether a fold has this cost by the fold reader, and its run's nodes, bytes, steps and depth.
 fn reads(
     fold: &[u8],
     limit: usize,
@@ -24,27 +25,21 @@ fn reads(
     cost: u64,
 ) -> bool {
     let r = read_fold(fold, limit, table, first, each);
-    if r.refusal != 0 {
-        return false;
-    }
-    if r.place != 0 {
-        return false;
-    }
-    if r.nodes != read_run(run).nodes {
-        return false;
-    }
-    if r.length != run.len() {
+    if !alike(r, run) {
         return false;
     }
     r.cost == cost
 }
 
-// Prints an answer of the folder, and what it was asked.
-fn show(name: &[u8], a: Case, r: Folded) {
+// Prints an answer of the folder, what it was asked, and the run's steps and depth.
+fn show(name: &[u8], run: &[u8], a: Case, r: Folded) {
     word(name);
     setting(a.limit, a.first, a.each);
     number(b": cost ", r.cost);
     number(b", length ", r.length as u64);
+    let s = read_run(run);
+    number(b", steps ", s.steps as u64);
+    number(b", depth ", s.depth as u64);
     word(b"\n");
 }
 
@@ -83,7 +78,7 @@ fn known_in(
 ) {
     let table = [1u16; 256];
     let c = fold_checked(run, a.limit, &table, a.first, a.each, costs, choices, out);
-    show(name, a, c.answer);
+    show(name, run, a, c.answer);
     let mut right = wrote(c, out, fold, a.cost);
     if !reads(fold, a.limit, &table, a.first, a.each, run, a.cost) {
         right = false;

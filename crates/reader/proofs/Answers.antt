@@ -7,13 +7,14 @@ use Prim.Native.Nat.{ℕ}
 use lib.Dec.{eqb}
 use borrow.Author.Tests.{eqb-true, eqb-false}
 use Rattle.format.specs.Limits.{limits, Prices, priced}
-use Rattle.format.specs.Machine.{Rules, read, first-of}
+use Rattle.format.specs.Machine.{Rules, none, read, first-of}
 use Rattle.format.specs.Head.{head-checks, full-head}
 use Rattle.format.specs.Order.{Bytes}
 use Rattle.format.specs.Meaning.{MeansAtCost}
-use Rattle.format.specs.Readings.{run-rules, as-run-reading, run-outcome, run-reading, fold-rules, fold-outcome, fold-reading, as-fold-reading}
+use Rattle.format.specs.Readings.{run-rules, run-numbers, fold-numbers, as-run-reading, run-outcome, run-reading, fold-rules, fold-outcome, fold-reading, as-fold-reading}
 use Rattle.format.specs.declared.Head.{Head}
 use Rattle.format.specs.declared.RunReading.{RunReading}
+use Rattle.format.specs.declared.Tally.{Tally}
 use Rattle.format.specs.declared.FoldReading.{FoldReading}
 use Rattle.format.proofs.Heads.{headed-refused, headed-passed}
 use Rattle.format.proofs.Report.{reading-means}
@@ -22,11 +23,11 @@ use Rattle.walk.specs.declared.command.Walk.{Walk}
 
 -- The run reader's answer.
 module _ (s : List ℕ) (w : Walk) (read-it : Whole run-rules s w) where
-  pub run-refused : (w .refusal ≡ 0 → ⊥) → record { refusal = w .refusal; place = w .at; nodes = 0 } ≡ run-reading s
+  pub run-refused : (w .refusal ≡ 0 → ⊥) → (t : Tally) → t ≡ none → run-numbers (w .refusal) (w .at) t ≡ run-reading s
   unfolding run-reading
-  run-refused e = rw (read-it .refuses e)
+  run-refused e t f = rw (read-it .refuses e, f)
 
-  pub run-read : w .refusal ≡ 0 → record { refusal = 0; place = 0; nodes = w .tally .nodes } ≡ run-reading s
+  pub run-read : w .refusal ≡ 0 → run-numbers 0 0 (w .tally) ≡ run-reading s
   unfolding run-reading
   run-read e = rw (read-it .reads e .1)
 
@@ -40,18 +41,18 @@ answered R s w walked = by-test (eqb (w .refusal) 0) refl
 
 -- The answers at an entry point: by the head's refusal, or by what follows.
 module _ (h : Head) (n : ℕ) (checked : n ≡ first-of (head-checks limits h)) where
-  pub admit-refused : (s : List ℕ) → n ≢ 0 → record { refusal = n; place = 0; nodes = 0 } ≡ as-run-reading (run-outcome h s)
+  pub admit-refused : (s : List ℕ) → n ≢ 0 → (t : Tally) → t ≡ none → run-numbers n 0 t ≡ as-run-reading (run-outcome h s)
   unfolding run-outcome
-  admit-refused s some = rw (headed-refused limits h (read run-rules s) n checked some)
+  admit-refused s some t f = rw (headed-refused limits h (read run-rules s) n checked some, f)
 
   pub admit-read : (s : List ℕ) → n ≡ 0 → (r : RunReading) → r ≡ run-reading s → r ≡ as-run-reading (run-outcome h s)
   unfolding run-reading run-outcome
   admit-read s none r e = e ∙ rw (headed-passed limits h (read run-rules s) (sym none ∙ checked))
 
   module _ (P : Prices) (s : List ℕ) where
-    pub fold-refused : n ≢ 0 → record { refusal = n; place = 0; nodes = 0; length = 0; cost = 0 } ≡ as-fold-reading (fold-outcome h P s)
+    pub fold-refused : n ≢ 0 → (t : Tally) → t ≡ none → fold-numbers n 0 t ≡ as-fold-reading (fold-outcome h P s)
     unfolding fold-outcome
-    fold-refused some = rw (headed-refused limits h (read (fold-rules (h .limit) P) s) n checked some)
+    fold-refused some t f = rw (headed-refused limits h (read (fold-rules (h .limit) P) s) n checked some, f)
 
     pub fold-read : n ≡ 0 → (w : Walk) → Whole (fold-rules (h .limit) P) s w → as-fold-reading (outcome w) ≡ as-fold-reading (fold-outcome h P s)
     unfolding fold-outcome

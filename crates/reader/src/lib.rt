@@ -6,6 +6,7 @@ use format::FoldReading;
 use format::Format;
 use format::Head;
 use format::RunReading;
+use format::Tally;
 use format::head_refusal;
 use format::wide_cost;
 use node::node_end;
@@ -16,12 +17,40 @@ use walk::whole;
 ghost use mathlib.Core.Path.{_≡_};
 ghost use mathlib.Core.Bool.{true};
 ghost use Rattle.format.specs.Limits.{priced};
-ghost use Rattle.format.specs.Readings.{as-run-reading, run-outcome, run-reading, fold-outcome, measured, fold-reading, as-fold-reading};
+ghost use Rattle.format.specs.Readings.{run-numbers, fold-numbers, as-run-reading, run-outcome, run-reading, fold-outcome, measured, fold-reading, as-fold-reading};
 ghost use Rattle.format.specs.Meaning.{MeansAtCost};
 ghost use Rattle.format.specs.Parts.{node-part, part-of};
 ghost use Rattle.walk.specs.Walk.{outcome};
 
-// The run reader: refusals 1 to 10, or the number of nodes.
+// The run reader's answer: a refusal's number and place and nothing counted, or 0 and 0 and the counts of the run.
+fn as_run(refusal: u8, place: usize, run: Tally) -> RunReading
+    ensures { λ r. ⌜ r ≡ run-numbers refusal place run ⌝ }
+{
+    RunReading {
+        refusal,
+        place,
+        nodes: run.nodes,
+        steps: run.steps,
+        depth: run.depth,
+    }
+}
+
+// The fold reader's answer, likewise.
+fn as_fold(refusal: u8, place: usize, fold: Tally) -> FoldReading
+    ensures { λ r. ⌜ r ≡ fold-numbers refusal place fold ⌝ }
+{
+    FoldReading {
+        refusal,
+        place,
+        nodes: fold.nodes,
+        length: fold.size,
+        cost: fold.cost,
+        steps: fold.steps,
+        depth: fold.depth,
+    }
+}
+
+// The run reader: refusals 1 to 5, 8 and 10, or how many nodes there are, how many of them are steps, and the depth.
 pub fn read_run(run: &[u8]) -> RunReading
     ensures { λ r. ⌜ r ≡ run-reading (now (run .entry)) ⌝ }
 {
@@ -34,32 +63,21 @@ pub fn read_run(run: &[u8]) -> RunReading
         each: 0,
     };
     let w = whole(run, &free, a);
+    let none = Tally::none();
     if w.refusal != 0 {
-        return RunReading {
-            refusal: w.refusal,
-            place: w.at,
-            nodes: 0,
-        };
+        return as_run(w.refusal, w.at, none);
     }
-    let t = w.tally;
-    RunReading {
-        refusal: 0,
-        place: 0,
-        nodes: t.nodes,
-    }
+    as_run(0, 0, w.tally)
 }
 
-// The admission of a run at an entry point with this head: the checks of the head, then the run's own refusals; or the nodes.
+// The admission of a run at an entry point with this head: the checks of the head, then the run's own refusals; or what the
+// run reader gives.
 pub fn admit(run: &[u8], head: Head) -> RunReading
     ensures { λ r. ⌜ r ≡ as-run-reading (run-outcome head (now (run .entry))) ⌝ }
 {
     let refusal = head_refusal(Format::limits(), head);
     if refusal != 0 {
-        return RunReading {
-            refusal,
-            place: 0,
-            nodes: 0,
-        };
+        return as_run(refusal, 0, Tally::none());
     }
     read_run(run)
 }
@@ -104,39 +122,20 @@ fn answer(w: Walk) -> FoldReading
     ensures { λ r. ⌜ r ≡ as-fold-reading (outcome w) ⌝ }
 {
     if w.refusal != 0 {
-        return FoldReading {
-            refusal: w.refusal,
-            place: w.at,
-            nodes: 0,
-            length: 0,
-            cost: 0,
-        };
+        return as_fold(w.refusal, w.at, Tally::none());
     }
-    let t = w.tally;
-    FoldReading {
-        refusal: 0,
-        place: 0,
-        nodes: t.nodes,
-        length: t.size,
-        cost: t.cost,
-    }
+    as_fold(0, 0, w.tally)
 }
 
-// A fold at an entry point with this head: the checks of the head, then refusals 1 and 3 to 10; or the nodes and the bytes of
-// the run and the fold's cost.
+// A fold at an entry point with this head: the checks of the head, then refusals 1 and 3 to 10; or the nodes, bytes, steps and
+// depth of the run and the fold's cost.
 fn read_headed(fold: &[u8], head: Head, table: &[u16], first: u16, each: u16) -> FoldReading
     ensures { λ r. ⌜ r ≡ as-fold-reading (fold-outcome head (priced (now (table .entry)) first each) (now (fold .entry))) ⌝ }
 {
     let bounds = Format::limits();
     let number = head_refusal(bounds, head);
     if number != 0 {
-        return FoldReading {
-            refusal: number,
-            place: 0,
-            nodes: 0,
-            length: 0,
-            cost: 0,
-        };
+        return as_fold(number, 0, Tally::none());
     }
     let a = Terms {
         limits: bounds,
@@ -148,7 +147,7 @@ fn read_headed(fold: &[u8], head: Head, table: &[u16], first: u16, each: u16) ->
     answer(whole(fold, table, a))
 }
 
-// A fold at a width limit, without costs: refusals 12, 1 and 3 to 10, or the nodes and the bytes of the run at cost 0.
+// A fold at a width limit, without costs: refusals 12, 1 and 3 to 10, or the nodes, bytes, steps and depth of the run at cost 0.
 pub fn measure(fold: &[u8], limit: usize) -> FoldReading
     ensures { λ r. ⌜ r ≡ as-fold-reading (measured (now (fold .entry)) limit) ⌝ }
 {
@@ -160,8 +159,8 @@ pub fn measure(fold: &[u8], limit: usize) -> FoldReading
     read_headed(fold, head, &free, 0, 0)
 }
 
-// The fold reader: refusals 11, 12, 1 and 3 to 10, or the nodes and the bytes of the run and the fold's cost. What it accepts
-// means, in the report's words, a run of that length at that cost.
+// The fold reader: refusals 11, 12, 1 and 3 to 10, or the nodes, bytes, steps and depth of the run and the fold's cost. What it
+// accepts means, in the report's words, a run of that length at that cost.
 pub fn read_fold(fold: &[u8], limit: usize, table: &[u16], first: u16, each: u16) -> FoldReading
     ensures answered { λ r. ⌜ r ≡ fold-reading (now (fold .entry)) limit (now (table .entry)) first each ⌝ }
     ensures meant { λ r. ⌜ (r .refusal ≡ 0 → MeansAtCost limit (now (table .entry)) first each (now (fold .entry)) (r .length) (r .cost)) ⌝ }

@@ -42,14 +42,31 @@ fn told(who: &[u8], refusal: u8, place: usize, e: Expected, right: bool) {
     }
 }
 
+// Whether the counts of a refused reading are 0.
+fn no_values(nodes: usize, steps: usize, depth: usize) -> bool {
+    if nodes != 0 {
+        return false;
+    }
+    if steps != 0 {
+        return false;
+    }
+    depth == 0
+}
+
 fn by_run_reader(run: &[u8], e: Expected) {
     let r = read_run(run);
-    told(b": run reader", r.refusal, r.place, e, r.nodes == 0);
+    told(
+        b": run reader",
+        r.refusal,
+        r.place,
+        e,
+        no_values(r.nodes, r.steps, r.depth),
+    );
 }
 
 fn by_fold_reader(fold: &[u8], limit: usize, table: &[u16], e: Expected) {
     let r = read_fold(fold, limit, table, 1, 0);
-    let mut right = r.nodes == 0;
+    let mut right = no_values(r.nodes, r.steps, r.depth);
     if r.length != 0 {
         right = false;
     }

@@ -14,6 +14,7 @@ use crate::search::spent;
 use crate::search::start;
 use format::Format;
 use format::wide;
+use harness::alike;
 use harness::product;
 use harness::put_byte;
 use harness::unrolls;
@@ -189,9 +190,14 @@ fn judge(run: &[u8], string: &[u8], at: usize) -> u8 {
     2
 }
 
-// Whether the unroller agrees that a fold is one of the run.
+// Whether the unroller agrees that a fold is one of the run, and whether the readers give both the same nodes, bytes, steps and
+// depth.
 fn confirmed(fold: &[u8], run: &[u8]) -> bool {
+    let table = [1u16; 256];
     let mut text = [0u8; 64];
+    if !alike(read_fold(fold, Format::WIDTH, &table, 1, 0), run) {
+        return false;
+    }
     unrolls(fold, Format::WIDTH, run, &mut text)
 }
 
@@ -206,7 +212,7 @@ fn copy(from: &[u8], to: &mut [u8]) {
 // The bytes of the pool that each fold has: its length, and then its own.
 const ROOM: usize = 64;
 
-// Keeps a fold in the pool. The search ends short where there is no room, or where the unroller does not agree.
+// Keeps a fold in the pool. The search ends short where there is no room, or where unroller or readers do not agree.
 fn keep(mut s: Search, run: &[u8], fold: &[u8], pool: &mut [u8]) -> Search {
     s.back = true;
     let k = s.found;

@@ -10,7 +10,7 @@ use lib.Dec.{eqb}
 use lib.ListN.{length, getD, drop, length-drop}
 use lib.Seq.{getD-drop}
 use borrow.Author.Tests.{lt-ltb, le-ltb, eq-eqb, ne-eqb, le-leb, lt-leb}
-use Rattle.format.specs.Machine.{Rules, Open, a-group, a-repeat, refusal, place-of, put-step, enter-group, leave-group, enter-repeat, leave-repeat, with-node, after-group, after-repeat, count-operand, width-operand, times}
+use Rattle.format.specs.Machine.{Rules, Open, a-group, a-repeat, refusal, place-of, put-step, enter-group, leave-group, enter-repeat, leave-repeat, with-step, group-entered, repeat-entered, after-group, after-repeat, count-operand, width-operand, times}
 use Rattle.format.specs.declared.Limits.{Limits}
 use Rattle.format.specs.declared.Tally.{Tally}
 use Rattle.format.proofs.Machine.{refusal-step, refusal-group, refusal-group-end, refusal-repeat, refusal-repeat-end, repeat-passes, group-end-passes, repeat-end-passes, scan-step, scan-group, scan-group-end, scan-repeat, scan-repeat-end}
@@ -41,7 +41,7 @@ module _ (a : Terms) (table s : List ℕ) (d : Depth) (p : ℕ) (t : Tally) wher
       item-refused R s d p t _ (λ z. omega arith)
       (λ os o x. stop R s p os t x 10 (h .below) (omega arith) (rw (h .byte, refusal-step R (at os t x) (drop (p + 1) s), le-ltb _ _ (rest-long s p 1 e), lt-ltb (a .limits .nodes) (t .nodes + 1) (omega arith))))
 
-  pub step-on : At s p 0x10 → p + 2 ≤ length s → t .nodes < a .limits .nodes → (k : ℕ) → k ≡ getD table (getD s (p + 1) 0) 0 → k < 65536 → ItemRead R s d p t (record { refusal = 0; at = p + 2; tally = with-node t 2 k })
+  pub step-on : At s p 0x10 → p + 2 ≤ length s → t .nodes < a .limits .nodes → (k : ℕ) → k ≡ getD table (getD s (p + 1) 0) 0 → k < 65536 → ItemRead R s d p t (record { refusal = 0; at = p + 2; tally = with-step t k })
   unfolding put-step
   step-on h e f k q g =
       record {
@@ -70,14 +70,13 @@ module _ (a : Terms) (table s : List ℕ) (d : Depth) (p : ℕ) (t : Tally) wher
       open-refused R s d p t _ (λ z. omega arith) (in-group-of d) o 2 1 65535
       (λ os m x. stop R s p os t x 10 (h .below) (omega arith) (rw (h .byte, refusal-group R (at os t x) (drop (p + 1) s), le-ltb _ _ (rest-long s p 1 e), m .groups, lt-leb (a .limits .groups) (d .groups) f, lt-ltb (a .limits .nodes) (t .nodes + 1) (omega arith))))
 
-  pub group-on : Room (a .limits) d t → At s p 0x11 → p + 2 ≤ length s → d .groups < a .limits .groups → t .nodes < a .limits .nodes → (k : ℕ) → k ≡ getD table (getD s (p + 1) 0) 0 → k < 65536 → OpenRead R s d (in-group-of d) p t (a-group t) 2 1 65535 (record { refusal = 0; at = p + 2; tally = record { siblings = 0; nodes = t .nodes + 1; size = t .size + 2; cost = t .cost + k } })
+  pub group-on : Room (a .limits) d t → At s p 0x11 → p + 2 ≤ length s → d .groups < a .limits .groups → t .nodes < a .limits .nodes → (k : ℕ) → k ≡ getD table (getD s (p + 1) 0) 0 → k < 65536 → OpenRead R s d (in-group-of d) p t (a-group t) 2 1 65535 (record { refusal = 0; at = p + 2; tally = group-entered (d .groups) t k })
   unfolding enter-group
   group-on room h e f g k q j =
       record {
         moves = record {
           goes = λ z os o x.
-              let n : t .cost + getD table (getD s (p + 1) 0) 0 ≡ t .cost + getD table (getD s (p + 1) 0) 0 + 0 = omega arith in
-              (x ++ 0x11 ∷ getD s (p + 1) 0 ∷ [], rw (cut-two s p e, h .byte, q, n) (scan-group R p (at os t x) (drop (p + 2) s) (getD s (p + 1) 0) (refusal-group R (at os t x) (getD s (p + 1) 0 ∷ drop (p + 2) s) ∙ rw (le-ltb (suc (length (drop (p + 2) s))) 1 (omega arith), o .groups, lt-leb (a .limits .groups) (d .groups) f, le-ltb (a .limits .nodes) (t .nodes + 1) (omega arith)))));
+              (x ++ 0x11 ∷ getD s (p + 1) 0 ∷ [], rw (cut-two s p e, h .byte, q, ← o .groups) (scan-group R p (at os t x) (drop (p + 2) s) (getD s (p + 1) 0) (refusal-group R (at os t x) (getD s (p + 1) 0 ∷ drop (p + 2) s) ∙ rw (le-ltb (suc (length (drop (p + 2) s))) 1 (omega arith), o .groups, lt-leb (a .limits .groups) (d .groups) f, le-ltb (a .limits .nodes) (t .nodes + 1) (omega arith)))));
           stops = λ z. absurd (z refl);
         };
         ahead = λ z. omega arith;
@@ -87,6 +86,7 @@ module _ (a : Terms) (table s : List ℕ) (d : Depth) (p : ℕ) (t : Tally) wher
         room = λ z. omega arith;
         size-inside = λ z. refl;
         cost-inside = λ z. omega arith;
+        steps-inside = λ z. refl;
       }
 
 -- The count and the width behind a `20`.
@@ -132,7 +132,7 @@ module _ (a : Terms) (table s : List ℕ) (d : Depth) (p : ℕ) (t : Tally) (h :
           repeat-deep e =
               refused-repeat 8 (omega arith) (λ os m x. rw (refusal-repeat (rules-of a table) (at os t x) (drop (p + 1) s) (room .nodes), folds, le-ltb _ _ (rest-long s p 4 long), count-at s p, width-at s p, le-ltb _ _ twice, le-ltb _ _ narrow, m .repeats, le-leb (a .limits .repeats) (d .repeats) e))
 
-          pub repeat-on : d .repeats < a .limits .repeats → (k : ℕ) → k ≡ a .first + a .each * (word-at s (p + 1) - 2) → k ≤ 4294967295 → OpenRead (rules-of a table) s d (in-repeat-of d) p t (repeat-at s p t) 0 0 4294967295 (record { refusal = 0; at = p + 5; tally = record { siblings = 0; nodes = t .nodes; size = t .size; cost = t .cost + k } })
+          pub repeat-on : d .repeats < a .limits .repeats → (k : ℕ) → k ≡ a .first + a .each * (word-at s (p + 1) - 2) → k ≤ 4294967295 → OpenRead (rules-of a table) s d (in-repeat-of d) p t (repeat-at s p t) 0 0 4294967295 (record { refusal = 0; at = p + 5; tally = repeat-entered t k })
           unfolding enter-repeat
           repeat-on e k q j =
               record {
@@ -155,6 +155,7 @@ module _ (a : Terms) (table s : List ℕ) (d : Depth) (p : ℕ) (t : Tally) (h :
                 room = λ z. omega arith;
                 size-inside = λ z. omega arith;
                 cost-inside = λ z. omega arith;
+                steps-inside = λ z. refl;
               }
 
 -- `12` and `21`, where a sequence has come to its end inside an open group or repeat.
@@ -257,15 +258,25 @@ scaled m b s h = omega (arith, mul-le-mul-left m h)
 body : (m b : ℕ) → 1 ≤ m → b ≤ m * b
 body m b h = omega (arith, mul-le-mul-right b h)
 
-pub repeat-grown : (L : Limits) (n : ℕ) (t i : Tally) → 2 ≤ n → t .nodes + i .siblings ≤ i .nodes → 0 < i .siblings → t .size ≤ i .size → i .size + 3 * t .nodes ≤ t .size + 3 * i .nodes → i .cost + 4294967296 * t .nodes ≤ t .cost + 4294967296 * i .nodes + 4294967296 → after-repeat n t i .nodes ≤ L .nodes → Grown L t (after-repeat n t i)
-repeat-grown L n t i h a b c d e f =
+pub repeat-grown : (L : Limits) (n : ℕ) (t i : Tally) → 2 ≤ n → t .nodes + i .siblings ≤ i .nodes → 0 < i .siblings → t .size ≤ i .size → i .size + 3 * t .nodes ≤ t .size + 3 * i .nodes → i .cost + 4294967296 * t .nodes ≤ t .cost + 4294967296 * i .nodes + 4294967296 → t .steps ≤ i .steps → i .steps + t .nodes ≤ t .steps + i .nodes → after-repeat n t i .nodes ≤ L .nodes → Grown L t (after-repeat n t i)
+repeat-grown L n t i h a b c d e u v f =
     let m = n - 1 in
     let p = i .nodes - t .nodes in
     let s : suc m ≡ n = omega arith in
     let x = thrice m p (i .size - t .size) (omega arith) in
     let y : n * i .siblings ≤ p + m * p = rw s at (scaled m p (i .siblings) (omega arith)) in
     let z = body m p (omega arith) in
-    record { nodes = omega arith; total = f; siblings = omega arith; longer = omega arith; size = omega arith; cost = omega arith }
+    let k : m * (i .steps - t .steps) ≤ m * p = mul-le-mul-left m (omega arith) in
+    record {
+      nodes = omega arith;
+      total = f;
+      siblings = omega arith;
+      longer = omega arith;
+      size = omega arith;
+      cost = omega arith;
+      further = omega arith;
+      steps = omega arith;
+    }
 
 pub bounded : (a b m n : ℕ) → a ≤ m → b ≤ n → a * b ≤ m * n
 bounded a b m n h k = mul-le-mul h k

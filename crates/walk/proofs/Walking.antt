@@ -82,6 +82,7 @@ module _ (R : Rules) (s : List ℕ) (d : Depth) (p : ℕ) (t : Tally) (w : Walk)
         room = λ e. absurd (no e);
         size-inside = λ e. absurd (no e);
         cost-inside = λ e. absurd (no e);
+        steps-inside = λ e. absurd (no e);
       }
 
   pub close-refused : (i : Tally) (o : Open) → ((os : List Open) → OpenAt d os → Stops R s p (o ∷ os) i (w .refusal) (w .at)) → CloseRead R s d p t i o w

@@ -7,7 +7,7 @@ use Prim.Native.Nat.{ℕ, _+_, _<_}
 use native.Mathlib.Omega.{arith}
 use lib.Dec.{eqb}
 use lib.ListN.{length, getD, drop}
-use Rattle.format.specs.Machine.{read, refusal}
+use Rattle.format.specs.Machine.{none, read, refusal}
 use Rattle.format.specs.declared.Tally.{Tally}
 use Rattle.format.proofs.Machine.{refusal-group-end, refusal-repeat-end}
 use Rattle.walk.specs.Walk.{from, rules-of, SequenceRead, OpenAt, Whole}
@@ -18,9 +18,6 @@ use Rattle.walk.proofs.Walking.{at, stop, pass-end}
 
 abbrev pub top : Depth
 top = record { groups = 0; repeats = 0 }
-
-abbrev pub none : Tally
-none = record { siblings = 0; nodes = 0; size = 0; cost = 0 }
 
 module _ (a : Terms) (table s : List ℕ) (w : Walk) (walked : SequenceRead (rules-of a table) s top 0 none w) where
   nothing-open : OpenAt top []

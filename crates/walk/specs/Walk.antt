@@ -73,6 +73,15 @@ pub record Room (L : Limits) (d : Depth) (t : Tally) : Type 0 where
   pub siblings : t .siblings ≤ t .nodes
   pub size : t .size ≤ 3 * t .nodes
   pub cost : t .cost ≤ 4294967296 * (t .nodes + d .repeats)
+  pub steps : t .steps ≤ t .nodes
+
+-- The counts that commands add to are far below what the machine words hold. The depth is only compared.
+pub record Small (t : Tally) : Type 0 where
+  pub siblings : t .siblings < 65536
+  pub nodes : t .nodes < 65536
+  pub size : t .size < 196608
+  pub cost : t .cost < 1125899906842624
+  pub steps : t .steps < 65536
 
 -- There is room at the depth where the counts were taken, whatever it is.
 abbrev pub RoomSomewhere : Limits → Tally → Type 0
@@ -86,6 +95,8 @@ pub record Grown (L : Limits) (t r : Tally) : Type 0 where
   pub longer : t .size ≤ r .size
   pub size : r .size + 3 * t .nodes ≤ t .size + 3 * r .nodes
   pub cost : r .cost + 4294967296 * t .nodes ≤ t .cost + 4294967296 * r .nodes
+  pub further : t .steps ≤ r .steps
+  pub steps : r .steps + t .nodes ≤ t .steps + r .nodes
 
 -- The operand of two bytes at an offset.
 abbrev pub word-at : List ℕ → ℕ → ℕ
@@ -126,6 +137,7 @@ pub record OpenRead (R : Rules) (s : List ℕ) (d d′ : Depth) (p : ℕ) (t : T
   pub room : w .refusal ≡ 0 → Room (R .limits) d′ (w .tally)
   pub size-inside : w .refusal ≡ 0 → w .tally .size ≡ t .size + size
   pub cost-inside : w .refusal ≡ 0 → w .tally .cost ≤ t .cost + price
+  pub steps-inside : w .refusal ≡ 0 → w .tally .steps ≡ t .steps
 
 -- The close at p ended o, whose outer counts are t; the counts inside it were i.
 pub record CloseRead (R : Rules) (s : List ℕ) (d : Depth) (p : ℕ) (t i : Tally) (o : Open) (w : Walk) : Type 0 where

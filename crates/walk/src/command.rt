@@ -1,5 +1,11 @@
-// One command at a time: each function makes the tests of docs/REFUSALS.md for one command, in their order, and counts.
+// One command at a time: each function makes the tests of docs/REFUSALS.md for one command, in their order, and counts by the
+// functions of counts.rt.
 // The walk over sequences and items (walk.rt) makes no test of its own.
+use crate::counts::after_group;
+use crate::counts::after_repeat;
+use crate::counts::after_step;
+use crate::counts::inside_group;
+use crate::counts::inside_repeat;
 use format::Format;
 use format::Limits;
 use format::Tally;
@@ -10,7 +16,7 @@ ghost use mathlib.Core.Bool.{true};
 ghost use mathlib.Core.List.{List};
 ghost use Prim.Native.Nat.{ℕ, _+_, _*_, _<_, _≤_};
 ghost use lib.ListN.{length, getD};
-ghost use Rattle.format.specs.Machine.{a-group, a-repeat, after-repeat};
+ghost use Rattle.format.specs.Machine.{a-group, a-repeat};
 ghost use Rattle.walk.specs.Walk.{At, Room, RoomSomewhere, Halted, Sane, ItemRead, OpenRead, CloseRead, in-group-of, in-repeat-of, rules-of, word-at, repeat-at};
 
 // What a reader was asked: the limits, whether repeats may stand in the input, the width limit, and the repeat prices.
@@ -101,12 +107,7 @@ pub fn step(s: &[u8], table: &[u16], a: Terms, at: usize, t: Tally) -> Walk
     Walk {
         refusal: 0,
         at: at + 2,
-        tally: Tally {
-            siblings: t.siblings + 1,
-            nodes: t.nodes + 1,
-            size: t.size + 2,
-            cost: t.cost + p,
-        },
+        tally: after_step(t, p),
     }
 }
 
@@ -131,12 +132,7 @@ pub fn enter_group(s: &[u8], table: &[u16], a: Terms, at: usize, d: Depth, t: Ta
     Walk {
         refusal: 0,
         at: at + 2,
-        tally: Tally {
-            siblings: 0,
-            nodes: t.nodes + 1,
-            size: t.size + 2,
-            cost: t.cost + p,
-        },
+        tally: inside_group(d.groups, t, p),
     }
 }
 
@@ -148,6 +144,7 @@ pub fn leave_group(s: &[u8], a: Terms, at: usize, t: Tally, i: Tally) -> Walk
     requires { ⌜ (t .nodes + 1 ≤ i .nodes) × (i .nodes ≤ a .limits .nodes) ⌝ }
     requires { ⌜ (t .size ≤ i .size) × (i .size + 3 * t .nodes + 1 ≤ t .size + 3 * i .nodes) ⌝ }
     requires { ⌜ i .cost + 4294967296 * t .nodes ≤ t .cost + 4294967296 * i .nodes ⌝ }
+    requires { ⌜ (t .steps ≤ i .steps) × (i .steps + t .nodes ≤ t .steps + i .nodes) ⌝ }
     ensures { λ r. ⌜ ((table : List ℕ) (d : Depth) → CloseRead (rules-of a table) (now (s .entry)) d at t i (a-group t) r) ⌝ }
 {
     if at == s.len() {
@@ -160,12 +157,7 @@ pub fn leave_group(s: &[u8], a: Terms, at: usize, t: Tally, i: Tally) -> Walk
         return Walk {
             refusal: 0,
             at: at + 1,
-            tally: Tally {
-                siblings: t.siblings + 1,
-                nodes: i.nodes,
-                size: i.size + 1,
-                cost: i.cost,
-            },
+            tally: after_group(t, i),
         };
     }
     if a.folds {
@@ -204,29 +196,7 @@ pub fn enter_repeat(s: &[u8], a: Terms, at: usize, d: Depth, t: Tally) -> Walk
     Walk {
         refusal: 0,
         at: at + 5,
-        tally: Tally {
-            siblings: 0,
-            nodes: t.nodes,
-            size: t.size,
-            cost: t.cost + p,
-        },
-    }
-}
-
-// The counts behind a repeat whose outer counts are t and inner counts i: all but the cost are those of every pass.
-fn after_passes(count: usize, t: Tally, i: Tally) -> Tally
-    requires { ⌜ (1 ≤ count) × (count < 65536) ⌝ }
-    requires { ⌜ (t .siblings ≤ i .nodes) × (i .siblings ≤ i .nodes) ⌝ }
-    requires { ⌜ (t .nodes ≤ i .nodes) × (i .nodes < 65536) ⌝ }
-    requires { ⌜ (t .size ≤ i .size) × (i .size ≤ 3 * i .nodes) ⌝ }
-    ensures { λ r. ⌜ r ≡ after-repeat count t i ⌝ }
-{
-    let more = count - 1;
-    Tally {
-        siblings: t.siblings + count * i.siblings,
-        nodes: i.nodes + more * (i.nodes - t.nodes),
-        size: i.size + more * (i.size - t.size),
-        cost: i.cost,
+        tally: inside_repeat(t, p),
     }
 }
 
@@ -238,6 +208,7 @@ pub fn leave_repeat(s: &[u8], a: Terms, at: usize, o: Operands, t: Tally, i: Tal
     requires { ⌜ (a .folds ≡ true) × (2 ≤ o .count) × (o .count < 65536) ⌝ }
     requires { ⌜ (t .nodes + i .siblings ≤ i .nodes) × (i .nodes ≤ a .limits .nodes) ⌝ }
     requires { ⌜ (t .size ≤ i .size) × (i .size + 3 * t .nodes ≤ t .size + 3 * i .nodes) × (i .cost + 4294967296 * t .nodes ≤ t .cost + 4294967296 * i .nodes + 4294967296) ⌝ }
+    requires { ⌜ (t .steps ≤ i .steps) × (i .steps + t .nodes ≤ t .steps + i .nodes) ⌝ }
     ensures { λ r. ⌜ ((table : List ℕ) (d : Depth) → CloseRead (rules-of a table) (now (s .entry)) d at t i (a-repeat (o .count) (o .width) t) r) ⌝ }
 {
     if at == s.len() {
@@ -253,7 +224,7 @@ pub fn leave_repeat(s: &[u8], a: Terms, at: usize, o: Operands, t: Tally, i: Tal
     if i.siblings != width {
         return refused(9, at, t);
     }
-    let passed = after_passes(o.count, t, i);
+    let passed = after_repeat(o.count, t, i);
     let bounds = a.limits;
     if bounds.nodes < passed.nodes {
         return refused(10, at, t);

@@ -1,6 +1,7 @@
 // The walk over an input: every test of docs/REFUSALS.md, in its order, and the counts. It is the one walk of all readers, which
 // stand over it and turn what it came to into their answers.
 mod command;
+mod counts;
 mod walk;
 
 use command::Depth;
@@ -19,12 +20,7 @@ pub fn whole(s: &[u8], table: &[u16], a: Terms) -> Walk
     requires { ⌜ Sane a ⌝ }
     ensures { λ r. ⌜ Whole (rules-of a (now (table .entry))) (now (s .entry)) r ⌝ }
 {
-    let none = Tally {
-        siblings: 0,
-        nodes: 0,
-        size: 0,
-        cost: 0,
-    };
+    let none = Tally::none();
     let top = Depth {
         groups: 0,
         repeats: 0,

@@ -4,7 +4,7 @@
 
 use std::cmp::Ordering;
 
-/// What a call answers: refusal number, place, nodes, length and cost.
+/// What a call answers: refusal number, place, nodes, length, cost, steps and depth.
 #[derive(Clone, Copy, Debug, Default, PartialEq, Eq)]
 pub struct Answer {
     pub refusal: u8,
@@ -12,6 +12,8 @@ pub struct Answer {
     pub nodes: usize,
     pub length: usize,
     pub cost: u64,
+    pub steps: usize,
+    pub depth: usize,
 }
 
 impl Answer {
@@ -19,8 +21,10 @@ impl Answer {
         Answer { refusal, place, ..Answer::default() }
     }
 
-    pub fn numbers(self) -> [u64; 5] {
-        [self.refusal as u64, self.place as u64, self.nodes as u64, self.length as u64, self.cost]
+    pub fn numbers(self) -> [u64; 7] {
+        let [place, nodes, length, steps, depth] =
+            [self.place, self.nodes, self.length, self.steps, self.depth].map(|number| number as u64);
+        [self.refusal as u64, place, nodes, length, self.cost, steps, depth]
     }
 }
 
@@ -98,6 +102,23 @@ pub fn count_nodes(items: &[Item]) -> usize {
             Item::Repeat(count, _, body) => count * count_nodes(body),
         })
         .sum()
+}
+
+/// The steps of a sequence without repeats, and the most of its groups that stand inside each other.
+fn shape(items: &[Item]) -> (usize, usize) {
+    let (mut steps, mut depth) = (0, 0);
+    for item in items {
+        match item {
+            Item::Step(_) => steps += 1,
+            Item::Group(_, body) => {
+                let inside = shape(body);
+                steps += inside.0;
+                depth = depth.max(1 + inside.1);
+            }
+            Item::Repeat(..) => unreachable!("a repeat in what was expanded"),
+        }
+    }
+    (steps, depth)
 }
 
 /// What is open: the close that ends it, its operands where it is a repeat, and what the level outside had when it opened.
@@ -220,7 +241,9 @@ fn read(bytes: &[u8], limit: Option<usize>, prices: Option<&Prices>) -> Result<A
     if !open.is_empty() {
         return Err(Answer::refuse(3, bytes.len()));
     }
-    Ok(Answer { refusal: 0, place: 0, nodes: nodes as usize, length: length as usize, cost })
+    // Steps and depth are those of the items themselves, all repeats written out.
+    let (steps, depth) = shape(&expand(&decode(bytes)));
+    Ok(Answer { refusal: 0, place: 0, nodes: nodes as usize, length: length as usize, cost, steps, depth })
 }
 
 fn either(read: Result<Answer, Answer>) -> Answer {
@@ -229,8 +252,7 @@ fn either(read: Result<Answer, Answer>) -> Answer {
 
 /// The run reader.
 pub fn read_run(run: &[u8]) -> Answer {
-    let read = read(run, None, None).map(|a| Answer { nodes: a.nodes, ..Answer::default() });
-    either(read)
+    either(read(run, None, None).map(|a| Answer { length: 0, ..a }))
 }
 
 /// Refusals 11 and 12, for those who take a table and a limit.

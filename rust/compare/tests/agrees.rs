@@ -55,6 +55,8 @@ fn limits_and_entries_are_as_in_the_header() {
         ("RUNFOLD_NODES", raw::NODES),
         ("RUNFOLD_LENGTH", raw::LENGTH),
         ("RUNFOLD_COST", raw::COST),
+        ("RUNFOLD_STEPS", raw::STEPS),
+        ("RUNFOLD_DEPTH", raw::DEPTH),
     ] {
         assert_eq!(in_header(name), Some(value as u64), "{name}");
     }

@@ -3,7 +3,7 @@
 
 use compare::reference;
 use runfold::Refusal::*;
-use runfold::{fold, folded, part, read_fold, read_run, unroll, work_entries, Prices};
+use runfold::{fold, folded, part, read_fold, read_run, unroll, work_entries, FoldReading, Prices, RunReading};
 
 const UNIT: [u16; 256] = [1; 256];
 
@@ -50,6 +50,41 @@ fn known_folds() {
     check(&group.repeat(2), 1, unit, &twice, 4);
 }
 
+/// A run and one of its folds have these nodes, steps and depth; the fold has this cost at unit costs.
+fn check_shape(run: &[u8], fold: &[u8], [nodes, steps, depth]: [usize; 3], cost: u64) {
+    assert_eq!(read_run(run), Ok(RunReading { nodes, steps, depth }));
+    let length = run.len();
+    assert_eq!(read_fold(fold, 1024, prices(1, 0)), Ok(FoldReading { nodes, length, cost, steps, depth }));
+    let read = reference::read_run(run);
+    assert_eq!([read.nodes, read.steps, read.depth], [nodes, steps, depth]);
+    let mut back = vec![0; length];
+    assert_eq!(unroll(fold, 1024, &mut back), Ok(length));
+    assert_eq!(back, run);
+}
+
+#[test]
+fn steps_and_depth() {
+    // Two groups 05 holding aaa, plain and folded.
+    let group = bytes("1105 1001 1001 1001 12");
+    check_shape(&group.repeat(2), &group.repeat(2), [8, 6, 1], 8);
+    check_shape(&group.repeat(2), &bytes("20 0002 0001 1105 20 0003 0001 1001 21 12 21"), [8, 6, 1], 4);
+    // Flat runs.
+    check_shape(&[], &[], [0, 0, 0], 0);
+    check_shape(&word("aaa"), &bytes("20 0003 0001 1001 21"), [3, 3, 0], 2);
+    // Eight groups inside each other.
+    let deep = [bytes("1105").repeat(8), word("a"), bytes("12").repeat(8)].concat();
+    check_shape(&deep, &deep, [9, 1, 8], 9);
+    // A repeat of a group multiplies its steps and not its depth.
+    let inner = bytes("1105 1007 1105 1007 12 12");
+    check_shape(&inner.repeat(5), &[bytes("20 0005 0001"), inner, vec![0x21]].concat(), [20, 10, 2], 5);
+    // Nothing of what was counted stays after a refusal.
+    let refused = bytes("1105 1007 12 13");
+    assert_eq!(reference::read_run(&refused).numbers(), [1, 5, 0, 0, 0, 0, 0]);
+    let mut answer = [9; 7];
+    assert_eq!(runfold::raw::read_run(&refused, &mut answer), 1);
+    assert_eq!(answer, [1, 5, 0, 0, 0, 0, 0]);
+}
+
 #[test]
 fn folds_that_a_habit_misses() {
     let unit = prices(1, 0);
@@ -67,7 +102,7 @@ fn folds_that_a_habit_misses() {
 fn longest_runs() {
     let unit = prices(1, 0);
     let run = word("a").repeat(1024);
-    assert_eq!(read_run(&run), Ok(1024));
+    assert_eq!(read_run(&run), Ok(RunReading { nodes: 1024, steps: 1024, depth: 0 }));
     assert_eq!(folded(&run, 1024, unit), Ok((bytes("20 0400 0001 1001 21"), 2)));
     let over = word("a").repeat(1025);
     let refused = ManyNodes { place: 2048 };

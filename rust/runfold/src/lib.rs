@@ -32,8 +32,8 @@
 //! outside the slices that it is lent.
 //!
 //! The library asks one thing of a caller: a slice that is written overlaps no other. That follows from the types here, so
-//! every function is safe to call with any arguments. None keeps state, and they may run in several threads at once. None
-//! panics, unless a `librunfold.a` of another version is linked that gives further refusals, or memory for [`folded`] is short.
+//! every function is safe to call with any arguments. None keeps state, and they may run in several threads at once. With the
+//! `librunfold.a` of this version none panics, unless memory for [`folded`] is short.
 //!
 //! Not proved are the compilers, the declarations in `src/declared.rs` and this wrapper, which only hands slices over and reads
 //! the answer; `scripts/differential.sh` compares all of it with an independent implementation.
@@ -98,15 +98,30 @@ pub struct Prices<'a> {
     pub each: u16,
 }
 
+/// What the run reader gives.
+#[derive(Clone, Copy, Debug, PartialEq, Eq, Hash)]
+pub struct RunReading {
+    /// The nodes of the run: its steps and its groups.
+    pub nodes: usize,
+    /// How many of them are steps.
+    pub steps: usize,
+    /// The most groups that are open together, 0 for a run without groups.
+    pub depth: usize,
+}
+
 /// What the fold reader gives.
 #[derive(Clone, Copy, Debug, PartialEq, Eq, Hash)]
-pub struct Reading {
+pub struct FoldReading {
     /// The nodes of the run that the fold unrolls to.
     pub nodes: usize,
     /// The bytes of that run.
     pub length: usize,
     /// The fold's cost.
     pub cost: u64,
+    /// How many nodes of that run are steps.
+    pub steps: usize,
+    /// The most groups of that run that are open together, 0 for a run without groups.
+    pub depth: usize,
 }
 
 /// What the folder gives.
@@ -127,13 +142,26 @@ fn answered(status: u8, answer: &[u64; raw::ENTRIES]) -> Result<(), Refusal> {
     }
 }
 
-/// Reads a run and gives the number of its nodes.
+/// Reads a run and gives the number of its nodes, how many of them are steps, and the depth of its groups.
 ///
 /// Refusals 1 to 5, 8 and 10.
-pub fn read_run(run: &[u8]) -> Result<usize, Refusal> {
+///
+/// ```
+/// use runfold::{read_run, Refusal, RunReading};
+///
+/// // Two groups 05, each holding aaa, three steps of label 01.
+/// let group = [0x11, 0x05, 0x10, 0x01, 0x10, 0x01, 0x10, 0x01, 0x12];
+/// assert_eq!(read_run(&[group, group].concat())?, RunReading { nodes: 8, steps: 6, depth: 1 });
+/// # Ok::<(), Refusal>(())
+/// ```
+pub fn read_run(run: &[u8]) -> Result<RunReading, Refusal> {
     let mut answer = [0; raw::ENTRIES];
     answered(raw::read_run(run, &mut answer), &answer)?;
-    Ok(answer[raw::NODES] as usize)
+    Ok(RunReading {
+        nodes: answer[raw::NODES] as usize,
+        steps: answer[raw::STEPS] as usize,
+        depth: answer[raw::DEPTH] as usize,
+    })
 }
 
 /// The part of a node: the bytes of the step or group that starts at the offset `at`, with all it holds. Empty where
@@ -145,14 +173,21 @@ pub fn part(run: &[u8], at: usize) -> &[u8] {
     }
 }
 
-/// Reads a fold whose widths are at most `limit`, and gives the nodes and the bytes of its run and its cost at these prices.
+/// Reads a fold whose widths are at most `limit`, and gives the nodes, bytes, steps and depth of its run and its cost at these
+/// prices.
 ///
 /// Refusals 1 and 3 to 12.
-pub fn read_fold(fold: &[u8], limit: usize, prices: Prices) -> Result<Reading, Refusal> {
+pub fn read_fold(fold: &[u8], limit: usize, prices: Prices) -> Result<FoldReading, Refusal> {
     let mut answer = [0; raw::ENTRIES];
     let status = raw::read_fold(fold, limit, prices.labels, prices.first, prices.each, &mut answer);
     answered(status, &answer)?;
-    Ok(Reading { nodes: answer[raw::NODES] as usize, length: answer[raw::LENGTH] as usize, cost: answer[raw::COST] })
+    Ok(FoldReading {
+        nodes: answer[raw::NODES] as usize,
+        length: answer[raw::LENGTH] as usize,
+        cost: answer[raw::COST],
+        steps: answer[raw::STEPS] as usize,
+        depth: answer[raw::DEPTH] as usize,
+    })
 }
 
 /// Unrolls a fold whose widths are at most `limit`, and gives the length of its run.
@@ -212,7 +247,7 @@ pub fn fold(
 /// Refusals 1 to 5, 8 and 10 to 12.
 pub fn folded(run: &[u8], limit: usize, prices: Prices) -> Result<(Vec<u8>, u64), Refusal> {
     // A refused run needs no memory: the folder below says which refusal comes first.
-    let nodes = read_run(run).unwrap_or(0);
+    let nodes = read_run(run).map_or(0, |reading| reading.nodes);
     let mut costs = vec![0; work_entries(nodes)];
     let mut choices = vec![0; work_entries(nodes)];
     let mut out = vec![0; fold_room(nodes)];

@@ -1,14 +1,14 @@
-//! The library's functions as they are, over slices: each leaves five numbers in `answer` and returns the refusal number, 0 for
-//! success. They are for callers who want the five numbers themselves; the functions of the crate's root say the same in types.
+//! The library's functions as they are, over slices: each leaves seven numbers in `answer` and returns the refusal number, 0
+//! for success. They are for callers who want these numbers themselves; the functions of the crate's root say the same in types.
 //!
-//! `answer` has at least [`ENTRIES`] entries. The first five are then written, 0 where a function has no such value and after a
+//! `answer` has at least [`ENTRIES`] entries. The first seven are then written, 0 where a function has no such value and after a
 //! refusal (but for its number and place), and the others stay as they are. Where `answer` has fewer entries the function
 //! returns [`SHORT`], and nothing is written anywhere.
 
 use crate::declared;
 
 /// The entries of an answer.
-pub const ENTRIES: usize = 5;
+pub const ENTRIES: usize = 7;
 /// Where the refusal number stands in an answer, 0 for success.
 pub const REFUSAL: usize = 0;
 /// Where the place of a refusal stands: an offset in the input, 0 for refusals 11 to 14 and on success.
@@ -19,6 +19,10 @@ pub const NODES: usize = 2;
 pub const LENGTH: usize = 3;
 /// Where the cost of a fold stands (fold reader, folder).
 pub const COST: usize = 4;
+/// Where the number of the run's nodes that are steps stands (run reader, fold reader).
+pub const STEPS: usize = 5;
+/// Where the most groups of the run that are open together stand, 0 for a run without groups (run reader, fold reader).
+pub const DEPTH: usize = 6;
 
 /// What a function returns where `answer` has fewer than [`ENTRIES`] entries. No refusal has this number.
 pub const SHORT: u8 = 255;
@@ -26,7 +30,7 @@ pub const SHORT: u8 = 255;
 // SAFETY, of every call below: each pointer and length is that of a slice, and a slice that is written is borrowed mutably,
 // so it overlaps no other. The library asks for nothing else.
 
-/// The run reader: as [`read_run`](crate::read_run), with [`NODES`] in the answer.
+/// The run reader: as [`read_run`](crate::read_run), with [`NODES`], [`STEPS`] and [`DEPTH`] in the answer.
 pub fn read_run(run: &[u8], answer: &mut [u64]) -> u8 {
     // SAFETY: see above.
     unsafe { declared::runfold_read_run(run.as_ptr(), run.len(), answer.as_mut_ptr(), answer.len()) }
@@ -39,8 +43,8 @@ pub fn part(run: &[u8], at: usize) -> usize {
     unsafe { declared::runfold_part(run.as_ptr(), run.len(), at) }
 }
 
-/// The fold reader: as [`read_fold`](crate::read_fold), with [`NODES`], [`LENGTH`] and [`COST`] in the answer. `table` has the
-/// label costs.
+/// The fold reader: as [`read_fold`](crate::read_fold), with [`NODES`], [`LENGTH`], [`COST`], [`STEPS`] and [`DEPTH`] in the
+/// answer. `table` has the label costs.
 pub fn read_fold(fold: &[u8], limit: usize, table: &[u16], first: u16, each: u16, answer: &mut [u64]) -> u8 {
     // SAFETY: see above.
     unsafe {

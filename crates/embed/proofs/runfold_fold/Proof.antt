@@ -1,5 +1,5 @@
 -- `embed::runfold_fold` meets its contract: what the folder writes and leaves in the work slices, and its answer stored as
--- five numbers.
+-- numbers.
 use borrow.Author.Needs.{needs}
 use mathlib.Core.Path.{ap, _∙_}
 use Prim.Native.Nat.{ℕ}
@@ -60,9 +60,9 @@ returns-2 c =
     let a = args .answer .now in
     let long = entry .if1 .left in
     let said = done .fold .ensures in
-    let five = after .store .ensures in
+    let put = after .store .ensures in
     let answer = from-folded (done .fold .result) in
-    let numbers = stored a long _ answer _ (ap from-folded (said .0)) five in
+    let numbers = stored a long _ answer _ (ap from-folded (said .0)) put in
     let table = args .table .now in
     let demand = said .1 .1 .1 .1 in
     let out = done .fold .last .1 .1 .1 .1 .1 .1 .1 .0 in
@@ -78,8 +78,8 @@ returns-2 c =
             (
               said .1 .1 .1 .0 ∙ long-kept a long _ _,
               (
-                λ z. of-stored Q _ answer _ five (demand .0 z),
-                (λ z. of-stored S _ answer _ five (demand .1 .0 z), demand .1 .1),
+                λ z. of-stored Q _ answer _ put (demand .0 z),
+                (λ z. of-stored S _ answer _ put (demand .1 .0 z), demand .1 .1),
               ),
             ),
           ),

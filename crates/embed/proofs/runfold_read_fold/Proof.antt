@@ -1,4 +1,4 @@
--- `embed::runfold_read_fold` meets its contract: the fold reader's answer, stored as five numbers.
+-- `embed::runfold_read_fold` meets its contract: the fold reader's answer, stored as numbers.
 use borrow.Author.Needs.{needs}
 use native.Mathlib.Omega.{arith}
 use Rattle.format.specs.Meaning.{MeansAtCost}
@@ -25,10 +25,10 @@ returns-2 c =
     let done = c .before .before .before .before in
     let a = done .before .before .before .before .before .args in
     let said = done .read-fold .ensures in
-    let five = c .before .before .store .ensures in
-    let numbers = stored (a .answer .now) (done .before .if1 .left) _ (done .read-fold .result) _ (said .0) five in
+    let put = c .before .before .store .ensures in
+    let numbers = stored (a .answer .now) (done .before .if1 .left) _ (done .read-fold .result) _ (said .0) put in
     let Q = MeansAtCost (a .limit) (a .table .now) (a .first) (a .each) (a .fold .now) in
-    (numbers .0, (numbers .1, λ z. of-stored Q _ (done .read-fold .result) _ five (said .1 z)))
+    (numbers .0, (numbers .1, λ z. of-stored Q _ (done .read-fold .result) _ put (said .1 z)))
 
 pub runfold-read-fold-spec : {M : Type 1} → statement M
 runfold-read-fold-spec =

@@ -1,4 +1,4 @@
--- `embed::runfold_read_run` meets its contract: the run reader's answer, stored as five numbers.
+-- `embed::runfold_read_run` meets its contract: the run reader's answer, stored as numbers.
 use borrow.Author.Needs.{needs}
 use mathlib.Core.Path.{ap}
 use Rattle.embed.specs.Answers.{from-run-reading}

@@ -1,4 +1,4 @@
--- `embed::runfold_unroll` meets its contract: what the unroller writes, and its answer stored as five numbers.
+-- `embed::runfold_unroll` meets its contract: what the unroller writes, and its answer stored as numbers.
 use borrow.Author.Needs.{needs}
 use mathlib.Core.Path.{ap, _∙_}
 use Prim.Native.Nat.{ℕ}
@@ -36,11 +36,11 @@ returns-2 c =
     let a = args .answer .now in
     let long = entry .if1 .left in
     let said = done .unroll .ensures in
-    let five = c .before .before .store .ensures in
+    let put = c .before .before .store .ensures in
     let answer = from-unrolled (done .unroll .result) in
-    let numbers = stored a long _ answer _ (ap from-unrolled (said .0)) five in
+    let numbers = stored a long _ answer _ (ap from-unrolled (said .0)) put in
     let Q : ℕ → ℕ → Type 0 = λ n m. Means (args .limit) (args .fold .now) (take n (done .unroll .last .1 .1 .0)) in
-    (numbers .0, (numbers .1, (said .1 .0 ∙ long-kept a long _ _, λ z. of-stored Q _ answer _ five (said .1 .1 z))))
+    (numbers .0, (numbers .1, (said .1 .0 ∙ long-kept a long _ _, λ z. of-stored Q _ answer _ put (said .1 .1 z))))
 
 pub runfold-unroll-spec : {M : Type 1} → statement M
 runfold-unroll-spec =

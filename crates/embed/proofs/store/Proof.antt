@@ -1,11 +1,8 @@
--- `embed::store` meets its contract: five stores into a slice of at least five entries.
+-- `embed::store` meets its contract: one store for each number of the answer.
 use borrow.Author.Needs.{needs}
 use native.Mathlib.Omega.{arith}
-use mathlib.Core.Path.{_∙_, ap}
-use mathlib.Core.List.{_∷_}
-use Prim.Native.Nat.{ℕ}
-use lib.ListN.{drop, length-set}
-use Rattle.embed.proofs.Entries.{five-set}
+use lib.ListN.{length-set}
+use Rattle.embed.proofs.Entries.{all-set}
 use Rattle.embed.proofs.store.Statement.{statement}
 use Rattle.embed.proofs.store.Tie as tie
 
@@ -25,7 +22,13 @@ slice-write-answer-4 : tie.Need-slice-write-answer-4
 slice-write-answer-4 c = simp length-set (omega arith)
 
 slice-write-answer-5 : tie.Need-slice-write-answer-5
-slice-write-answer-5 c = search needs
+slice-write-answer-5 c = simp length-set (omega arith)
+
+slice-write-answer-6 : tie.Need-slice-write-answer-6
+slice-write-answer-6 c = simp length-set (omega arith)
+
+slice-write-answer-7 : tie.Need-slice-write-answer-7
+slice-write-answer-7 c = search needs
 
 same-length : tie.Need-same-length
 same-length c = search needs
@@ -33,8 +36,7 @@ same-length c = search needs
 returns : tie.Need-returns
 returns c =
     let a = c .before .before .args in
-    five-set (a .answer .now) (c .wide .result) (a .a .place) (a .a .nodes) (a .a .length) (a .a .cost) (c .before .before .pre)
-    ∙ ap (λ (n : ℕ). n ∷ (a .a .place) ∷ (a .a .nodes) ∷ (a .a .length) ∷ (a .a .cost) ∷ drop 5 (a .answer .now)) (c .wide .ensures .0)
+    rw (c .wide .ensures .0) (all-set (a .answer .now) (a .a) (c .before .before .pre))
 
 pub store-spec : {M : Type 1} → statement M
 store-spec =
@@ -46,5 +48,7 @@ store-spec =
     slice-write-answer-3
     slice-write-answer-4
     slice-write-answer-5
+    slice-write-answer-6
+    slice-write-answer-7
     same-length
     returns)

@@ -11,11 +11,20 @@ limits-requires c κs = search needs
 head-refusal-requires : tie.Need-head-refusal-requires
 head-refusal-requires c κs = search needs
 
+none-requires : tie.Need-none-requires
+none-requires c κs = search needs
+
+as-fold-requires : tie.Need-as-fold-requires
+as-fold-requires c κs = search needs
+
 returns : tie.Need-returns
 returns c =
-    let checked = c .before in
+    let no = c .before .before in
+    let checked = no .before in
     let a = checked .before .before .before .before .args in
-    fold-refused (a .head) (checked .head-refusal .result) (rw (checked .before .limits .ensures) at (checked .head-refusal .ensures)) _ (a .fold .now) (c .if1 .taken)
+    c .as-fold .ensures
+    ∙ fold-refused (a .head) (checked .head-refusal .result) (rw (checked .before .limits .ensures) at (checked .head-refusal .ensures)) _ (a .fold .now) (no .if1 .taken)
+    (c .before .none .result) (c .before .none .ensures)
 
 wide-cost-requires : tie.Need-wide-cost-requires
 wide-cost-requires c κs = search needs
@@ -45,6 +54,8 @@ read-headed-spec =
     (tie.spec
     limits-requires
     head-refusal-requires
+    none-requires
+    as-fold-requires
     returns
     wide-cost-requires
     wide-cost-requires-2

@@ -1,5 +1,8 @@
 -- `read_run` meets its contract.
 use borrow.Author.Needs.{needs}
+use mathlib.Core.Path.{_≡_, _∙_}
+use Rattle.format.specs.Readings.{run-rules, run-numbers}
+use Rattle.walk.specs.Walk.{Whole}
 use Rattle.reader.proofs.Answers.{run-refused, run-read}
 use Rattle.reader.proofs.read_run.Statement.{statement}
 use Rattle.reader.proofs.read_run.Tie as tie
@@ -17,15 +20,43 @@ slice-aggregate-whole c = search needs
 whole-requires : tie.Need-whole-requires
 whole-requires c κs = rw (c .before .limits .ensures) (search needs)
 
+-- The walk was by the rules of runs.
+walked : (c : tie.After-whole) → Whole run-rules (start c .args .run .now) (c .whole .result)
+walked c = rw (c .before .before .limits .ensures) at (c .whole .ensures)
+
+none-requires : tie.Need-none-requires
+none-requires c κs = search needs
+
+as-run-requires : tie.Need-as-run-requires
+as-run-requires c κs = search needs
+
 returns : tie.Need-returns
 returns c =
-    let w = c .before .before in
-    run-refused (start w .args .run .now) (w .whole .result) (rw (w .before .before .limits .ensures) at (w .whole .ensures)) (c .if1 .taken)
+    let no = c .before in
+    let none = no .before .before in
+    let w = none .before in
+    let said : c .as-run .result ≡ run-numbers (w .whole .result .refusal) (w .whole .result .at) (none .none .result) =
+    c .as-run .ensures in
+    said
+    ∙ run-refused (start w .args .run .now) (w .whole .result) (walked w) (no .if1 .taken) (none .none .result) (none .none .ensures)
+
+as-run-requires-2 : tie.Need-as-run-requires-2
+as-run-requires-2 c κs = search needs
 
 returns-2 : tie.Need-returns-2
 returns-2 c =
-    let w = c .before .before .before in
-    run-read (start w .args .run .now) (w .whole .result) (rw (w .before .before .limits .ensures) at (w .whole .ensures)) (c .before .if1 .left)
+    let w = c .before .before .before .before in
+    c .as-run2 .ensures ∙ run-read (start w .args .run .now) (w .whole .result) (walked w) (c .before .if1 .left)
 
 pub read-run-spec : {M : Type 1} → statement M
-read-run-spec = tie.close (tie.spec limits-requires slice-aggregate-whole whole-requires returns returns-2)
+read-run-spec =
+    tie.close
+    (tie.spec
+    limits-requires
+    slice-aggregate-whole
+    whole-requires
+    none-requires
+    as-run-requires
+    returns
+    as-run-requires-2
+    returns-2)

@@ -93,7 +93,7 @@ impl Compare {
         exit(1);
     }
 
-    /// A lent answer slice: mostly of five entries or some more, at times too short.
+    /// A lent answer slice: mostly of as many entries as an answer has, or some more; at times too short.
     fn answer_slice(&mut self) -> Vec<u64> {
         let entries = match self.random.below(16) {
             0 => self.random.below(ENTRIES),

@@ -52,23 +52,20 @@ price-requires c κs = search needs
 add-t10 : tie.Need-add-t10
 add-t10 c = search needs
 
-add-t9 : tie.Need-add-t9
-add-t9 c = search needs
-
-add-t15 : tie.Need-add-t15
-add-t15 c = search needs
-
-add-t16 : tie.Need-add-t16
-add-t16 c = search needs
+inside-group-requires : tie.Need-inside-group-requires
+inside-group-requires c κs =
+    let shallow = c .before .before .before .before .before in
+    let S = start (labelled shallow) in
+    (omega (arith, S .pre .1 .0, S .pre .1 .1), (omega (arith, shallow .if2 .left, S .pre .1 .1), c .price .ensures .1))
 
 returns-4 : tie.Need-returns-4
 returns-4 c =
-    let p = c .before .before .before in
+    let p = c .before in
     let room = p .before .before in
     let shallow = room .before .before .before in
     let e = labelled shallow in
     let S = start e in
-    group-on (S .args .a) (S .args .table .now) (S .args .s .now) (S .args .d) (S .args .at) (S .args .t) (S .pre .1 .0) (S .pre .0) (omega (arith, S .pre .0 .below, e .if1 .left)) (shallow .if2 .left) (room .if3 .left) _ (p .price .ensures .0) (p .price .ensures .1)
+    rw (c .inside-group .ensures) (group-on (S .args .a) (S .args .table .now) (S .args .s .now) (S .args .d) (S .args .at) (S .args .t) (S .pre .1 .0) (S .pre .0) (omega (arith, S .pre .0 .below, e .if1 .left)) (shallow .if2 .left) (room .if3 .left) _ (p .price .ensures .0) (p .price .ensures .1))
 
 pub enter-group-spec : {M : Type 1} → statement M
 enter-group-spec =
@@ -85,7 +82,5 @@ enter-group-spec =
     shared-slice-read-price
     price-requires
     add-t10
-    add-t9
-    add-t15
-    add-t16
+    inside-group-requires
     returns-4)

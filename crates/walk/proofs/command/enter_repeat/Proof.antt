@@ -114,11 +114,11 @@ add-p c = let n = counted (shallow (c .before .before)) in omega (arith, dear n,
 add-t11 : tie.Need-add-t11
 add-t11 c = omega (arith, long (counted (shallow (c .before .before)) .before))
 
-add-t15 : tie.Need-add-t15
-add-t15 c =
-    let n = counted (shallow (c .before .before .before)) in
+inside-repeat-requires : tie.Need-inside-repeat-requires
+inside-repeat-requires c κs =
+    let n = counted (shallow (c .before .before)) in
     let S = begun n in
-    omega (arith, dear n, S .pre .1 .1 .first, S .pre .1 .0 .cost, S .pre .1 .0 .nodes, S .pre .1 .0 .repeats)
+    (omega (arith, S .pre .1 .0, S .pre .1 .1), omega (arith, dear n, S .pre .1 .1 .first))
 
 returns-6 : tie.Need-returns-6
 returns-6 c =
@@ -129,7 +129,7 @@ returns-6 c =
     let f = folds (n .before .before) in
     let l = long (n .before) in
     let m = twice (w .before .before .before) in (
-      λ table. repeat-on (S .args .a) table (S .args .s .now) (S .args .d) (S .args .at) (S .args .t) (S .pre .0) (S .pre .1 .0) f l m (narrow w) (omega (arith, e .if5 .left)) _ (ap (λ (k : ℕ). S .args .a .first + S .args .a .each * (k - 2)) (n .operand .ensures .0)) (omega (arith, dear n, S .pre .1 .1 .first)),
+      λ table. rw (c .inside-repeat .ensures) (repeat-on (S .args .a) table (S .args .s .now) (S .args .d) (S .args .at) (S .args .t) (S .pre .0) (S .pre .1 .0) f l m (narrow w) (omega (arith, e .if5 .left)) _ (ap (λ (k : ℕ). S .args .a .first + S .args .a .each * (k - 2)) (n .operand .ensures .0)) (omega (arith, dear n, S .pre .1 .1 .first))),
       λ z. (f, m, l),
     )
 
@@ -155,5 +155,5 @@ enter-repeat-spec =
     mul-p
     add-p
     add-t11
-    add-t15
+    inside-repeat-requires
     returns-6)

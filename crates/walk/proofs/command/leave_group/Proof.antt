@@ -44,19 +44,18 @@ returns-2 c =
 add-t11 : tie.Need-add-t11
 add-t11 c = search needs
 
-add-t12 : tie.Need-add-t12
-add-t12 c = search needs
-
-add-t13 : tie.Need-add-t13
-add-t13 c = search needs
+after-group-requires : tie.Need-after-group-requires
+after-group-requires c κs =
+    let S = start (closed (c .before .before)) in
+    omega (arith, S .pre .1 .0 .1, S .pre .1 .1)
 
 returns-3 : tie.Need-returns-3
 returns-3 c =
-    let some = c .before .before in
+    let some = c .before in
     let g = some .before .before in
     let e = closed g in
     let S = start e in
-    λ table d. group-left (S .args .a) table (S .args .s .now) d (S .args .at) (S .args .t) (S .args .i) (S .pre .0) (S .pre .1 .1 .1 .0 .1) (e .if1 .left) (g .if2 .taken) (some .if3 .left) (omega (arith, S .pre .1 .0 .1, S .pre .1 .1))
+    λ table d. rw (c .after-group .ensures) (group-left (S .args .a) table (S .args .s .now) d (S .args .at) (S .args .t) (S .args .i) (S .pre .0) (S .pre .1 .1 .1 .0 .1) (e .if1 .left) (g .if2 .taken) (some .if3 .left) (omega (arith, S .pre .1 .0 .1, S .pre .1 .1)))
 
 refused-requires-3 : tie.Need-refused-requires-3
 refused-requires-3 c κs = search needs
@@ -88,8 +87,7 @@ leave-group-spec =
     refused-requires-2
     returns-2
     add-t11
-    add-t12
-    add-t13
+    after-group-requires
     returns-3
     refused-requires-3
     returns-4

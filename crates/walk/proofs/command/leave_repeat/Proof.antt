@@ -62,8 +62,8 @@ returns-4 c =
     let S = start (going u) in
     λ table d. rw (c .refused4 .ensures) (repeat-untrue (S .args .a) table (S .args .s .now) d (S .args .at) (S .args .t) (S .args .i) (S .pre .0) (S .pre .1 .1 .1 .1 .0 .1) (going u .if1 .left) (S .pre .1 .1 .1 .0 .0) (S .args .o .count) (S .args .o .width) (closes-repeat u) (e .if3 .left) (c .before .if4 .taken) _)
 
-after-passes-requires : tie.Need-after-passes-requires
-after-passes-requires c κs =
+after-repeat-requires : tie.Need-after-repeat-requires
+after-repeat-requires c κs =
     let S = start (going (uncrossed (some c))) in
     omega (arith, S .pre .1 .0 .1, S .pre .1 .1)
 
@@ -76,7 +76,7 @@ returns-5 c =
     let e = some (p .before) in
     let u = uncrossed e in
     let S = start (going u) in
-    λ table d. rw (c .refused5 .ensures) (repeat-full (S .args .a) table (S .args .s .now) d (S .args .at) (S .args .t) (S .args .i) (S .pre .0) (S .pre .1 .1 .1 .1 .0 .1) (going u .if1 .left) (S .pre .1 .1 .1 .0 .0) (S .args .o .count) (S .args .o .width) (closes-repeat u) (e .if3 .left) (p .before .if4 .left) (rw (p .after-passes .ensures) at (c .before .if5 .taken)) _)
+    λ table d. rw (c .refused5 .ensures) (repeat-full (S .args .a) table (S .args .s .now) d (S .args .at) (S .args .t) (S .args .i) (S .pre .0) (S .pre .1 .1 .1 .1 .0 .1) (going u .if1 .left) (S .pre .1 .1 .1 .0 .0) (S .args .o .count) (S .args .o .width) (closes-repeat u) (e .if3 .left) (p .before .if4 .left) (rw (p .after-repeat .ensures) at (c .before .if5 .taken)) _)
 
 add-t10 : tie.Need-add-t10
 add-t10 c = search needs
@@ -87,9 +87,9 @@ returns-6 c =
     let e = some (p .before) in
     let u = uncrossed e in
     let S = start (going u) in
-    let total = rw (p .after-passes .ensures) at (c .if5 .left) in
-    let grown = repeat-grown (S .args .a .limits) (S .args .o .count) (S .args .t) (S .args .i) (S .pre .1 .1 .1 .0 .1) (S .pre .1 .1 .1 .1 .0 .0) (omega (arith, e .if3 .left)) (S .pre .1 .1 .1 .1 .1 .0) (S .pre .1 .1 .1 .1 .1 .1) (S .pre .1 .1 .1 .1 .1 .2) total in
-    λ table d. rw (p .after-passes .ensures) (repeat-left (S .args .a) table (S .args .s .now) d (S .args .at) (S .args .t) (S .args .i) (S .pre .0) (S .pre .1 .1 .1 .1 .0 .1) (going u .if1 .left) (S .pre .1 .1 .1 .0 .0) (S .args .o .count) (S .args .o .width) (closes-repeat u) (e .if3 .left) (p .before .if4 .left) total grown)
+    let total = rw (p .after-repeat .ensures) at (c .if5 .left) in
+    let grown = repeat-grown (S .args .a .limits) (S .args .o .count) (S .args .t) (S .args .i) (S .pre .1 .1 .1 .0 .1) (S .pre .1 .1 .1 .1 .0 .0) (omega (arith, e .if3 .left)) (S .pre .1 .1 .1 .1 .1 .0 .0) (S .pre .1 .1 .1 .1 .1 .0 .1) (S .pre .1 .1 .1 .1 .1 .0 .2) (S .pre .1 .1 .1 .1 .1 .1 .0) (S .pre .1 .1 .1 .1 .1 .1 .1) total in
+    λ table d. rw (p .after-repeat .ensures) (repeat-left (S .args .a) table (S .args .s .now) d (S .args .at) (S .args .t) (S .args .i) (S .pre .0) (S .pre .1 .1 .1 .1 .0 .1) (going u .if1 .left) (S .pre .1 .1 .1 .0 .0) (S .args .o .count) (S .args .o .width) (closes-repeat u) (e .if3 .left) (p .before .if4 .left) total grown)
 
 pub leave-repeat-spec : {M : Type 1} → statement M
 leave-repeat-spec =
@@ -104,7 +104,7 @@ leave-repeat-spec =
     returns-3
     refused-requires-4
     returns-4
-    after-passes-requires
+    after-repeat-requires
     refused-requires-5
     returns-5
     add-t10

@@ -43,25 +43,18 @@ price-requires c κs = search needs
 add-t9 : tie.Need-add-t9
 add-t9 c = search needs
 
-add-t8 : tie.Need-add-t8
-add-t8 c = search needs
-
-add-t14 : tie.Need-add-t14
-add-t14 c = search needs
-
-add-t15 : tie.Need-add-t15
-add-t15 c = search needs
-
-add-t16 : tie.Need-add-t16
-add-t16 c = search needs
+after-step-requires : tie.Need-after-step-requires
+after-step-requires c κs =
+    let S = start (labelled (c .before .before)) in
+    (omega (arith, S .pre .1 .0 .1, S .pre .1 .1), c .price .ensures .1)
 
 returns-3 : tie.Need-returns-3
 returns-3 c =
-    let p = c .before .before .before .before in
+    let p = c .before in
     let room = p .before .before in
     let e = labelled room in
     let S = start e in
-    λ d. step-on (S .args .a) (S .args .table .now) (S .args .s .now) d (S .args .at) (S .args .t) (S .pre .0) (omega (arith, S .pre .0 .below, e .if1 .left)) (room .if2 .left) _ (p .price .ensures .0) (p .price .ensures .1)
+    λ d. rw (c .after-step .ensures) (step-on (S .args .a) (S .args .table .now) (S .args .s .now) d (S .args .at) (S .args .t) (S .pre .0) (omega (arith, S .pre .0 .below, e .if1 .left)) (room .if2 .left) _ (p .price .ensures .0) (p .price .ensures .1))
 
 pub step-spec : {M : Type 1} → statement M
 step-spec =
@@ -76,8 +69,5 @@ step-spec =
     shared-slice-read-price
     price-requires
     add-t9
-    add-t8
-    add-t14
-    add-t15
-    add-t16
+    after-step-requires
     returns-3)

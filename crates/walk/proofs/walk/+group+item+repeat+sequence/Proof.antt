@@ -132,8 +132,9 @@ module _ (t : ℕ) where
       let nodes = e .nodes-inside z in
       let size = e .size-inside z in
       let cost = e .cost-inside z in
+      let steps = e .steps-inside z in
       let room = S .pre .1 .1 .0 in
-      (q .sequence .ensures .halted y, ((S .args .d, room), (S .pre .1 .1 .1, ((omega arith, omega arith), ((omega arith, omega arith), omega arith)))))
+      (q .sequence .ensures .halted y, ((S .args .d, room), (S .pre .1 .1 .1, ((omega arith, omega arith), ((omega arith, omega arith), (omega arith, (omega arith, omega arith)))))))
 
   group-returns-3 : group-lts.Need-returns-3 (group-calls t) (group-start t) group.Post
   group-returns-3 c =
@@ -262,9 +263,10 @@ module _ (t : ℕ) where
       let nodes = e .nodes-inside z in
       let size = e .size-inside z in
       let cost = e .cost-inside z in
+      let steps = e .steps-inside z in
       let siblings = e .siblings z in
       let room = S .pre .1 .1 .0 in
-      (q .sequence .ensures .halted y, ((S .args .d, room), (S .pre .1 .1 .1, ((k .0, omega (arith, k .1, count .operand .ensures .0), count .operand .ensures .1), ((omega arith, omega arith), (omega arith, omega arith, omega arith))))))
+      (q .sequence .ensures .halted y, ((S .args .d, room), (S .pre .1 .1 .1, ((k .0, omega (arith, k .1, count .operand .ensures .0), count .operand .ensures .1), ((omega arith, omega arith), ((omega arith, omega arith, omega arith), (omega arith, omega arith)))))))
 
   repeat-returns-3 : repeat-lts.Need-returns-3 (repeat-calls t) (repeat-start t) repeat.Post
   repeat-returns-3 c =
