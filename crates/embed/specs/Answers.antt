@@ -5,7 +5,7 @@ use mathlib.Core.List.{List, [], _∷_, _++_}
 use Prim.Native.Nat.{ℕ}
 use lib.Dec.{ltb}
 use lib.ListN.{length, drop}
-use Rattle.format.specs.declared.RunReading.{RunReading}
+pub use Rattle.format.specs.Readings.{from-run-reading}
 use Rattle.format.specs.declared.FoldReading.{FoldReading}
 use Rattle.format.specs.declared.Unrolled.{Unrolled}
 use Rattle.format.specs.declared.Folded.{Folded}
@@ -31,20 +31,7 @@ unfoldable pub entries : (answer : List ℕ) → FoldReading → List ℕ
 unfolding kept
 entries a r = kept a a (numbers r ++ drop entry-count a)
 
--- The run reader gives the nodes, the steps and the depth.
-abbrev pub from-run-reading : RunReading → FoldReading
-from-run-reading r =
-    record {
-      refusal = r .refusal;
-      place = r .place;
-      nodes = r .nodes;
-      length = 0;
-      cost = 0;
-      steps = r .steps;
-      depth = r .depth;
-    }
-
--- The unroller gives the length written.
+-- The run reader gives the nodes, the steps and the depth (`from-run-reading`), the unroller the length written.
 abbrev pub from-unrolled : Unrolled → FoldReading
 from-unrolled r =
     record { refusal = r .refusal; place = r .place; nodes = 0; length = r .length; cost = 0; steps = 0; depth = 0 }

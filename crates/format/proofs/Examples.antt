@@ -4,7 +4,7 @@ use mathlib.Core.Path.{_≡_, refl}
 use mathlib.Core.List.{List, [], _∷_, _++_, map}
 use Prim.Native.Nat.{ℕ, _/_, _%_}
 use Rattle.format.specs.Machine.{times}
-use Rattle.format.specs.Readings.{run-reading, fold-reading}
+use Rattle.format.specs.Readings.{run-reading, from-run-reading, fold-reading}
 use Rattle.format.specs.Parts.{part-of}
 use Rattle.format.specs.declared.FoldReading.{FoldReading}
 
@@ -45,17 +45,7 @@ pub data Case : Type 0 where
 infix 68 _gives_
 unfoldable pub answer : Asked → FoldReading
 unfolding run-reading fold-reading
-answer (run s) =
-    let r = run-reading s in
-    record {
-      refusal = r .refusal;
-      place = r .place;
-      nodes = r .nodes;
-      length = 0;
-      cost = 0;
-      steps = r .steps;
-      depth = r .depth;
-    }
+answer (run s) = from-run-reading (run-reading s)
 answer (fold-with k table first each s) = fold-reading s k table first each
 
 unfoldable pub answered : Case → FoldReading

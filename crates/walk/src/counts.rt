@@ -2,7 +2,7 @@
 use format::Tally;
 ghost use mathlib.Core.Path.{_≡_};
 ghost use Prim.Native.Nat.{_<_, _≤_, max};
-ghost use Rattle.format.specs.Machine.{with-step, group-entered, repeat-entered, after-group, after-repeat};
+ghost use Rattle.format.specs.Machine.{repeated, with-step, group-entered, repeat-entered, after-group, after-repeat};
 ghost use Rattle.walk.specs.Walk.{Small};
 
 // The greater of two numbers.
@@ -78,6 +78,15 @@ pub fn inside_repeat(before: Tally, price: u64) -> Tally
     }
 }
 
+// A total after all passes of a repeat, by that before it and that after one pass.
+fn repeated(count: usize, before: usize, pass: usize) -> usize
+    requires { ⌜ (1 ≤ count) × (count < 65536) ⌝ }
+    requires { ⌜ (before ≤ pass) × (pass < 196608) ⌝ }
+    ensures { λ r. ⌜ r ≡ repeated count before pass ⌝ }
+{
+    pass + (count - 1) * (pass - before)
+}
+
 // The counts after a repeat, by those before it and those after one pass: all passes count, but not for cost and depth.
 pub fn after_repeat(count: usize, before: Tally, pass: Tally) -> Tally
     requires { ⌜ (1 ≤ count) × (count < 65536) ⌝ }
@@ -86,13 +95,12 @@ pub fn after_repeat(count: usize, before: Tally, pass: Tally) -> Tally
     requires { ⌜ (before .nodes ≤ pass .nodes) × (before .size ≤ pass .size) × (before .steps ≤ pass .steps) ⌝ }
     ensures { λ r. ⌜ r ≡ after-repeat count before pass ⌝ }
 {
-    let more = count - 1;
     Tally {
         siblings: before.siblings + count * pass.siblings,
-        nodes: pass.nodes + more * (pass.nodes - before.nodes),
-        size: pass.size + more * (pass.size - before.size),
+        nodes: repeated(count, before.nodes, pass.nodes),
+        size: repeated(count, before.size, pass.size),
         cost: pass.cost,
-        steps: pass.steps + more * (pass.steps - before.steps),
+        steps: repeated(count, before.steps, pass.steps),
         depth: pass.depth,
     }
 }
