@@ -9,12 +9,12 @@
  * A call, for a run of at most 3 nodes; examples/ has whole programs, docs/FORMAT.md the bytes of runs and folds:
  *
  *     const uint8_t run[] = {0x10, 0x01, 0x10, 0x01, 0x10, 0x01};
- *     uint16_t table[256];                                          (what each label costs, filled in before)
+ *     uint16_t steps[256], groups[256];                             (what each label costs, filled in before)
  *     uint32_t costs[RUNFOLD_WORK(3)], choices[RUNFOLD_WORK(3)];    (work; for long runs better not on the stack)
  *     uint8_t out[RUNFOLD_ROOM(3)];
  *     uint64_t answer[RUNFOLD_ENTRIES];
- *     uint8_t refusal = runfold_fold(run, sizeof run, RUNFOLD_MAX_WIDTH, table, 256, 1, 0, costs, RUNFOLD_WORK(3), choices,
- *                                    RUNFOLD_WORK(3), out, sizeof out, answer, RUNFOLD_ENTRIES);
+ *     uint8_t refusal = runfold_fold(run, sizeof run, RUNFOLD_MAX_WIDTH, steps, 256, groups, 256, 1, 0, costs, RUNFOLD_WORK(3),
+ *                                    choices, RUNFOLD_WORK(3), out, sizeof out, answer, RUNFOLD_ENTRIES);
  *     if (refusal != RUNFOLD_OK)
  *         puts(runfold_refusal_text(refusal));
  *
@@ -24,15 +24,19 @@
  * call takes.
  *
  * Slices. A slice passes as a pointer and a number of entries. One of 0 entries may have a null pointer, for nothing is read or
- * written there (tested by scripts/c.sh, not proved); that of `table` is answered with refusal 11, that of `answer` with
- * RUNFOLD_SHORT. Any other points to so many entries, aligned for their type. A slice that is written (`out`, `costs`,
- * `choices`, `answer`) overlaps no other slice of the call. Nothing else is asked of a caller: every input has a defined answer.
+ * written there (tested by scripts/c.sh, not proved); that of `steps` is answered with refusal 11, that of `groups` with 15,
+ * that of `answer` with RUNFOLD_SHORT. Any other points to so many entries, aligned for their type. A slice that is written
+ * (`out`, `costs`, `choices`, `answer`) overlaps no other slice of the call; `steps` and `groups` may be one table. Nothing else
+ * is asked of a caller: every input has a defined answer.
+ *
+ * Prices. `steps` prices the steps by their labels and `groups` the groups, 256 entries each; a repeat of count h costs
+ * first + each * (h - 2). The cost of a fold is the sum over the commands that stand in it.
  *
  * Answers. `answer` has at least RUNFOLD_ENTRIES entries. The first seven are then written, 0 where a function has no such
  * value, and the others stay as they are:
  *
  *     answer[RUNFOLD_REFUSAL]   refusal number, 0 for success
- *     answer[RUNFOLD_PLACE]     place of the refusal: a byte offset in the input, 0 for refusals 11 to 14 and on success
+ *     answer[RUNFOLD_PLACE]     place of the refusal: a byte offset in the input, 0 for refusals 11 to 15 and on success
  *     answer[RUNFOLD_NODES]     nodes of the run (run reader, fold reader; the folder leaves 0, so ask the run reader first)
  *     answer[RUNFOLD_LENGTH]    bytes: of the run that the fold unrolls to (fold reader), or those written (unroller, folder)
  *     answer[RUNFOLD_COST]      cost of the fold (fold reader, folder)
@@ -54,7 +58,7 @@ extern "C" {
 
 /* The version of the library, as numbers and as text. */
 #define RUNFOLD_VERSION_MAJOR 0
-#define RUNFOLD_VERSION_MINOR 2
+#define RUNFOLD_VERSION_MINOR 3
 #define RUNFOLD_VERSION_PATCH 0
 #define RUNFOLD_VERSION \
     RUNFOLD_QUOTE(RUNFOLD_VERSION_MAJOR) "." RUNFOLD_QUOTE(RUNFOLD_VERSION_MINOR) "." RUNFOLD_QUOTE(RUNFOLD_VERSION_PATCH)
@@ -112,10 +116,11 @@ enum {
     RUNFOLD_DEEP = 8,               /* a 9th open group or an 11th open repeat */
     RUNFOLD_FALSE_WIDTH = 9,        /* width operand not the true width */
     RUNFOLD_MANY_NODES = 10,        /* more than 1,024 nodes */
-    RUNFOLD_TABLE_SIZE = 11,        /* cost table not of 256 entries */
+    RUNFOLD_TABLE_SIZE = 11,        /* step cost table not of 256 entries */
     RUNFOLD_LIMIT_SIZE = 12,        /* width limit over 1,024 */
     RUNFOLD_WORK_SIZE = 13,         /* a work slice too short */
     RUNFOLD_OUTPUT_SIZE = 14,       /* output shorter than the result */
+    RUNFOLD_GROUP_TABLE_SIZE = 15,  /* group cost table not of 256 entries; tested right after 11 */
     RUNFOLD_SHORT = 255             /* the answer slice has fewer than RUNFOLD_ENTRIES entries */
 };
 
@@ -146,13 +151,15 @@ static inline const char *runfold_refusal_text(uint64_t number)
     case RUNFOLD_MANY_NODES:
         return "node total would pass 1,024";
     case RUNFOLD_TABLE_SIZE:
-        return "cost table not of 256 entries";
+        return "step cost table not of 256 entries";
     case RUNFOLD_LIMIT_SIZE:
         return "width limit over 1,024";
     case RUNFOLD_WORK_SIZE:
         return "a work slice too short";
     case RUNFOLD_OUTPUT_SIZE:
         return "output shorter than the result";
+    case RUNFOLD_GROUP_TABLE_SIZE:
+        return "group cost table not of 256 entries";
     case RUNFOLD_SHORT:
         return "answer slice too short";
     default:
@@ -167,26 +174,28 @@ uint8_t runfold_read_run(const uint8_t *run, size_t run_len, uint64_t *answer, s
  * on, as many as the result says; 0 where the run reader refuses the run or no node starts there. Writes nothing. */
 size_t runfold_part(const uint8_t *run, size_t run_len, size_t at);
 
-/* The fold reader: refusals 1, 3 to 12, or the nodes, the bytes, the steps and the depth of the run, and the fold's cost.
- * `table` prices the labels and has 256 entries; a repeat of count h costs first + each * (h - 2). Writes `answer` alone. */
-uint8_t runfold_read_fold(const uint8_t *fold, size_t fold_len, size_t limit, const uint16_t *table, size_t table_len,
-                          uint16_t first, uint16_t each, uint64_t *answer, size_t answer_len);
+/* The fold reader: refusals 1, 3 to 12 and 15, or the nodes, the bytes, the steps and the depth of the run, and the fold's cost
+ * at these prices. Writes `answer` alone. */
+uint8_t runfold_read_fold(const uint8_t *fold, size_t fold_len, size_t limit, const uint16_t *steps, size_t steps_len,
+                          const uint16_t *groups, size_t groups_len, uint16_t first, uint16_t each, uint64_t *answer,
+                          size_t answer_len);
 
 /* The unroller: refusals 1, 3 to 10, 12 and 14, or the length of the run. On success the run stands in the first bytes of
  * `out`, that many, and the others stay as they are; after a refusal `out` stays as it is. */
 uint8_t runfold_unroll(const uint8_t *fold, size_t fold_len, size_t limit, uint8_t *out, size_t out_len, uint64_t *answer,
                        size_t answer_len);
 
-/* The folder: refusals 1 to 5, 8, 10 to 14, or the length and the cost of the cheapest fold of the run whose widths are within
- * the limit; of several, the one whose bytes come first. `table` prices the labels as above. `costs` and `choices` are work, of
- * at least RUNFOLD_WORK(nodes) entries each and with any contents; they hold no prices. RUNFOLD_ROOM(nodes) bytes of output are
- * always enough: refusal 14 does not say how many are missing.
+/* The folder: refusals 1 to 5, 8, 10 to 15, or the length and the cost of the cheapest fold of the run at these prices whose
+ * widths are within the limit; of several, the one whose bytes come first. `costs` and `choices` are work, of at least
+ * RUNFOLD_WORK(nodes) entries each and with any contents; they hold no prices. RUNFOLD_ROOM(nodes) bytes of output are always
+ * enough: refusal 14 does not say how many are missing.
  * On success the fold stands in the first bytes of `out`, as many as the length says, and the others stay as they are; after a
  * refusal `out` stays as it is. On success and after refusal 14 the first RUNFOLD_WORK(nodes) entries of both work slices are
  * 0 and the others stay as they are; after any other refusal both stay as they are. */
-uint8_t runfold_fold(const uint8_t *run, size_t run_len, size_t limit, const uint16_t *table, size_t table_len, uint16_t first,
-                     uint16_t each, uint32_t *costs, size_t costs_len, uint32_t *choices, size_t choices_len, uint8_t *out,
-                     size_t out_len, uint64_t *answer, size_t answer_len);
+uint8_t runfold_fold(const uint8_t *run, size_t run_len, size_t limit, const uint16_t *steps, size_t steps_len,
+                     const uint16_t *groups, size_t groups_len, uint16_t first, uint16_t each, uint32_t *costs,
+                     size_t costs_len, uint32_t *choices, size_t choices_len, uint8_t *out, size_t out_len, uint64_t *answer,
+                     size_t answer_len);
 
 #ifdef __cplusplus
 }

@@ -7,7 +7,7 @@
 int main(void)
 {
     const uint8_t run[] = {0x10, 0x01, 0x10, 0x01, 0x10, 0x01};
-    uint16_t table[256];
+    uint16_t steps[256], groups[256];
     uint32_t costs[RUNFOLD_WORK(3)];
     uint32_t choices[RUNFOLD_WORK(3)];
     uint8_t out[RUNFOLD_ROOM(3)];
@@ -16,13 +16,13 @@ int main(void)
     size_t length;
 
     for (int label = 0; label < 256; label++)
-        table[label] = 1;
+        steps[label] = groups[label] = 1;
     if (runfold_read_run(run, sizeof run, answer, RUNFOLD_ENTRIES) != RUNFOLD_OK)
         goto refused;
     printf("nodes %llu, steps %llu, depth %llu\n", (unsigned long long)answer[RUNFOLD_NODES],
            (unsigned long long)answer[RUNFOLD_STEPS], (unsigned long long)answer[RUNFOLD_DEPTH]);
-    if (runfold_fold(run, sizeof run, RUNFOLD_MAX_WIDTH, table, 256, 1, 0, costs, RUNFOLD_WORK(3), choices, RUNFOLD_WORK(3),
-                     out, sizeof out, answer, RUNFOLD_ENTRIES) != RUNFOLD_OK)
+    if (runfold_fold(run, sizeof run, RUNFOLD_MAX_WIDTH, steps, 256, groups, 256, 1, 0, costs, RUNFOLD_WORK(3), choices,
+                     RUNFOLD_WORK(3), out, sizeof out, answer, RUNFOLD_ENTRIES) != RUNFOLD_OK)
         goto refused;
     length = (size_t)answer[RUNFOLD_LENGTH];
     printf("cost %llu\n", (unsigned long long)answer[RUNFOLD_COST]);

@@ -29,7 +29,7 @@ static void expect(const char *call, const char *where, unsigned result, unsigne
 
 #define EXPECT(wanted, call) expect(#call, where, call, wanted)
 
-/* All calls, with the empty slices of bytes, label costs, work and answers at these pointers. */
+/* All calls, with the empty slices of bytes, cost tables, work and answers at these pointers. */
 static void calls(const char *where, uint8_t *b, uint16_t *t, uint32_t *w, uint64_t *a)
 {
     const uint8_t step[] = {0x10, 0x07};
@@ -46,11 +46,13 @@ static void calls(const char *where, uint8_t *b, uint16_t *t, uint32_t *w, uint6
         failures++;
     }
 
-    EXPECT(RUNFOLD_OK, runfold_read_fold(b, 0, LIMIT, table, 256, 1, 0, answer, ALL));
-    EXPECT(RUNFOLD_TABLE_SIZE, runfold_read_fold(step, 2, LIMIT, t, 0, 1, 0, answer, ALL));
-    EXPECT(RUNFOLD_TABLE_SIZE, runfold_read_fold(b, 0, LIMIT, t, 0, 1, 0, answer, ALL));
-    EXPECT(RUNFOLD_SHORT, runfold_read_fold(step, 2, LIMIT, table, 256, 1, 0, a, 0));
-    EXPECT(RUNFOLD_SHORT, runfold_read_fold(b, 0, LIMIT, t, 0, 1, 0, a, 0));
+    EXPECT(RUNFOLD_OK, runfold_read_fold(b, 0, LIMIT, table, 256, table, 256, 1, 0, answer, ALL));
+    EXPECT(RUNFOLD_TABLE_SIZE, runfold_read_fold(step, 2, LIMIT, t, 0, table, 256, 1, 0, answer, ALL));
+    EXPECT(RUNFOLD_TABLE_SIZE, runfold_read_fold(b, 0, LIMIT, t, 0, t, 0, 1, 0, answer, ALL));
+    EXPECT(RUNFOLD_GROUP_TABLE_SIZE, runfold_read_fold(step, 2, LIMIT, table, 256, t, 0, 1, 0, answer, ALL));
+    EXPECT(RUNFOLD_GROUP_TABLE_SIZE, runfold_read_fold(b, 0, LIMIT + 1, table, 256, t, 0, 1, 0, answer, ALL));
+    EXPECT(RUNFOLD_SHORT, runfold_read_fold(step, 2, LIMIT, table, 256, table, 256, 1, 0, a, 0));
+    EXPECT(RUNFOLD_SHORT, runfold_read_fold(b, 0, LIMIT, t, 0, t, 0, 1, 0, a, 0));
 
     EXPECT(RUNFOLD_OK, runfold_unroll(b, 0, LIMIT, out, 4, answer, ALL));
     EXPECT(RUNFOLD_OK, runfold_unroll(b, 0, LIMIT, b, 0, answer, ALL));
@@ -59,16 +61,21 @@ static void calls(const char *where, uint8_t *b, uint16_t *t, uint32_t *w, uint6
     EXPECT(RUNFOLD_SHORT, runfold_unroll(step, 2, LIMIT, out, 4, a, 0));
     EXPECT(RUNFOLD_SHORT, runfold_unroll(b, 0, LIMIT, b, 0, a, 0));
 
-    EXPECT(RUNFOLD_OK, runfold_fold(b, 0, LIMIT, table, 256, 1, 0, costs, 1, choices, 1, out, 4, answer, ALL));
-    EXPECT(RUNFOLD_OK, runfold_fold(b, 0, LIMIT, table, 256, 1, 0, w, 0, w, 0, b, 0, answer, ALL));
-    EXPECT(RUNFOLD_TABLE_SIZE, runfold_fold(step, 2, LIMIT, t, 0, 1, 0, costs, 1, choices, 1, out, 4, answer, ALL));
-    EXPECT(RUNFOLD_TABLE_SIZE, runfold_fold(b, 0, LIMIT, t, 0, 1, 0, w, 0, w, 0, b, 0, answer, ALL));
-    EXPECT(RUNFOLD_WORK_SIZE, runfold_fold(step, 2, LIMIT, table, 256, 1, 0, w, 0, choices, 1, out, 4, answer, ALL));
-    EXPECT(RUNFOLD_WORK_SIZE, runfold_fold(step, 2, LIMIT, table, 256, 1, 0, costs, 1, w, 0, out, 4, answer, ALL));
-    EXPECT(RUNFOLD_WORK_SIZE, runfold_fold(step, 2, LIMIT, table, 256, 1, 0, w, 0, w, 0, b, 0, answer, ALL));
-    EXPECT(RUNFOLD_OUTPUT_SIZE, runfold_fold(step, 2, LIMIT, table, 256, 1, 0, costs, 1, choices, 1, b, 0, answer, ALL));
-    EXPECT(RUNFOLD_SHORT, runfold_fold(step, 2, LIMIT, table, 256, 1, 0, costs, 1, choices, 1, out, 4, a, 0));
-    EXPECT(RUNFOLD_SHORT, runfold_fold(b, 0, LIMIT, t, 0, 1, 0, w, 0, w, 0, b, 0, a, 0));
+    EXPECT(RUNFOLD_OK, runfold_fold(b, 0, LIMIT, table, 256, table, 256, 1, 0, costs, 1, choices, 1, out, 4, answer, ALL));
+    EXPECT(RUNFOLD_OK, runfold_fold(b, 0, LIMIT, table, 256, table, 256, 1, 0, w, 0, w, 0, b, 0, answer, ALL));
+    EXPECT(RUNFOLD_TABLE_SIZE, runfold_fold(step, 2, LIMIT, t, 0, table, 256, 1, 0, costs, 1, choices, 1, out, 4, answer, ALL));
+    EXPECT(RUNFOLD_TABLE_SIZE, runfold_fold(b, 0, LIMIT, t, 0, t, 0, 1, 0, w, 0, w, 0, b, 0, answer, ALL));
+    EXPECT(RUNFOLD_GROUP_TABLE_SIZE,
+           runfold_fold(step, 2, LIMIT, table, 256, t, 0, 1, 0, costs, 1, choices, 1, out, 4, answer, ALL));
+    EXPECT(RUNFOLD_GROUP_TABLE_SIZE, runfold_fold(b, 0, LIMIT + 1, table, 256, t, 0, 1, 0, w, 0, w, 0, b, 0, answer, ALL));
+    EXPECT(RUNFOLD_WORK_SIZE,
+           runfold_fold(step, 2, LIMIT, table, 256, table, 256, 1, 0, w, 0, choices, 1, out, 4, answer, ALL));
+    EXPECT(RUNFOLD_WORK_SIZE, runfold_fold(step, 2, LIMIT, table, 256, table, 256, 1, 0, costs, 1, w, 0, out, 4, answer, ALL));
+    EXPECT(RUNFOLD_WORK_SIZE, runfold_fold(step, 2, LIMIT, table, 256, table, 256, 1, 0, w, 0, w, 0, b, 0, answer, ALL));
+    EXPECT(RUNFOLD_OUTPUT_SIZE,
+           runfold_fold(step, 2, LIMIT, table, 256, table, 256, 1, 0, costs, 1, choices, 1, b, 0, answer, ALL));
+    EXPECT(RUNFOLD_SHORT, runfold_fold(step, 2, LIMIT, table, 256, table, 256, 1, 0, costs, 1, choices, 1, out, 4, a, 0));
+    EXPECT(RUNFOLD_SHORT, runfold_fold(b, 0, LIMIT, t, 0, t, 0, 1, 0, w, 0, w, 0, b, 0, a, 0));
 }
 
 int main(void)

@@ -61,7 +61,7 @@ static void part(void)
 
 static void read_fold(void)
 {
-    result = runfold_read_fold(bytes, len, RUNFOLD_MAX_WIDTH, table, 256, 0, 1, answer, RUNFOLD_ENTRIES);
+    result = runfold_read_fold(bytes, len, RUNFOLD_MAX_WIDTH, table, 256, table, 256, 0, 1, answer, RUNFOLD_ENTRIES);
 }
 
 static void unroll(void)
@@ -71,8 +71,8 @@ static void unroll(void)
 
 static void fold(void)
 {
-    result = runfold_fold(bytes, len, RUNFOLD_MAX_WIDTH, table, 256, 0, 1, costs, RUNFOLD_WORK(RUNFOLD_MAX_NODES), choices,
-                          RUNFOLD_WORK(RUNFOLD_MAX_NODES), out, sizeof out, answer, RUNFOLD_ENTRIES);
+    result = runfold_fold(bytes, len, RUNFOLD_MAX_WIDTH, table, 256, table, 256, 0, 1, costs, RUNFOLD_WORK(RUNFOLD_MAX_NODES),
+                          choices, RUNFOLD_WORK(RUNFOLD_MAX_NODES), out, sizeof out, answer, RUNFOLD_ENTRIES);
 }
 
 static const struct function {

@@ -22,7 +22,7 @@ use Rattle.filling.proofs.Entries.{stored-entered, stored-kept, entered
 use Rattle.table.proofs.Tables.{number-last, falling-numbered}
 
 -- No more siblings than nodes.
-pub siblings-few : {s : List ℕ} {b limit : ℕ} {table prices costs choices : List ℕ} → LevelReady s b limit table prices costs choices
+pub siblings-few : {s : List ℕ} {b limit : ℕ} {steps groups prices costs choices : List ℕ} → LevelReady s b limit steps groups prices costs choices
     → siblings (tree-of s) ≤ 1024
 siblings-few {s} {limit = limit} ready =
     omega (arith, siblings-le-nodes (tree-of s) (ready .spelled .run (at-most limit) .plain), ready .total)
@@ -49,20 +49,20 @@ scratch-none =
     }
 
 -- The loop from the last sibling to the first: what is known of the rows from sibling i on, and the matches from there on.
-pub record Descended (s : List ℕ) (b limit : ℕ) (table prices costs₀ choices₀ : List ℕ) (i : ℕ) (costs choices matches extents tails stops : List ℕ) : Type 0 where
-  pub known : Known (at-most limit) (prices-of table prices) b (tree-of s) i extents tails stops costs choices
+pub record Descended (s : List ℕ) (b limit : ℕ) (steps groups prices costs₀ choices₀ : List ℕ) (i : ℕ) (costs choices matches extents tails stops : List ℕ) : Type 0 where
+  pub known : Known (at-most limit) (prices-of steps groups prices) b (tree-of s) i extents tails stops costs choices
   pub kept-costs : KeptOthers b (tree-of s) costs₀ costs
   pub kept-choices : KeptOthers b (tree-of s) choices₀ choices
   pub matched : Matches (back i (tree-of s)) matches
   pub low : (w : ℕ) → 0 < w → i + w ≤ siblings (tree-of s) → getD matches w 0 + i ≤ 1024
 
-module _ {s : List ℕ} {b limit : ℕ} {table prices costs₀ choices₀ : List ℕ} (ready : LevelReady s b limit table prices costs₀ choices₀) where
+module _ {s : List ℕ} {b limit : ℕ} {steps groups prices costs₀ choices₀ : List ℕ} (ready : LevelReady s b limit steps groups prices costs₀ choices₀) where
   run : Run (at-most limit) (tree-of s)
   run = ready .spelled .run (at-most limit)
 
   -- Past the last sibling nothing is left to enter or to match.
   pub descended-none : (m : ℕ) (matches extents tails stops : List ℕ) → m ≡ siblings (tree-of s) → length extents ≡ 1025 → length tails ≡ 1025
-      → Descended s b limit table prices costs₀ choices₀ m costs₀ choices₀ matches (set extents m 0) (set tails m 0) stops
+      → Descended s b limit steps groups prices costs₀ choices₀ m costs₀ choices₀ matches (set extents m 0) (set tails m 0) stops
   descended-none m matches extents tails stops e le lt =
       let few = siblings-few ready in
       record {
@@ -75,13 +75,13 @@ module _ {s : List ℕ} {b limit : ℕ} {table prices costs₀ choices₀ : List
 
   -- The rows entered are solved within the lists.
   pub extent-few : {i : ℕ} {costs choices matches extents tails stops : List ℕ} → i ≤ siblings (tree-of s)
-      → Descended s b limit table prices costs₀ choices₀ i costs choices matches extents tails stops → getD extents i 0 ≤ 1024
+      → Descended s b limit steps groups prices costs₀ choices₀ i costs choices matches extents tails stops → getD extents i 0 ≤ 1024
   extent-few {i} h d = omega (arith, siblings-few ready, d .known .extending .within i (omega arith) h)
 
   -- The next row, of sibling j: what it is solved from, and what it leaves.
   module _ {m i : ℕ} (j : ℕ) {costs choices matches extents tails stops numbers : List ℕ} (all : siblings (tree-of s) ≡ m) (next : j + 1 ≡ i) (near : i ≤ m)
       (long : length numbers ≡ 1025) (numbered : Numbered b (tree-of s) numbers)
-      (d : Descended s b limit table prices costs₀ choices₀ i costs choices matches extents tails stops) where
+      (d : Descended s b limit steps groups prices costs₀ choices₀ i costs choices matches extents tails stops) where
     last : getD numbers (siblings (tree-of s)) 0 ≡ b
     last = numbered .numbered (siblings (tree-of s)) (omega arith) ∙ number-last b (tree-of s) (run .plain)
 
@@ -106,8 +106,8 @@ module _ {s : List ℕ} {b limit : ℕ} {table prices costs₀ choices₀ : List
       (placed, ((omega arith, siblings-few ready), (rw all (falling (ready .cost-room) (d .kept-costs)), rw last numbered))),
     )
 
-    module _ {own : ℕ} {kinds matches′ : List ℕ} (g : Source) (single : Single s table costs numbers j own)
-        (below : Below (at-most limit) (prices-of table prices) b (tree-of s) costs₀ choices₀) (classed : Classed (tree-of s) m kinds)
+    module _ {own : ℕ} {kinds matches′ : List ℕ} (g : Source) (single : Single s steps groups costs numbers j own)
+        (below : Below (at-most limit) (prices-of steps groups prices) b (tree-of s) costs₀ choices₀) (classed : Classed (tree-of s) m kinds)
         (grown : Growing kinds j m matches matches′) (drawn : Drawn extents j m matches′ g) where
       abbrev row : Row
       row = record { at = j; end = m; limit = limit; own = own; shift = g .shift; span = g .span; extent = g .extent }
@@ -115,7 +115,7 @@ module _ {s : List ℕ} {b limit : ℕ} {table prices costs₀ choices₀ : List
       matched-again : Matches (back j (tree-of s)) matches′
       matched-again = grown .matches (at-most limit) (tree-of s) run all classed (rw next (d .matched))
 
-      known-next : Known (at-most limit) (prices-of table prices) b (tree-of s) (j + 1) extents tails stops costs choices
+      known-next : Known (at-most limit) (prices-of steps groups prices) b (tree-of s) (j + 1) extents tails stops costs choices
       known-next = rw next (d .known)
 
       row-ready : RowReady costs choices numbers row prices matches′ tails stops
@@ -124,7 +124,7 @@ module _ {s : List ℕ} {b limit : ℕ} {table prices costs₀ choices₀ : List
           record {
             tree = tree-of s;
             allowed = at-most limit;
-            prices-are = prices-of table prices;
+            prices-are = prices-of steps groups prices;
             base = b;
             extents = extents;
             run = run;
@@ -133,14 +133,14 @@ module _ {s : List ℕ} {b limit : ℕ} {table prices costs₀ choices₀ : List
             some = omega arith;
             limited = refl;
             priced = ready .prepared .priced;
-            step-low = ready .prepared .low;
-            group-low = ready .prepared .low;
+            step-low = ready .prepared .low-steps;
+            group-low = ready .prepared .low-groups;
             numbers-are = numbered;
             extending = known-next .extending;
             rows-below = known-next .entered;
             tailing = known-next .tailing;
             stopping = known-next .stopping;
-            own-cost = single .costs-it (at-most limit) (prices-of table prices) choices (λ l. refl) (λ l. refl) (rw last now);
+            own-cost = single .costs-it (at-most limit) (prices-of steps groups prices) choices (λ l. refl) (λ l. refl) (rw last now);
             matches = matched-again;
             drawn = drawn;
           }
@@ -157,14 +157,14 @@ module _ {s : List ℕ} {b limit : ℕ} {table prices costs₀ choices₀ : List
       -- The row entered: one more sibling is done, and nothing but stretches of this sequence has changed.
       pub descended-more : {costs′ choices′ tails′ stops′ : List ℕ} → length extents ≡ 1025 → length tails ≡ 1025 → length stops ≡ 1025
           → RowEntered costs choices numbers row prices matches′ tails stops costs′ choices′ tails′ stops′
-          → Descended s b limit table prices costs₀ choices₀ j costs′ choices′ matches′ (set extents j (g .extent)) tails′ stops′
+          → Descended s b limit steps groups prices costs₀ choices₀ j costs′ choices′ matches′ (set extents j (g .extent)) tails′ stops′
       unfolding row-ready
       descended-more {costs′} {choices′} {tails′} {stops′} le lt ls e =
           let few = siblings-few ready in
           let here : getD (set extents j (g .extent)) j 0 ≡ g .extent = getD-set-same extents j (g .extent) 0 (omega arith) in
           let t = tree-of s in
           let A = at-most limit in
-          let P = prices-of table prices in
+          let P = prices-of steps groups prices in
           record {
             known = record {
               extending = extending-more run all (omega arith) (known-next .extending) matched-again drawn (omega arith);
@@ -187,9 +187,9 @@ module _ {s : List ℕ} {b limit : ℕ} {table prices costs₀ choices₀ : List
           }
 
   -- Down to the first sibling the level is filled, and nothing outside its interval has changed.
-  module _ {costs choices matches extents tails stops : List ℕ} (d : Descended s b limit table prices costs₀ choices₀ 0 costs choices matches extents tails stops) where
-    pub level-filled : Below (at-most limit) (prices-of table prices) b (tree-of s) costs₀ choices₀
-        → Filled (at-most limit) (prices-of table prices) b (tree-of s) costs choices
+  module _ {costs choices matches extents tails stops : List ℕ} (d : Descended s b limit steps groups prices costs₀ choices₀ 0 costs choices matches extents tails stops) where
+    pub level-filled : Below (at-most limit) (prices-of steps groups prices) b (tree-of s) costs₀ choices₀
+        → Filled (at-most limit) (prices-of steps groups prices) b (tree-of s) costs choices
     level-filled w = record { top = entered-used _ _ _ _ _ _ _ (d .known .extending) (d .known .entered); below = below-others _ _ _ run _ _ _ _ _ (d .kept-costs) (d .kept-choices) w }
 
     pub level-kept : Kept b (nodes (tree-of s)) costs₀ costs × Kept b (nodes (tree-of s)) choices₀ choices

@@ -48,9 +48,9 @@ abbrev pub inside : (part : List ℕ) → List ℕ
 inside part = take (length part - 1 - 2) (drop 2 part)
 
 -- Where the next sibling is a group, all that a call on what is inside it rests on.
-pub record Opening (places nexts s part : List ℕ) (r : Level) (table prices costs choices : List ℕ) : Type 0 where
+pub record Opening (places nexts s part : List ℕ) (r : Level) (steps groups prices costs choices : List ℕ) : Type 0 where
   pub shorter : length (inside part) < length s
-  pub ready : LevelReady (inside part) (r .span .behind) (r .limit) table prices costs choices
+  pub ready : LevelReady (inside part) (r .span .behind) (r .limit) steps groups prices costs choices
   pub listed : LevelListed places nexts (inside part) r
 
 -- What that group is.
@@ -62,9 +62,9 @@ record GroupAt (s : List ℕ) (i : ℕ) (part : List ℕ) : Type 0 where
   long : length part ≡ 3 + length (bytes children)
   spells : inside part ≡ bytes children
 
-module _ {places nexts s : List ℕ} {level : Level} {table prices costs₀ choices₀ costs choices : List ℕ} {q : ℕ}
-    (l : LevelReady s (level .span .behind) (level .limit) table prices costs₀ choices₀) (z : LevelListed places nexts s level)
-    (w : Through (at-most (level .limit)) (prices-of table prices) s (level .span .behind) costs₀ choices₀ costs choices q) where
+module _ {places nexts s : List ℕ} {level : Level} {steps groups prices costs₀ choices₀ costs choices : List ℕ} {q : ℕ}
+    (l : LevelReady s (level .span .behind) (level .limit) steps groups prices costs₀ choices₀) (z : LevelListed places nexts s level)
+    (w : Through (at-most (level .limit)) (prices-of steps groups prices) s (level .span .behind) costs₀ choices₀ costs choices q) where
   abbrev t : Forest
   t = tree-of s
 
@@ -75,7 +75,7 @@ module _ {places nexts s : List ℕ} {level : Level} {table prices costs₀ choi
   A = at-most (level .limit)
 
   abbrev P : Prices
-  P = prices-of table prices
+  P = prices-of steps groups prices
 
   run : Run A t
   run = l .spelled .run A
@@ -90,7 +90,7 @@ module _ {places nexts s : List ℕ} {level : Level} {table prices costs₀ choi
       let all = reached-all A b t run (w .i) q (w .reached) h in
       below-whole _ _ costs choices b t (run .plain) (rw all at (w .below))
 
-  pub through-ready : LevelReady s b (level .limit) table prices costs choices
+  pub through-ready : LevelReady s b (level .limit) steps groups prices costs choices
   through-ready =
       record {
         spelled = l .spelled;
@@ -173,7 +173,7 @@ module _ {places nexts s : List ℕ} {level : Level} {table prices costs₀ choi
           ends : r .span .behind ≡ number b t (w .i + 1)
           ends = x .ends ∙ further .numbered
 
-          pub opening : Opening places nexts s part r table prices costs choices
+          pub opening : Opening places nexts s part r steps groups prices costs choices
           opening =
               let h = here in
               let after = number-after-group b (w .i) t (h .label) (h .children) (h .rest) (h .stands) in

@@ -21,11 +21,11 @@ use Rattle.table.proofs.Listings.{Sibling, is-step, is-group}
 
 -- The cost of sibling i by itself, by its first byte c and its label l.
 module _ (s : List ℕ) (i c l : ℕ) (x : Sibling (tree-of s) i c l) where
-  pub own-step : (table costs numbers : List ℕ) → c ≡ 0x10 → (r : ℕ) → r ≡ getD table l 0 → Single s table costs numbers i r
+  pub own-step : (steps groups costs numbers : List ℕ) → c ≡ 0x10 → (r : ℕ) → r ≡ getD steps l 0 → Single s steps groups costs numbers i r
   unfolding front
-  own-step table costs numbers e r q = by-form x
+  own-step steps groups costs numbers e r q = by-form x
     where
-      by-form : Sibling (tree-of s) i c l → Single s table costs numbers i r
+      by-form : Sibling (tree-of s) i c l → Single s steps groups costs numbers i r
       by-form (is-step f p d) =
           record { costs-it = λ A P choices st gr w. q ∙ sym (st l) ∙ sym (best-cost-step A P l) ∙ rw p }
       by-form (is-group g f p d) = absurd (omega arith)
@@ -56,12 +56,12 @@ module _ (s : List ℕ) (i c l : ℕ) (x : Sibling (tree-of s) i c l) where
         omega (arith, cell-in _ _ (getD numbers 0 0) own-inside (omega arith), r .fits)
 
     -- The top entry of what the group holds is the cost of all of it.
-    pub own-group : (table costs : List ℕ) (r : ℕ) → r ≡ getD table l 0 + getD costs (cell (getD numbers (i + 1) 0) (getD numbers i 0 - 1)) 0
-        → Single s table costs numbers i r
+    pub own-group : (steps groups costs : List ℕ) (r : ℕ) → r ≡ getD groups l 0 + getD costs (cell (getD numbers (i + 1) 0) (getD numbers i 0 - 1)) 0
+        → Single s steps groups costs numbers i r
     unfolding front back
-    own-group table costs r q = by-form x
+    own-group steps groups costs r q = by-form x
       where
-        by-form : Sibling (tree-of s) i c l → Single s table costs numbers i r
+        by-form : Sibling (tree-of s) i c l → Single s steps groups costs numbers i r
         by-form (is-step f p d) = absurd (other d)
         by-form (is-group g f p d) =
             record {

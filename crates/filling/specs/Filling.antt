@@ -14,20 +14,21 @@ use Rattle.table.specs.Used.{UsedEntered}
 use Rattle.solver.specs.Rows.{Priced, KeysReady, TailsReady}
 use Rattle.filling.specs.declared.level.Level.{Level}
 
--- The prices that a table of labels and a list of repeat prices give.
-abbrev pub prices-of : (table prices : List ℕ) → Prices
-prices-of table prices =
+-- The prices that the two cost tables and a list of repeat prices give.
+abbrev pub prices-of : (steps groups prices : List ℕ) → Prices
+prices-of steps groups prices =
     record {
-      of-step = λ l. getD table l 0;
-      of-group = λ l. getD table l 0;
+      of-step = λ l. getD steps l 0;
+      of-group = λ l. getD groups l 0;
       first = getD prices 2 0;
       each = getD prices 3 0 - getD prices 2 0;
     }
 
 -- The list has the price of each count, and labels cost 16 bits at most.
-pub record Prepared (table prices : List ℕ) : Type 0 where
-  pub priced : Priced (prices-of table prices) prices
-  pub low : (l : ℕ) → getD table l 0 < 65536
+pub record Prepared (steps groups prices : List ℕ) : Type 0 where
+  pub priced : Priced (prices-of steps groups prices) prices
+  pub low-steps : (l : ℕ) → getD steps l 0 < 65536
+  pub low-groups : (l : ℕ) → getD groups l 0 < 65536
 
 -- The sequences inside a sequence's groups are entered, as far as a fold can use them, and theirs. What follows a group follows its
 -- children.
@@ -43,12 +44,12 @@ pub record Filled (A : Allowed) (P : Prices) (b : ℕ) (t : Forest) (costs choic
   pub below : Below A P b t costs choices
 
 -- All that filling the stretches of one sequence rests on.
-pub record LevelReady (s : List ℕ) (b limit : ℕ) (table prices costs choices : List ℕ) : Type 0 where
+pub record LevelReady (s : List ℕ) (b limit : ℕ) (steps groups prices costs choices : List ℕ) : Type 0 where
   pub spelled : Spelled s
   pub total : b + nodes (tree-of s) ≤ 1024
   pub cost-room : cells (b + nodes (tree-of s)) ≤ length costs
   pub choice-room : cells (b + nodes (tree-of s)) ≤ length choices
-  pub prepared : Prepared table prices
+  pub prepared : Prepared steps groups prices
 
 -- The nodes of the run are listed, and among them the sequence, where the level says that it stands.
 pub record LevelListed (places nexts s : List ℕ) (level : Level) : Type 0 where
@@ -64,16 +65,16 @@ pub record LevelInside (places : List ℕ) (q next limit : ℕ) (r : Level) : Ty
   pub limited : r .limit ≡ limit
 
 -- The sequence is entered with all below it, and nothing outside its interval has changed.
-abbrev pub LevelFilled : (s : List ℕ) (level : Level) (table prices costs choices : List ℕ) → Type 0
-LevelFilled s level table prices costs choices =
-    Filled (at-most (level .limit)) (prices-of table prices) (level .span .behind) (tree-of s) costs choices
+abbrev pub LevelFilled : (s : List ℕ) (level : Level) (steps groups prices costs choices : List ℕ) → Type 0
+LevelFilled s level steps groups prices costs choices =
+    Filled (at-most (level .limit)) (prices-of steps groups prices) (level .span .behind) (tree-of s) costs choices
 
 abbrev pub LevelKept : (s : List ℕ) (level : Level) (before after : List ℕ) → Type 0
 LevelKept s level before after = Kept (level .span .behind) (nodes (tree-of s)) before after
 
 -- The cost of sibling i by itself, where the sequences inside the groups are entered.
-pub record Single (s table costs numbers : List ℕ) (i r : ℕ) : Type 0 where
-  pub costs-it : (A : Allowed) (P : Prices) (choices : List ℕ) → ((l : ℕ) → P .of-step l ≡ getD table l 0) → ((l : ℕ) → P .of-group l ≡ getD table l 0)
+pub record Single (s steps groups costs numbers : List ℕ) (i r : ℕ) : Type 0 where
+  pub costs-it : (A : Allowed) (P : Prices) (choices : List ℕ) → ((l : ℕ) → P .of-step l ≡ getD steps l 0) → ((l : ℕ) → P .of-group l ≡ getD groups l 0)
       → Below A P (getD numbers (siblings (tree-of s)) 0) (tree-of s) costs choices → r ≡ best-cost A P (node i (tree-of s))
 
 -- The lent arrays that every sequence is worked in, one after the other.

@@ -28,7 +28,8 @@ pub fn enter_level(
     nexts: &[usize],
     s: &[u8],
     level: Level,
-    table: &[u16],
+    steps: &[u16],
+    groups: &[u16],
     prices: &[u64],
     offsets: &mut [usize],
     numbers: &mut [usize],
@@ -42,12 +43,12 @@ pub fn enter_level(
     costs: &mut [u32],
     choices: &mut [u32],
 )
-    requires { ⌜ LevelReady (now s) (level .span .behind) (level .limit) (now table) (now prices) (now costs) (now choices) ⌝ }
-    requires { ⌜ Below (at-most (level .limit)) (prices-of (now table) (now prices)) (level .span .behind) (tree-of (now s)) (now costs) (now choices) ⌝ }
+    requires { ⌜ LevelReady (now s) (level .span .behind) (level .limit) (now steps) (now groups) (now prices) (now costs) (now choices) ⌝ }
+    requires { ⌜ Below (at-most (level .limit)) (prices-of (now steps) (now groups) (now prices)) (level .span .behind) (tree-of (now s)) (now costs) (now choices) ⌝ }
     requires { ⌜ Scratch (now offsets) (now numbers) (now kinds) (now matches) (now extents) (now tails) (now stops) (now seen) (now keys) ⌝ }
     requires { ⌜ LevelListed (now places) (now nexts) (now s) level ⌝ }
     ensures scratch { λ _. ⌜ Scratch (now (offsets .exit)) (now (numbers .exit)) (now (kinds .exit)) (now (matches .exit)) (now (extents .exit)) (now (tails .exit)) (now (stops .exit)) (now (seen .exit)) (now (keys .exit)) ⌝ }
-    ensures entered { λ _. ⌜ LevelFilled (now (s .entry)) level (now (table .entry)) (now (prices .entry)) (now (costs .exit)) (now (choices .exit)) ⌝ }
+    ensures entered { λ _. ⌜ LevelFilled (now (s .entry)) level (now (steps .entry)) (now (groups .entry)) (now (prices .entry)) (now (costs .exit)) (now (choices .exit)) ⌝ }
     ensures kept { λ _. ⌜ LevelKept (now (s .entry)) level (now (costs .entry)) (now (costs .exit)) × LevelKept (now (s .entry)) level (now (choices .entry)) (now (choices .exit)) ⌝ }
 {
     let stands = level.span;
@@ -60,7 +61,7 @@ pub fn enter_level(
         i -= 1;
         grow(kinds, i, m, matches);
         let g = draw(matches, extents, i, m);
-        let own = own_cost(s, table, costs, offsets, numbers, i);
+        let own = own_cost(s, steps, groups, costs, offsets, numbers, i);
         extents[i] = g.extent;
         let row = Row {
             at: i,
@@ -105,7 +106,8 @@ pub fn enter_tree(
     nexts: &[usize],
     s: &[u8],
     level: Level,
-    table: &[u16],
+    steps: &[u16],
+    groups: &[u16],
     prices: &[u64],
     offsets: &mut [usize],
     numbers: &mut [usize],
@@ -119,11 +121,11 @@ pub fn enter_tree(
     costs: &mut [u32],
     choices: &mut [u32],
 )
-    requires { ⌜ LevelReady (now s) (level .span .behind) (level .limit) (now table) (now prices) (now costs) (now choices) ⌝ }
+    requires { ⌜ LevelReady (now s) (level .span .behind) (level .limit) (now steps) (now groups) (now prices) (now costs) (now choices) ⌝ }
     requires { ⌜ Scratch (now offsets) (now numbers) (now kinds) (now matches) (now extents) (now tails) (now stops) (now seen) (now keys) ⌝ }
     requires { ⌜ LevelListed (now places) (now nexts) (now s) level ⌝ }
     ensures scratch { λ _. ⌜ Scratch (now (offsets .exit)) (now (numbers .exit)) (now (kinds .exit)) (now (matches .exit)) (now (extents .exit)) (now (tails .exit)) (now (stops .exit)) (now (seen .exit)) (now (keys .exit)) ⌝ }
-    ensures entered { λ _. ⌜ LevelFilled (now (s .entry)) level (now (table .entry)) (now (prices .entry)) (now (costs .exit)) (now (choices .exit)) ⌝ }
+    ensures entered { λ _. ⌜ LevelFilled (now (s .entry)) level (now (steps .entry)) (now (groups .entry)) (now (prices .entry)) (now (costs .exit)) (now (choices .exit)) ⌝ }
     ensures kept { λ _. ⌜ LevelKept (now (s .entry)) level (now (costs .entry)) (now (costs .exit)) × LevelKept (now (s .entry)) level (now (choices .entry)) (now (choices .exit)) ⌝ }
 {
     let span = level.span;
@@ -137,7 +139,8 @@ pub fn enter_tree(
                 nexts,
                 &part[2..part.len() - 1],
                 inside(places, q, next, level.limit),
-                table,
+                steps,
+                groups,
                 prices,
                 offsets,
                 numbers,
@@ -159,7 +162,8 @@ pub fn enter_tree(
         nexts,
         s,
         level,
-        table,
+        steps,
+        groups,
         prices,
         offsets,
         numbers,

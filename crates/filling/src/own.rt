@@ -12,10 +12,11 @@ ghost use Rattle.table.specs.Table.{Falling};
 ghost use Rattle.table.specs.Listing.{Spelled, Placed, Numbered};
 ghost use Rattle.filling.specs.Filling.{Single};
 
-// The cost of one sibling by itself: its label, and for a group the cheapest fold of what it holds.
+// The cost of one sibling by itself: a step by its label, a group by its label and the cheapest fold of what it holds.
 pub fn own_cost(
     s: &[u8],
-    table: &[u16],
+    steps: &[u16],
+    groups: &[u16],
     costs: &[u32],
     offsets: &[usize],
     numbers: &[usize],
@@ -25,12 +26,12 @@ pub fn own_cost(
     requires { ⌜ (length (now offsets) ≡ 1025) × Placed (now s) (now offsets) ⌝ }
     requires { ⌜ (i < siblings (tree-of (now s))) × (siblings (tree-of (now s)) ≤ 1024) ⌝ }
     requires { ⌜ Falling (now numbers) (siblings (tree-of (now s))) (length (now costs)) × Numbered (getD (now numbers) (siblings (tree-of (now s))) 0) (tree-of (now s)) (now numbers) ⌝ }
-    ensures { λ r. ⌜ Single (now (s .entry)) (now (table .entry)) (now (costs .entry)) (now (numbers .entry)) i r ⌝ }
+    ensures { λ r. ⌜ Single (now (s .entry)) (now (steps .entry)) (now (groups .entry)) (now (costs .entry)) (now (numbers .entry)) i r ⌝ }
 {
     let at = offsets[i];
-    let label = price(table, s[at + 1]);
+    let label = s[at + 1];
     if s[at] == Format::STEP {
-        return label;
+        return price(steps, label);
     }
-    label + widen(costs[entry(numbers[i + 1], numbers[i] - 1)])
+    price(groups, label) + widen(costs[entry(numbers[i + 1], numbers[i] - 1)])
 }

@@ -8,7 +8,7 @@ use native.Mathlib.Omega.{arith}
 use borrow.Author.Tests.{lt-ltb, le-ltb}
 use lib.ListN.{length, take, drop, replicate}
 use lib.Seq.{take-append-seam}
-use Rattle.format.specs.Limits.{limits, priced}
+use Rattle.format.specs.Limits.{limits, Tariff, tariff, priced}
 use Rattle.format.specs.Order.{Bytes}
 use Rattle.format.specs.Forest.{at-most}
 use Rattle.format.specs.Machine.{Outcome, refused, accepted, read}
@@ -23,19 +23,23 @@ use Rattle.fold.specs.Text.{three-lines, refusal-line}
 use Rattle.fold.specs.Printed.{lines-of, printed}
 use Rattle.fold.proofs.Room.{enough-work, too-little-work}
 
+-- What the program lends.
+abbrev unit : Tariff
+unit = tariff (replicate 256 1) (replicate 256 1) 1 0
+
 -- The verdict on a run: a refusal with its number, or a fold with the nodes that the run reader counts.
 data Decided (nodes : ℕ) : Verdict → Type 0 where
   refusing : (n p : ℕ) → n ≢ 0 → Decided nodes (refuses n p)
   folded : (f : List ℕ) (c : ℕ) → length f ≤ 4 * nodes → Decided nodes (folds nodes f c)
 
-decided : (s : List ℕ) → Bytes s → Decided (run-reading s .nodes) (folding s (limits .width) (replicate 256 1) 1 0)
+decided : (s : List ℕ) → Bytes s → Decided (run-reading s .nodes) (folding s (limits .width) unit)
 unfolding run-reading folding
 decided s small = by-outcome (read run-rules s) refl
   where
-    by-outcome : (o : Outcome) → read run-rules s ≡ o → Decided (as-run-reading o .nodes) (verdict (at-most (limits .width)) (priced (replicate 256 1) 1 0) s o)
+    by-outcome : (o : Outcome) → read run-rules s ≡ o → Decided (as-run-reading o .nodes) (verdict (at-most (limits .width)) (priced unit) s o)
     by-outcome (refused n p) e = refusing n p (refused-some run-rules s n p e)
     by-outcome (accepted t x) e =
-        folded _ _ (cheapest-room s small t x e (limits .width) (priced (replicate 256 1) 1 0))
+        folded _ _ (cheapest-room s small t x e (limits .width) (priced unit))
 
 -- What the folder answers and writes with this work and this output.
 abbrev answered : Verdict → Folded
@@ -84,12 +88,12 @@ fold-room {nodes} v (folded f c short) =
     ]
 
 -- The same of the folder's own answer.
-module _ (s : List ℕ) (small : Bytes s) (r : Folded) (answer : r ≡ answered (folding s (limits .width) (replicate 256 1) 1 0)) where
+module _ (s : List ℕ) (small : Bytes s) (r : Folded) (answer : r ≡ answered (folding s (limits .width) unit)) where
   pub prints-refusal : r .refusal ≢ 0 → refusal-line (r .refusal) (r .place) ≡ printed s
   unfolding printed
   prints-refusal = rw answer (refusal-text _ (decided s small))
 
-  pub prints-fold : (out : List ℕ) (n : RunReading) → out ≡ output (folding s (limits .width) (replicate 256 1) 1 0) → n ≡ run-reading s
+  pub prints-fold : (out : List ℕ) (n : RunReading) → out ≡ output (folding s (limits .width) unit) → n ≡ run-reading s
       → r .refusal ≡ 0 → three-lines (n .nodes) (r .cost) (take (r .length) out) ≡ printed s
   unfolding printed
   prints-fold out n e f = rw (e, f, answer) (fold-lines _ (decided s small))

@@ -4,7 +4,7 @@ use mathlib.Core.List.{List}
 use Prim.Native.Nat.{ℕ}
 use lib.Dec.{ltb}
 use lib.ListN.{replicate}
-use Rattle.format.specs.Limits.{limits}
+use Rattle.format.specs.Limits.{limits, tariff}
 use Rattle.optimum.specs.Verdict.{Verdict, refuses, folds}
 use Rattle.folder.specs.Folding.{folding}
 use Rattle.fold.specs.Text.{three-lines, refusal-line}
@@ -16,7 +16,7 @@ lines-of (refuses n p) = refusal-line n p
 lines-of (folds n f c) =
     cond (ltb 100 n) (refusal-line 13 0) (three-lines n c f)
 
--- At unit costs, every label 1, first 1 and each 0, and the largest width limit.
+-- At unit costs, every label 1 for steps and groups, first 1 and each 0, and the largest width limit.
 unfoldable pub printed : List ℕ → List ℕ
 unfolding folding
-printed run = lines-of (folding run (limits .width) (replicate 256 1) 1 0)
+printed run = lines-of (folding run (limits .width) (tariff (replicate 256 1) (replicate 256 1) 1 0))

@@ -5,7 +5,7 @@ use Prim.Native.Nat.{ℕ, _*_, _≤_}
 use native.Mathlib.Omega.{arith}
 use lib.ListN.{length}
 use borrow.Author.Tests.{le-ltb}
-use Rattle.format.specs.Limits.{priced, cells}
+use Rattle.format.specs.Limits.{Tariff, priced, cells}
 use Rattle.format.specs.Order.{Bytes}
 use Rattle.format.specs.Forest.{bytes, at-most}
 use Rattle.format.specs.Head.{full-head}
@@ -18,19 +18,19 @@ use Rattle.folder.specs.Folding.{folding, fold-answer}
 use Rattle.folder.proofs.Verdicts.{accepted-run, accepts, verdict-folds}
 
 -- What the folder's call makes of the run before it looks at work and output.
-abbrev pub admission : (s : List ℕ) (k : ℕ) (table : List ℕ) → RunReading
-admission s k table = as-run-reading (run-outcome (full-head table k) s)
+abbrev pub admission : (s : List ℕ) (k : ℕ) (T : Tariff) → RunReading
+admission s k T = as-run-reading (run-outcome (full-head T k) s)
 
 -- A run that is admitted is then folded, for neither 13 nor 14 is left.
-pub lent-enough : (s : List ℕ) → Bytes s → (k : ℕ) (table : List ℕ) (first each : ℕ) → admission s k table .refusal ≡ 0
-    → (costs choices room : ℕ) → cells (admission s k table .nodes) ≤ costs → cells (admission s k table .nodes) ≤ choices
-    → 4 * admission s k table .nodes ≤ room
-    → fold-answer (folding s k table first each) costs choices room .refusal ≡ 0
-lent-enough s small k table first each z costs choices room x y o =
-    let r = admission s k table in
-    let a = accepted-run s k table first each r refl z in
+pub lent-enough : (s : List ℕ) → Bytes s → (k : ℕ) (T : Tariff) → admission s k T .refusal ≡ 0
+    → (costs choices room : ℕ) → cells (admission s k T .nodes) ≤ costs → cells (admission s k T .nodes) ≤ choices
+    → 4 * admission s k T .nodes ≤ room
+    → fold-answer (folding s k T) costs choices room .refusal ≡ 0
+lent-enough s small k T z costs choices room x y o =
+    let r = admission s k T in
+    let a = accepted-run s k T r refl z in
     let n = r .nodes in
-    let f = bytes (cheapest (at-most k) (priced table first each) (tree-of s)) in
+    let f = bytes (cheapest (at-most k) (priced T) (tree-of s)) in
     let short : length f ≤ room =
-    omega (arith, cheapest-room s small (a .tally) (a .text) (accepts s k table first each r refl a) k (priced table first each), a .all) in
-    rw (verdict-folds s k table first each r refl a, le-ltb costs (cells n) x, le-ltb choices (cells n) y, le-ltb room (length f) short)
+    omega (arith, cheapest-room s small (a .tally) (a .text) (accepts s k T r refl a) k (priced T), a .all) in
+    rw (verdict-folds s k T r refl a, le-ltb costs (cells n) x, le-ltb choices (cells n) y, le-ltb room (length f) short)

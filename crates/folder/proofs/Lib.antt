@@ -1,5 +1,6 @@
--- What the proofs of the functions share, and what is always enough to lend.
+-- What the proofs of the functions share, what is always enough to lend, and that equal tables change nothing.
 pub mod PriceLists
 pub mod Runs
 pub mod Verdicts
 pub mod Enough
+pub mod OneTable

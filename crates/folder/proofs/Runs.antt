@@ -126,10 +126,10 @@ module _ {s places nexts : List ℕ} (listed : RunListed s places nexts) {n : �
       }
 
 -- The table is filled and the fold written; cleared, it leaves all as the folder says.
-module _ {s : List ℕ} {n limit : ℕ} {table prices costs choices : List ℕ} (ready : LevelReady s 0 limit table prices costs choices) (all : nodes (tree-of s) ≡ n)
-    {costs′ choices′ : List ℕ} (filled : UsedFilled (at-most limit) (prices-of table prices) 0 (tree-of s) costs′ choices′)
+module _ {s : List ℕ} {n limit : ℕ} {steps groups prices costs choices : List ℕ} (ready : LevelReady s 0 limit steps groups prices costs choices) (all : nodes (tree-of s) ≡ n)
+    {costs′ choices′ : List ℕ} (filled : UsedFilled (at-most limit) (prices-of steps groups prices) 0 (tree-of s) costs′ choices′)
     (kept : Kept 0 (nodes (tree-of s)) costs costs′ × Kept 0 (nodes (tree-of s)) choices choices′) where
-  pub run-filled : RunFilled s n limit (prices-of table prices) costs′ choices′
+  pub run-filled : RunFilled s n limit (prices-of steps groups prices) costs′ choices′
   run-filled =
       record {
         spelled = ready .spelled;
@@ -148,11 +148,11 @@ module _ {s : List ℕ} {n limit : ℕ} {table prices costs choices : List ℕ} 
 
     pub run-folded : {out out′ costs″ choices″ : List ℕ} {r : Folded} → RunWritten s n costs′ choices′ out out′ r
         → costs″ ≡ replicate used 0 ++ drop used costs′ → choices″ ≡ replicate used 0 ++ drop used choices′
-        → RunFolded s n limit (prices-of table prices) costs costs″ choices choices″ out out′ r
+        → RunFolded s n limit (prices-of steps groups prices) costs costs″ choices choices″ out out′ r
     run-folded w x y =
         record {
-          answered = w .answered limit (prices-of table prices) run-filled;
-          written = w .written limit (prices-of table prices) run-filled;
+          answered = w .answered limit (prices-of steps groups prices) run-filled;
+          written = w .written limit (prices-of steps groups prices) run-filled;
           costs-cleared = cleared (kept .0) x;
           choices-cleared = cleared (kept .1) y;
         }

@@ -10,7 +10,7 @@ use lib.Dec.{ltb}
 use lib.ListN.{length, getD, take, drop, List·getD-eq-default}
 use lib.Seq.{take-at}
 use borrow.Author.Tests.{ltb-false, ltb-true}
-use Rattle.format.specs.Limits.{limits, Prices, priced, of-repeat, cells}
+use Rattle.format.specs.Limits.{limits, Prices, Tariff, tariff, priced, of-repeat, cells}
 use Rattle.format.specs.Order.{Bytes}
 use Rattle.format.specs.Forest.{nodes, bytes, at-most}
 use Rattle.format.specs.Machine.{Outcome, refused, accepted, read}
@@ -36,24 +36,25 @@ use Rattle.folder.specs.inner.Prices.{PriceList}
 use Rattle.folder.specs.inner.Run.{RunFolded}
 
 -- The list of repeat prices is that of the two lent ones.
-module _ (table prices : List ℕ) (first each : ℕ) (p : PriceList first each prices) where
+module _ (steps groups prices : List ℕ) (first each : ℕ) (p : PriceList first each prices) where
   first-is : getD prices 2 0 ≡ first
   first-is = omega (arith, p .price-of 2 (omega arith) (omega arith))
 
   each-is : getD prices 3 0 - getD prices 2 0 ≡ each
   each-is = omega (arith, first-is, p .price-of 3 (omega arith) (omega arith))
 
-  prices-same : prices-of table prices ≡ priced table first each
+  prices-same : prices-of steps groups prices ≡ priced (tariff steps groups first each)
   prices-same = rw (each-is, first-is)
 
-  pub prepared : first < 65536 → each < 65536 → ((l : ℕ) → getD table l 0 < 65536) → Prepared table prices
-  prepared f e low =
+  pub prepared : first < 65536 → each < 65536 → ((l : ℕ) → getD steps l 0 < 65536) → ((l : ℕ) → getD groups l 0 < 65536) → Prepared steps groups prices
+  prepared f e low-steps low-groups =
       record {
         priced = record {
           ready = record { long = p .long; low = small };
           price-of = λ h a b. p .price-of h a b ∙ ap (λ (q : Prices). of-repeat q h) (sym prices-same);
         };
-        low = low;
+        low-steps = low-steps;
+        low-groups = low-groups;
       }
     where
       counted : (h : ℕ) → 2 ≤ h → h ≤ 1024 → getD prices h 0 ≤ top-price
@@ -70,38 +71,38 @@ module _ (table prices : List ℕ) (first each : ℕ) (p : PriceList first each 
       ]
 
 -- The two lent ones are widened first.
-pub prices-priced : (table prices : List ℕ) (first each wide-first wide-each : ℕ) → wide-first ≡ first → wide-each ≡ each → PriceList wide-first wide-each prices
-    → prices-of table prices ≡ priced table first each
-prices-priced table prices first each wide-first wide-each a b p = prices-same table prices wide-first wide-each p ∙ rw (a, b)
+pub prices-priced : (steps groups prices : List ℕ) (first each wide-first wide-each : ℕ) → wide-first ≡ first → wide-each ≡ each → PriceList wide-first wide-each prices
+    → prices-of steps groups prices ≡ priced (tariff steps groups first each)
+prices-priced steps groups prices first each wide-first wide-each a b p = prices-same steps groups prices wide-first wide-each p ∙ rw (a, b)
 
 -- The verdict, as the admission decides it.
-module _ (s : List ℕ) (k : ℕ) (table : List ℕ) (first each : ℕ) (r : RunReading) (admitted : r ≡ as-run-reading (run-outcome (full-head table k) s)) where
-  verdict-at : (o : Outcome) → run-outcome (full-head table k) s ≡ o → folding s k table first each ≡ verdict (at-most k) (priced table first each) s o
+module _ (s : List ℕ) (k : ℕ) (T : Tariff) (r : RunReading) (admitted : r ≡ as-run-reading (run-outcome (full-head T k) s)) where
+  verdict-at : (o : Outcome) → run-outcome (full-head T k) s ≡ o → folding s k T ≡ verdict (at-most k) (priced T) s o
   unfolding folding
   verdict-at o e = rw e
 
-  answer-at : (o : Outcome) → run-outcome (full-head table k) s ≡ o → r ≡ as-run-reading o
+  answer-at : (o : Outcome) → run-outcome (full-head T k) s ≡ o → r ≡ as-run-reading o
   answer-at o e = admitted ∙ ap as-run-reading e
 
-  pub verdict-refused : (r .refusal ≡ 0 → ⊥) → folding s k table first each ≡ refuses (r .refusal) (r .place)
-  verdict-refused z = by-outcome (run-outcome (full-head table k) s) refl
+  pub verdict-refused : (r .refusal ≡ 0 → ⊥) → folding s k T ≡ refuses (r .refusal) (r .place)
+  verdict-refused z = by-outcome (run-outcome (full-head T k) s) refl
     where
-      by-outcome : (o : Outcome) → run-outcome (full-head table k) s ≡ o → folding s k table first each ≡ refuses (r .refusal) (r .place)
+      by-outcome : (o : Outcome) → run-outcome (full-head T k) s ≡ o → folding s k T ≡ refuses (r .refusal) (r .place)
       by-outcome (refused n p) e = verdict-at (refused n p) e ∙ rw (answer-at (refused n p) e)
       by-outcome (accepted t x) e = absurd (z (ap (λ (y : RunReading). y .refusal) (answer-at (accepted t x) e)))
 
   -- A number of the admission is none of the folder's own, and 0 only where the run is accepted.
-  number-low : (n p : ℕ) → run-outcome (full-head table k) s ≡ refused n p → (n ≡ 0 → ⊥) × (n ≡ 14 → ⊥)
+  number-low : (n p : ℕ) → run-outcome (full-head T k) s ≡ refused n p → (n ≡ 0 → ⊥) × (n ≡ 14 → ⊥)
   unfolding run-outcome head-checks
   number-low =
-      headed-each limits (full-head table k) (read run-rules s) (λ n. (n ≡ 0 → ⊥) × (n ≡ 14 → ⊥))
-      ((omega arith, omega arith), ((omega arith, omega arith), tt))
+      headed-each limits (full-head T k) (read run-rules s) (λ n. (n ≡ 0 → ⊥) × (n ≡ 14 → ⊥))
+      ((omega arith, omega arith), ((omega arith, omega arith), ((omega arith, omega arith), tt)))
       (λ n p e. (refused-some run-rules s n p e, λ z. omega (arith, refused-small run-rules s n p e)))
 
   pub run-number : r .refusal ≡ 14 → ⊥
-  run-number z = by-outcome (run-outcome (full-head table k) s) refl
+  run-number z = by-outcome (run-outcome (full-head T k) s) refl
     where
-      by-outcome : (o : Outcome) → run-outcome (full-head table k) s ≡ o → ⊥
+      by-outcome : (o : Outcome) → run-outcome (full-head T k) s ≡ o → ⊥
       by-outcome (refused n p) e = number-low n p e .1 (sym (ap (λ (y : RunReading). y .refusal) (answer-at (refused n p) e)) ∙ z)
       by-outcome (accepted t x) e = omega (arith, ap (λ (y : RunReading). y .refusal) (answer-at (accepted t x) e))
 
@@ -109,26 +110,26 @@ module _ (s : List ℕ) (k : ℕ) (table : List ℕ) (first each : ℕ) (r : Run
   pub record Accepted : Type 0 where
     pub tally : Tally
     pub text : List ℕ
-    pub admits : run-outcome (full-head table k) s ≡ accepted tally text
+    pub admits : run-outcome (full-head T k) s ≡ accepted tally text
     pub all : tally .nodes ≡ r .nodes
 
   pub accepted-run : r .refusal ≡ 0 → Accepted
-  accepted-run z = by-outcome (run-outcome (full-head table k) s) refl
+  accepted-run z = by-outcome (run-outcome (full-head T k) s) refl
     where
-      by-outcome : (o : Outcome) → run-outcome (full-head table k) s ≡ o → Accepted
+      by-outcome : (o : Outcome) → run-outcome (full-head T k) s ≡ o → Accepted
       by-outcome (refused n p) e = absurd (number-low n p e .0 (sym (ap (λ (y : RunReading). y .refusal) (answer-at (refused n p) e)) ∙ z))
       by-outcome (accepted t x) e = record { tally = t; text = x; admits = e; all = sym (ap (λ (y : RunReading). y .nodes) (answer-at (accepted t x) e)) }
 
   module _ (a : Accepted) where
     pub accepts : read run-rules s ≡ accepted (a .tally) (a .text)
     unfolding run-outcome
-    accepts = headed-accepted limits (full-head table k) (read run-rules s) (a .tally) (a .text) (a .admits)
+    accepts = headed-accepted limits (full-head T k) (read run-rules s) (a .tally) (a .text) (a .admits)
 
     narrow : k ≤ limits .width
     unfolding run-outcome
-    narrow = headed-narrow limits (full-head table k) (read run-rules s) (a .tally) (a .text) (a .admits)
+    narrow = headed-narrow limits (full-head T k) (read run-rules s) (a .tally) (a .text) (a .admits)
 
-    pub verdict-folds : folding s k table first each ≡ folds (r .nodes) (bytes (cheapest (at-most k) (priced table first each) (tree-of s))) (best-cost (at-most k) (priced table first each) (tree-of s))
+    pub verdict-folds : folding s k T ≡ folds (r .nodes) (bytes (cheapest (at-most k) (priced T) (tree-of s))) (best-cost (at-most k) (priced T) (tree-of s))
     verdict-folds = verdict-at (accepted (a .tally) (a .text)) (a .admits) ∙ rw (a .all)
 
     module _ (small : Bytes s) where
@@ -149,7 +150,8 @@ module _ (s : List ℕ) (k : ℕ) (table : List ℕ) (first each : ℕ) (r : Run
       pub few : r .nodes ≤ 1024
       few = omega (arith, a .all, run-few s small (a .tally) (a .text) accepts)
 
-      pub level-ready : (prices costs choices : List ℕ) → cells (r .nodes) ≤ length costs → cells (r .nodes) ≤ length choices → Prepared table prices → LevelReady s 0 k table prices costs choices
+      pub level-ready : (prices costs choices : List ℕ) → cells (r .nodes) ≤ length costs → cells (r .nodes) ≤ length choices
+          → Prepared (T .steps) (T .groups) prices → LevelReady s 0 k (T .steps) (T .groups) prices costs choices
       level-ready prices costs choices x y p =
           record {
             spelled = spelled;
@@ -160,13 +162,13 @@ module _ (s : List ℕ) (k : ℕ) (table : List ℕ) (first each : ℕ) (r : Run
           }
 
       -- Demand 3 and the report's problem, of the cheapest fold.
-      pub demands : CheapestWithin s k (format-rules (priced table first each)) (bytes (cheapest (at-most k) (priced table first each) (tree-of s))) (best-cost (at-most k) (priced table first each) (tree-of s))
-          × MinimumTree s k table first each (bytes (cheapest (at-most k) (priced table first each) (tree-of s)))
+      pub demands : CheapestWithin s k (format-rules (priced T)) (bytes (cheapest (at-most k) (priced T) (tree-of s))) (best-cost (at-most k) (priced T) (tree-of s))
+          × MinimumTree s k (priced T) (bytes (cheapest (at-most k) (priced T) (tree-of s)))
       demands =
-          let P = priced table first each in
+          let P = priced T in
           let best = cheapest-bytes s small (a .tally) (a .text) accepts k narrow P in
           let coded = cheapest-small s small (a .tally) (a .text) accepts k narrow P in
-          (best, cheapest-minimum s small (a .tally) (a .text) accepts k narrow table first each _ _ coded best)
+          (best, cheapest-minimum s small (a .tally) (a .text) accepts k narrow P _ _ coded best)
 
 -- Work that is not too short has its entries.
 pub long-enough : (n costs choices : ℕ) → short-work n costs choices ≡ false → (cells n ≤ costs) × (cells n ≤ choices)
@@ -178,15 +180,15 @@ long-enough n costs choices e = by-tests (ltb costs (cells n)) (ltb choices (cel
     by-tests true b x y z = absurd (true≢false (sym (rw x) ∙ z))
 
 -- All that the folder promises, at a verdict.
-module _ (run : List ℕ) (k : ℕ) (table : List ℕ) (first each : ℕ) (v : Verdict) (costs choices out : List ℕ) where
+module _ (run : List ℕ) (k : ℕ) (T : Tariff) (v : Verdict) (costs choices out : List ℕ) where
   abbrev P : Prices
-  P = priced table first each
+  P = priced T
 
   -- What holds of the fold, whatever the verdict's words: on success and after 14.
   abbrev Held : (out′ : List ℕ) → Folded → Type 0
   Held out′ r =
       (r .refusal ≡ 0 → CheapestWithin run k (format-rules P) (take (r .length) out′) (r .cost))
-      × ((r .refusal ≡ 0 → MinimumTree run k table first each (take (r .length) out′))
+      × ((r .refusal ≡ 0 → MinimumTree run k P (take (r .length) out′))
       × (r .refusal ≡ 14 → CheapestOver (length out) run k (format-rules P)))
 
   abbrev pub Met : (costs′ choices′ out′ : List ℕ) → Folded → Type 0
@@ -218,7 +220,7 @@ module _ (run : List ℕ) (k : ℕ) (table : List ℕ) (first each : ℕ) (v : V
       (long : short-work n (length costs) (length choices) ≡ false)
       (costs′ choices′ out′ : List ℕ) (r : Folded) (folded : RunFolded run n k P costs costs′ choices choices′ out out′ r)
       (demands : CheapestWithin run k (format-rules P) (bytes (cheapest (at-most k) P (tree-of run))) (best-cost (at-most k) P (tree-of run))
-      × MinimumTree run k table first each (bytes (cheapest (at-most k) P (tree-of run)))) where
+      × MinimumTree run k P (bytes (cheapest (at-most k) P (tree-of run)))) where
     abbrev f : List ℕ
     f = bytes (cheapest (at-most k) P (tree-of run))
 

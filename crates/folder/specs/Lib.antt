@@ -1,3 +1,4 @@
 -- The folder's answer; in inner, what its functions promise one another.
 pub mod Folding
+pub mod OneTable
 pub mod inner

@@ -14,33 +14,35 @@ use run::short_of;
 use table::Lists;
 ghost use mathlib.Core.Path.{_≡_};
 ghost use lib.ListN.{length, take};
-ghost use Rattle.format.specs.Limits.{priced};
+ghost use Rattle.format.specs.Limits.{tariff, priced};
 ghost use Rattle.format.specs.Readings.{format-rules};
 ghost use Rattle.optimum.specs.Demands.{CheapestWithin, CheapestOver, MinimumTree};
 ghost use Rattle.folder.specs.Folding.{folding, fold-answer, fold-output, fold-work};
 
-// The cheapest fold of a run under a width limit, ties by byte order: refusals 11, 12, the run's own, 13 and 14. What it writes
-// is the cheapest of all bytes and a smallest tree by the report, and 14 says that the cheapest of all bytes has no room.
+// The cheapest fold of a run under a width limit, ties by byte order: refusals 11, 15, 12, the run's own, 13 and 14. What it
+// writes is the cheapest of all bytes and a smallest tree by the report, and 14 says that the cheapest of all bytes has no room.
 pub fn fold(
     run: &[u8],
     limit: usize,
-    table: &[u16],
+    steps: &[u16],
+    groups: &[u16],
     first: u16,
     each: u16,
     costs: &mut [u32],
     choices: &mut [u32],
     out: &mut [u8],
 ) -> Folded
-    ensures answered { λ r. ⌜ r ≡ fold-answer (folding (now (run .entry)) limit (now (table .entry)) first each) (length (now (costs .entry))) (length (now (choices .entry))) (length (now (out .entry))) ⌝ }
-    ensures written { λ _. ⌜ now (out .exit) ≡ fold-output (folding (now (run .entry)) limit (now (table .entry)) first each) (length (now (costs .entry))) (length (now (choices .entry))) (now (out .entry)) ⌝ }
-    ensures costs_cleared { λ _. ⌜ now (costs .exit) ≡ fold-work (folding (now (run .entry)) limit (now (table .entry)) first each) (length (now (costs .entry))) (length (now (choices .entry))) (now (costs .entry)) ⌝ }
-    ensures choices_cleared { λ _. ⌜ now (choices .exit) ≡ fold-work (folding (now (run .entry)) limit (now (table .entry)) first each) (length (now (costs .entry))) (length (now (choices .entry))) (now (choices .entry)) ⌝ }
-    ensures cheapest { λ r. ⌜ (r .refusal ≡ 0 → CheapestWithin (now (run .entry)) limit (format-rules (priced (now (table .entry)) first each)) (take (r .length) (now (out .exit))) (r .cost)) ⌝ }
-    ensures minimum { λ r. ⌜ (r .refusal ≡ 0 → MinimumTree (now (run .entry)) limit (now (table .entry)) first each (take (r .length) (now (out .exit)))) ⌝ }
-    ensures too_long { λ r. ⌜ (r .refusal ≡ 14 → CheapestOver (length (now (out .entry))) (now (run .entry)) limit (format-rules (priced (now (table .entry)) first each))) ⌝ }
+    ensures answered { λ r. ⌜ r ≡ fold-answer (folding (now (run .entry)) limit (tariff (now (steps .entry)) (now (groups .entry)) first each)) (length (now (costs .entry))) (length (now (choices .entry))) (length (now (out .entry))) ⌝ }
+    ensures written { λ _. ⌜ now (out .exit) ≡ fold-output (folding (now (run .entry)) limit (tariff (now (steps .entry)) (now (groups .entry)) first each)) (length (now (costs .entry))) (length (now (choices .entry))) (now (out .entry)) ⌝ }
+    ensures costs_cleared { λ _. ⌜ now (costs .exit) ≡ fold-work (folding (now (run .entry)) limit (tariff (now (steps .entry)) (now (groups .entry)) first each)) (length (now (costs .entry))) (length (now (choices .entry))) (now (costs .entry)) ⌝ }
+    ensures choices_cleared { λ _. ⌜ now (choices .exit) ≡ fold-work (folding (now (run .entry)) limit (tariff (now (steps .entry)) (now (groups .entry)) first each)) (length (now (costs .entry))) (length (now (choices .entry))) (now (choices .entry)) ⌝ }
+    ensures cheapest { λ r. ⌜ (r .refusal ≡ 0 → CheapestWithin (now (run .entry)) limit (format-rules (priced (tariff (now (steps .entry)) (now (groups .entry)) first each))) (take (r .length) (now (out .exit))) (r .cost)) ⌝ }
+    ensures minimum { λ r. ⌜ (r .refusal ≡ 0 → MinimumTree (now (run .entry)) limit (priced (tariff (now (steps .entry)) (now (groups .entry)) first each)) (take (r .length) (now (out .exit)))) ⌝ }
+    ensures too_long { λ r. ⌜ (r .refusal ≡ 14 → CheapestOver (length (now (out .entry))) (now (run .entry)) limit (format-rules (priced (tariff (now (steps .entry)) (now (groups .entry)) first each)))) ⌝ }
 {
     let head = Head {
-        labels: table.len(),
+        steps: steps.len(),
+        groups: groups.len(),
         limit,
     };
     let read = admit(run, head);
@@ -53,5 +55,5 @@ pub fn fold(
     }
     let mut prices = [0u64; Lists::LENGTH];
     prepare(wide_cost(first), wide_cost(each), &mut prices);
-    fold_run(run, n, limit, table, &prices, costs, choices, out)
+    fold_run(run, n, limit, steps, groups, &prices, costs, choices, out)
 }

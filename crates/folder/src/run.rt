@@ -55,14 +55,15 @@ fn fill(
     level: Level,
     places: &[usize],
     nexts: &[usize],
-    table: &[u16],
+    steps: &[u16],
+    groups: &[u16],
     prices: &[u64],
     costs: &mut [u32],
     choices: &mut [u32],
 )
-    requires { ⌜ LevelReady (now run) (level .span .behind) (level .limit) (now table) (now prices) (now costs) (now choices) ⌝ }
+    requires { ⌜ LevelReady (now run) (level .span .behind) (level .limit) (now steps) (now groups) (now prices) (now costs) (now choices) ⌝ }
     requires { ⌜ LevelListed (now places) (now nexts) (now run) level ⌝ }
-    ensures filled { λ _. ⌜ UsedFilled (at-most (level .limit)) (prices-of (now (table .entry)) (now (prices .entry))) (level .span .behind) (tree-of (now (run .entry))) (now (costs .exit)) (now (choices .exit)) ⌝ }
+    ensures filled { λ _. ⌜ UsedFilled (at-most (level .limit)) (prices-of (now (steps .entry)) (now (groups .entry)) (now (prices .entry))) (level .span .behind) (tree-of (now (run .entry))) (now (costs .exit)) (now (choices .exit)) ⌝ }
     ensures kept { λ _. ⌜ LevelKept (now (run .entry)) level (now (costs .entry)) (now (costs .exit)) × LevelKept (now (run .entry)) level (now (choices .entry)) (now (choices .exit)) ⌝ }
 {
     let mut offsets = [0usize; Lists::LENGTH];
@@ -79,7 +80,8 @@ fn fill(
         nexts,
         run,
         level,
-        table,
+        steps,
+        groups,
         prices,
         &mut offsets,
         &mut numbers,
@@ -154,15 +156,16 @@ pub fn fold_run(
     run: &[u8],
     n: usize,
     limit: usize,
-    table: &[u16],
+    steps: &[u16],
+    groups: &[u16],
     prices: &[u64],
     costs: &mut [u32],
     choices: &mut [u32],
     out: &mut [u8],
 ) -> Folded
-    requires { ⌜ LevelReady (now run) 0 limit (now table) (now prices) (now costs) (now choices) ⌝ }
+    requires { ⌜ LevelReady (now run) 0 limit (now steps) (now groups) (now prices) (now costs) (now choices) ⌝ }
     requires { ⌜ nodes (tree-of (now run)) ≡ n ⌝ }
-    ensures { λ r. ⌜ RunFolded (now (run .entry)) n limit (prices-of (now (table .entry)) (now (prices .entry))) (now (costs .entry)) (now (costs .exit)) (now (choices .entry)) (now (choices .exit)) (now (out .entry)) (now (out .exit)) r ⌝ }
+    ensures { λ r. ⌜ RunFolded (now (run .entry)) n limit (prices-of (now (steps .entry)) (now (groups .entry)) (now (prices .entry))) (now (costs .entry)) (now (costs .exit)) (now (choices .entry)) (now (choices .exit)) (now (out .entry)) (now (out .exit)) r ⌝ }
 {
     let mut places = [0usize; Lists::LENGTH];
     let mut nexts = [0usize; Lists::LENGTH];
@@ -177,7 +180,8 @@ pub fn fold_run(
         Level { span, limit },
         &places,
         &nexts,
-        table,
+        steps,
+        groups,
         prices,
         costs,
         choices,

@@ -1,27 +1,33 @@
 -- Examples of what the readers answer, checked by computation: every check of docs/REFUSALS.md, the order of the checks, each
--- limit met and passed, widths, costs, steps, depth and parts. A table is a list of cases with one statement: every case holds.
+-- limit met and passed, widths, costs, tables of every size, steps, depth and parts. A table is a list of cases with one statement: every case holds.
 use mathlib.Core.Path.{_≡_, refl}
 use mathlib.Core.List.{List, [], _∷_, _++_, map}
 use Prim.Native.Nat.{ℕ, _/_, _%_}
+use Rattle.format.specs.Limits.{Tariff, tariff}
 use Rattle.format.specs.Machine.{times}
 use Rattle.format.specs.Readings.{run-reading, from-run-reading, fold-reading}
 use Rattle.format.specs.Parts.{part-of}
 use Rattle.format.specs.declared.FoldReading.{FoldReading}
 
--- What a reader is asked: a run; or a fold at a width limit, a table of label prices and the repeat prices first and each.
+-- What a reader is asked: a run; or a fold at a width limit and what is lent to price it.
 pub data Asked : Type 0 where
   run : (input : List ℕ) → Asked
-  fold-with : (limit : ℕ) → (table : List ℕ) → (first each : ℕ) → (input : List ℕ) → Asked
+  fold-with : (limit : ℕ) → Tariff → (input : List ℕ) → Asked
 
 -- A table of that many entries, each 1.
 abbrev pub ones : ℕ → List ℕ
 unfolding times
 ones n = times n (1 ∷ [])
 
--- A fold at unit costs: every label 1, first 1, each 0; the limit is 1,024 unless named.
-abbrev pub fold-within : ℕ → List ℕ → Asked
+-- Tables of so many entries for steps and for groups, each 1, and first 1, each 0: unit costs, where they have 256.
+abbrev pub sized : (steps groups : ℕ) → Tariff
 unfolding ones
-fold-within k s = fold-with k (ones 256) 1 0 s
+sized m n = tariff (ones m) (ones n) 1 0
+
+-- A fold at unit costs; the limit is 1,024 unless named.
+abbrev pub fold-within : ℕ → List ℕ → Asked
+unfolding sized
+fold-within k s = fold-with k (sized 256 256) s
 
 abbrev pub fold : List ℕ → Asked
 unfolding fold-within
@@ -46,7 +52,7 @@ infix 68 _gives_
 unfoldable pub answer : Asked → FoldReading
 unfolding run-reading fold-reading
 answer (run s) = from-run-reading (run-reading s)
-answer (fold-with k table first each s) = fold-reading s k table first each
+answer (fold-with k T s) = fold-reading s k T
 
 unfoldable pub answered : Case → FoldReading
 unfolding answer
@@ -59,7 +65,7 @@ expected (q gives a) = a
 abbrev pub Hold : List Case → Type 0
 Hold cs = map answered cs ≡ map expected cs
 
--- Checks 1 to 12 of the table of refusals, each by its example there.
+-- Checks 1 to 12 and 15 of the table of refusals, each by its example there.
 unfoldable pub refusals : List Case
 unfolding fold times
 refusals =
@@ -73,8 +79,9 @@ refusals =
     ∷ run (times 9 (0x11 ∷ 0x01 ∷ [])) gives a-refusal 8 16
     ∷ fold (0x20 ∷ 0x00 ∷ 0x02 ∷ 0x00 ∷ 0x02 ∷ 0x10 ∷ 0x07 ∷ 0x21 ∷ []) gives a-refusal 9 7
     ∷ fold (0x20 ∷ 0x04 ∷ 0x01 ∷ 0x00 ∷ 0x01 ∷ 0x10 ∷ 0x07 ∷ 0x21 ∷ []) gives a-refusal 10 7
-    ∷ fold-with 1024 (ones 255) 1 0 [] gives a-refusal 11 0
+    ∷ fold-with 1024 (sized 255 256) [] gives a-refusal 11 0
     ∷ fold-within 1025 [] gives a-refusal 12 0
+    ∷ fold-with 1024 (sized 256 255) [] gives a-refusal 15 0
     ∷ []
 
 pub refusals-hold : Hold refusals
@@ -101,8 +108,9 @@ repeating h w s = repeat-start h w ++ s ++ 0x21 ∷ []
 unfoldable pub order : List Case
 unfolding fold times
 order =
-    -- 11, then 12, then the commands
-    fold-with 1025 (ones 255) 1 0 (0x13 ∷ []) gives a-refusal 11 0
+    -- 11, then 15, then 12, then the commands
+    fold-with 1025 (sized 255 255) (0x13 ∷ []) gives a-refusal 11 0
+    ∷ fold-with 1025 (sized 256 255) (0x13 ∷ []) gives a-refusal 15 0
     ∷ fold-within 1025 (0x13 ∷ []) gives a-refusal 12 0
     -- the commands from left to right, and the end last
     ∷ run (0x12 ∷ 0x13 ∷ []) gives a-refusal 4 0
@@ -153,14 +161,26 @@ bounds =
     ∷ fold (times 11 (repeat-start 2 1)) gives a-refusal 8 50
     -- a width operand that is the limit
     ∷ fold-within 2 (repeating 2 2 (one-step ++ one-step)) gives fold-values 4 8 3 4 0
-    -- limit 1,024 and 256 entries; one more entry
+    -- limit 1,024 and 256 entries in both tables; `tables` has other sizes
     ∷ fold [] gives fold-values 0 0 0 0 0
-    ∷ fold-with 1024 (ones 257) 1 0 [] gives a-refusal 11 0
     ∷ []
 
 pub bounds-hold : Hold bounds
 unfolding answered expected bounds
 bounds-hold = refl
+
+-- Two groups 05 holding aaa: as a run, and as its cheapest fold (`known` in crates/optimum/specs/Known.antt).
+abbrev pub two-groups : List ℕ
+unfolding times
+two-groups = times 2 (0x11 ∷ 0x05 ∷ times 3 (0x10 ∷ 0x01 ∷ []) ++ 0x12 ∷ [])
+
+abbrev pub two-groups-folded : List ℕ
+two-groups-folded = repeating 2 1 (0x11 ∷ 0x05 ∷ repeating 3 1 (0x10 ∷ 0x01 ∷ []) ++ 0x12 ∷ [])
+
+-- Every group costs 4, all else is at unit costs.
+abbrev pub dear-groups : Tariff
+unfolding ones times
+dear-groups = tariff (ones 256) (times 256 (4 ∷ [])) 1 0
 
 -- What is counted: nodes, the length of the run, the cost, steps and depth.
 unfoldable pub values : List Case
@@ -177,22 +197,37 @@ values =
     ∷ fold (repeating 2 1 (grouping (one-step ++ one-step))) gives fold-values 6 14 4 4 1
     ∷ fold (repeating 2 3 (grouping (one-step ++ one-step))) gives a-refusal 9 12
     -- a repeat of count h costs first + each × (h − 2), and its body once
-    ∷ fold-with 1024 (ones 256) 3 10 (repeating 5 1 one-step) gives fold-values 5 10 34 5 0
-    -- a label is priced by its entry, for steps and groups alike: 02 for 9, 01 for 7, FF for 65,535
-    ∷ fold-with 1024 (1 ∷ 7 ∷ 9 ∷ ones 252 ++ 65535 ∷ []) 0 0 (0x11 ∷ 0x02 ∷ 0x10 ∷ 0x01 ∷ 0x12 ∷ 0x10 ∷ 0xFF ∷ []) gives fold-values 3 7 65551 2 1
+    ∷ fold-with 1024 (tariff (ones 256) (ones 256) 3 10) (repeating 5 1 one-step) gives fold-values 5 10 34 5 0
+    -- a label is priced by its entry: steps 01 for 7 and FF for 65,535, group 02 for 90, and neither by the other table
+    ∷ fold-with 1024 (tariff (1 ∷ 7 ∷ 9 ∷ ones 252 ++ 65535 ∷ []) (1 ∷ 70 ∷ 90 ∷ ones 252 ++ 3 ∷ []) 0 0) (0x11 ∷ 0x02 ∷ 0x10 ∷ 0x01 ∷ 0x12 ∷ 0x10 ∷ 0xFF ∷ [])
+    gives fold-values 3 7 65632 2 1
+    -- two groups 05 holding aaa, where every group costs 4 and all else is at unit costs: 7 folded, 14 plain
+    ∷ fold-with 1024 dear-groups two-groups-folded gives fold-values 8 18 7 6 1
+    ∷ fold-with 1024 dear-groups two-groups gives fold-values 8 18 14 6 1
     ∷ []
 
 pub values-hold : Hold values
 unfolding answered expected values
 values-hold = refl
 
--- Two groups 05 holding aaa: as a run, and as its cheapest fold at unit costs (`known` in crates/optimum/specs/Known.antt).
-abbrev pub two-groups : List ℕ
-unfolding times
-two-groups = times 2 (0x11 ∷ 0x05 ∷ times 3 (0x10 ∷ 0x01 ∷ []) ++ 0x12 ∷ [])
+-- The sizes of the two tables, each alone and both at once, and 15 before every command: a byte that is none, each one by itself,
+-- of which none is passed but `10`, `11` and `20` with operands, and a whole repeat.
+unfoldable pub tables : List Case
+unfolding sized times
+tables =
+    map (λ m. fold-with 1024 (sized m 256) [] gives a-refusal 11 0) (0 ∷ 255 ∷ 257 ∷ [])
+    ++ map (λ n. fold-with 1024 (sized 256 n) [] gives a-refusal 15 0) (0 ∷ 255 ∷ 257 ∷ [])
+    ++ map (λ n. fold-with 1024 (sized 0 n) [] gives a-refusal 11 0) (0 ∷ 255 ∷ 257 ∷ [])
+    ++ map (λ n. fold-with 1024 (sized 255 n) [] gives a-refusal 11 0) (0 ∷ 255 ∷ 257 ∷ [])
+    ++ map (λ n. fold-with 1024 (sized 257 n) [] gives a-refusal 11 0) (0 ∷ 255 ∷ 257 ∷ [])
+    ++ map (λ n. fold-with 1025 (sized 256 n) [] gives a-refusal 15 0) (0 ∷ 255 ∷ 257 ∷ [])
+    ++ map (λ s. fold-with 1024 (sized 256 255) s gives a-refusal 15 0)
+    ((0x13 ∷ []) ∷ (0x10 ∷ []) ∷ (0x11 ∷ []) ∷ (0x12 ∷ []) ∷ (0x20 ∷ []) ∷ (0x21 ∷ []) ∷ one-step ∷ group-start ∷ repeat-start 2 1
+    ∷ repeating 2 1 one-step ∷ [])
 
-abbrev pub two-groups-folded : List ℕ
-two-groups-folded = repeating 2 1 (0x11 ∷ 0x05 ∷ repeating 3 1 (0x10 ∷ 0x01 ∷ []) ++ 0x12 ∷ [])
+pub tables-hold : Hold tables
+unfolding answered expected tables
+tables-hold = refl
 
 -- How many of the nodes are steps, and how many groups are open together; `bounds` has eight inside each other.
 unfoldable pub shapes : List Case

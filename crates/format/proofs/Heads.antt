@@ -51,7 +51,7 @@ module _ (L : Limits) (h : Head) (o : Outcome) where
 
     pub headed-narrow : h .limit ≤ L .width
     unfolding head-checks
-    headed-narrow = ltb-false _ _ (first-none (head-checks L h) (omega arith) (sym passed) .1 .0)
+    headed-narrow = ltb-false _ _ (first-none (head-checks L h) (omega arith) (sym passed) .1 .1 .0)
 
   -- What holds of every head check's number, and of the numbers of what follows, holds of the refusal's number.
   pub headed-each : (Q : ℕ → Type 0) → Each Q (head-checks L h) → ((m e : ℕ) → o ≡ refused m e → Q m) → (n p : ℕ)

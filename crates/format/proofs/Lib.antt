@@ -14,7 +14,9 @@ pub mod Folds
 pub mod Tree
 pub mod Runs
 pub mod Expansion
+pub mod Letters
 pub mod Report
+pub mod OneTable
 pub mod StepsAndDepth
 pub mod Parts
 pub mod Examples

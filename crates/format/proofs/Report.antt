@@ -8,7 +8,7 @@ use Prim.Native.Nat.{ℕ, zero, suc, _<_}
 use native.Mathlib.Nat.{mul-le-mul-right}
 use native.Mathlib.Omega.{arith}
 use lib.ListN.{length}
-use Rattle.format.specs.Limits.{limits, Prices, of-repeat, priced}
+use Rattle.format.specs.Limits.{limits, Prices, Tariff, priced}
 use Rattle.format.specs.Forest.{Forest, end, step, group, repeat, join, copies, unroll, siblings, cost, bytes, Plain, Allowed, at-most, Sound}
 use Rattle.format.specs.Machine.{Outcome, refused, accepted, read}
 use Rattle.format.specs.Order.{Bytes}
@@ -17,7 +17,7 @@ use Rattle.format.specs.Readings.{fold-rules, as-fold-reading, fold-outc
 use Rattle.format.specs.Head.{Head, head-checks, full-head}
 use Rattle.format.specs.Shape.{Reads, tally-of}
 use Rattle.format.specs.Report.{RRT, empty, letter, repetition, count, Valid, append, series, Represents, Width, WidthAtMost, size}
-use Rattle.format.specs.Meaning.{report, report-of, TrueWidths, Means, report-size, MeansAtCost}
+use Rattle.format.specs.Meaning.{Letter, step-of, group-of, report, report-of, TrueWidths, Means, report-size, MeansAtCost}
 use Rattle.format.specs.declared.Tally.{Tally}
 use Rattle.format.specs.declared.FoldReading.{FoldReading}
 use Rattle.format.proofs.Forests.{siblings-unroll, plain-unroll, sound-unroll}
@@ -27,6 +27,7 @@ use Rattle.format.proofs.Heads.{headed-accepted, headed-each}
 use Rattle.format.proofs.Tree.{tree-of-bytes}
 use Rattle.format.proofs.Runs.{unrolled-run, run-tree}
 use Rattle.format.proofs.Expansion.{expand, represents, width}
+use Rattle.format.proofs.Letters.{fold-of, Lettered, report-fold-of, lettered-expand}
 
 report-join : (f g : Forest) → report (join f g) ≡ append (report f) (report g)
 unfolding report join append
@@ -65,31 +66,14 @@ count-expand b = rw (expand-report b) (count-plain (unroll b) (plain-unroll b) �
 pub width-siblings : (b : Forest) → Width (report b) (siblings b)
 width-siblings b = width (report b) (siblings b) .1 (count-expand b)
 
--- The cost is the size, the label prices as weights of the letters and the repeat prices as weights of the numbers.
-pub cost-report :
-    (P : Prices) → ((l : ℕ) → P .of-group l ≡ P .of-step l) → (f : Forest) →
-    cost P f ≡ size (P .of-step) (of-repeat P) (report f)
-unfolding report cost size
-cost-report P same end = refl
-cost-report P same (step l f) = omega (arith, cost-report P same f)
-cost-report P same (group l b f) = omega (arith, same l, cost-report P same b, cost-report P same f)
-cost-report P same (repeat h w b f) = omega (arith, cost-report P same b, cost-report P same f)
-
--- The fold of a tree: a letter with children becomes a group, one without a step.
-unfoldable pub fold-of : RRT ℕ → Forest
-fold-of empty = end
-fold-of (letter a empty r) = step a (fold-of r)
-fold-of (letter a (letter b c d) r) = group a (fold-of (letter b c d)) (fold-of r)
-fold-of (letter a (repetition h c d) r) = group a (fold-of (repetition h c d)) (fold-of r)
-fold-of (repetition h c r) = repeat h (siblings (fold-of c)) (fold-of c) (fold-of r)
-
-pub report-fold-of : (r : RRT ℕ) → report (fold-of r) ≡ r
-unfolding report fold-of
-report-fold-of empty = refl
-report-fold-of (letter a empty r) = ap (letter a empty) (report-fold-of r)
-report-fold-of (letter a (letter b c d) r) = ap₂ (letter a) (report-fold-of (letter b c d)) (report-fold-of r)
-report-fold-of (letter a (repetition h c d) r) = ap₂ (letter a) (report-fold-of (repetition h c d)) (report-fold-of r)
-report-fold-of (repetition h c r) = ap₂ (repetition h) (report-fold-of c) (report-fold-of r)
+-- The cost is the size, the prices of steps and of groups as weights of the letters and the repeat prices as weights of the
+-- numbers.
+pub cost-report : (P : Prices) (f : Forest) → cost P f ≡ report-size P (report f)
+unfolding report cost report-size size
+cost-report P end = refl
+cost-report P (step l f) = omega (arith, cost-report P f)
+cost-report P (group l b f) = omega (arith, cost-report P b, cost-report P f)
+cost-report P (repeat h w b f) = omega (arith, cost-report P b, cost-report P f)
 
 -- What has siblings has nodes.
 some-children : (b : Forest) → 0 < siblings b → 0 < count (report b)
@@ -122,47 +106,52 @@ module _ (A : Allowed) where
   within-report (repeat h w b f) s =
       (λ v p. omega (arith, width (report b) v .0 p, count-expand b), within-report b (s .1), within-report f (s .2))
 
-  -- Each of the report's trees within the limit is the tree of one sound fold, and of one only.
+  -- Steps are leaves in it, and groups are not.
+  lettered-report : (f : Forest) → Sound A f → Lettered (report f)
+  unfolding report
+  lettered-report end s = tt
+  lettered-report (step l f) s = (refl, lettered-report f s)
+  lettered-report (group l b f) s = (some-children b (s .0), lettered-report b (s .1), lettered-report f (s .2))
+  lettered-report (repeat h w b f) s = (lettered-report b (s .1), lettered-report f (s .2))
+
+  -- Each of the report's trees within the limit whose steps are leaves and whose groups are not is the tree of one sound fold,
+  -- and of one only.
   pub fold-of-report : (f : Forest) → Sound A f → fold-of (report f) ≡ f
-  unfolding report fold-of siblings
+  unfolding report fold-of
   fold-of-report end s = refl
   fold-of-report (step l f) s = ap (step l) (fold-of-report f s)
-  fold-of-report (group l end f) s = let none : ⊥ = omega arith in absurd none
-  fold-of-report (group l (step m b) f) s = ap₂ (group l) (fold-of-report (step m b) (s .1)) (fold-of-report f (s .2))
-  fold-of-report (group l (group m c b) f) s = ap₂ (group l) (fold-of-report (group m c b) (s .1)) (fold-of-report f (s .2))
-  fold-of-report (group l (repeat h w c b) f) s =
-      ap₂ (group l) (fold-of-report (repeat h w c b) (s .1)) (fold-of-report f (s .2))
+  fold-of-report (group l b f) s = ap₂ (group l) (fold-of-report b (s .1)) (fold-of-report f (s .2))
   fold-of-report (repeat h w b f) s = rw (fold-of-report b (s .1), fold-of-report f (s .2), s .0 .true-width)
 
   pub report-injective : (f g : Forest) → Sound A f → Sound A g → report f ≡ report g → f ≡ g
   report-injective f g p q e = cc (fold-of-report f p, fold-of-report g q)
 
-  some-siblings : (r : RRT ℕ) → Sound A (fold-of r) → 0 < count r → 0 < siblings (fold-of r)
+  some-siblings : (r : RRT Letter) → Sound A (fold-of r) → 0 < count r → 0 < siblings (fold-of r)
   unfolding fold-of count siblings
   some-siblings empty s p = p
-  some-siblings (letter a empty r) s p = omega arith
-  some-siblings (letter a (letter b c d) r) s p = omega arith
-  some-siblings (letter a (repetition h c d) r) s p = omega arith
+  some-siblings (letter (step-of l) c r) s p = omega arith
+  some-siblings (letter (group-of l) c r) s p = omega arith
   some-siblings (repetition h c r) s p = omega (arith, mul-le-mul-right (siblings (fold-of c)) (s .0 .twice))
 
-  pub sound-fold-of : (r : RRT ℕ) → Valid r → WidthAtMost (A .widest) r → Sound A (fold-of r)
-  unfolding fold-of count
-  sound-fold-of empty v k = tt
-  sound-fold-of (letter a empty r) v k = sound-fold-of r (v .1) (k .1)
-  sound-fold-of (letter a (letter b c d) r) v k =
-      let s = sound-fold-of (letter b c d) (v .0) (k .0) in
-      (some-siblings (letter b c d) s (omega arith), s, sound-fold-of r (v .1) (k .1))
-  sound-fold-of (letter a (repetition h c d) r) v k =
-      let s = sound-fold-of (repetition h c d) (v .0) (k .0) in
-      (some-siblings (repetition h c d) s (omega arith), s, sound-fold-of r (v .1) (k .1))
-  sound-fold-of (repetition h c r) v k =
-      let s = sound-fold-of c (v .2) (k .1) in
+  pub sound-fold-of : (r : RRT Letter) → Lettered r → Valid r → WidthAtMost (A .widest) r → Sound A (fold-of r)
+  unfolding fold-of
+  sound-fold-of empty z v k = tt
+  sound-fold-of (letter (step-of l) c r) z v k = sound-fold-of r (z .1) (v .1) (k .1)
+  sound-fold-of (letter (group-of l) c r) z v k =
+      let s = sound-fold-of c (z .1) (v .0) (k .0) in
+      (some-siblings c s (z .0), s, sound-fold-of r (z .2) (v .1) (k .1))
+  sound-fold-of (repetition h c r) z v k =
+      let s = sound-fold-of c (z .0) (v .2) (k .1) in
       let w = siblings (fold-of c) in
-      let wide : Width c w = rw report-fold-of at (width-siblings (fold-of c)) in (
+      let wide : Width c w = rw (report-fold-of c (z .0)) at (width-siblings (fold-of c)) in (
         record { twice = v .0; true-width = refl; within = k .0 w wide; some = some-siblings c s (v .1) },
         s,
-        sound-fold-of r (v .3) (k .2),
+        sound-fold-of r (z .1) (v .3) (k .2),
       )
+
+  -- So is each of the report's trees that represents the tree of a run.
+  pub represents-lettered : (r : RRT Letter) (t : Forest) → Valid r → Sound A t → Represents r (report t) → Lettered r
+  represents-lettered r t v s p = lettered-expand r v (rw (represents r (report t) .0 p) at (lettered-report t s))
 
   -- The tree of a fold represents the tree of a run exactly when the fold unrolls to the run.
   pub represents-run : (f t : Forest) → Sound A f → Sound A t → Represents (report f) (report t) ↔ unroll f ≡ t
@@ -213,11 +202,6 @@ module _ (k : ℕ) (P : Prices) (s : List ℕ) (small : Bytes s) (t : Tally) (x 
   unfolding tally-of
   accepted-length = rw (← spelled .text) (ap (λ (u : Tally). u .size) (spelled .counts))
 
--- At lent prices the cost is the report's size by these as weights.
-pub cost-size : (table : List ℕ) (first each : ℕ) (f : Forest) → cost (priced table first each) f ≡ report-size table first each (report f)
-unfolding report-size
-cost-size table first each f = cost-report (priced table first each) (λ l. refl) f
-
 -- A fold at an entry point: what is accepted is read, and what is refused has a number.
 module _ (h : Head) (P : Prices) (s : List ℕ) where
   pub outcome-read : (t : Tally) (x : List ℕ) → fold-outcome h P s ≡ accepted t x → read (fold-rules (h .limit) P) s ≡ accepted t x
@@ -230,24 +214,24 @@ module _ (h : Head) (P : Prices) (s : List ℕ) where
       headed-each limits h (read (fold-rules (h .limit) P) s) (λ m. m ≢ 0) (omega arith) (refused-some (fold-rules (h .limit) P) s) n p e
 
 -- What the fold reader's success says.
-module _ (s : List ℕ) (k : ℕ) (table : List ℕ) (first each : ℕ) (small : Bytes s) (r : FoldReading) (answered : r ≡ fold-reading s k table first each) (success : r .refusal ≡ 0) where
+module _ (s : List ℕ) (k : ℕ) (T : Tariff) (small : Bytes s) (r : FoldReading) (answered : r ≡ fold-reading s k T) (success : r .refusal ≡ 0) where
   abbrev P : Prices
-  P = priced table first each
+  P = priced T
 
-  pub reading-means : MeansAtCost k table first each s (r .length) (r .cost)
+  pub reading-means : MeansAtCost k P s (r .length) (r .cost)
   unfolding fold-reading
-  reading-means = by-outcome (fold-outcome (full-head table k) P s) refl
+  reading-means = by-outcome (fold-outcome (full-head T k) P s) refl
     where
-      by-outcome : (o : Outcome) → fold-outcome (full-head table k) P s ≡ o → MeansAtCost k table first each s (r .length) (r .cost)
+      by-outcome : (o : Outcome) → fold-outcome (full-head T k) P s ≡ o → MeansAtCost k P s (r .length) (r .cost)
       by-outcome (refused n p) e =
           let q = answered ∙ ap as-fold-reading e in
-          absurd (outcome-some (full-head table k) P s n p e (sym (ap (λ (y : FoldReading). y .refusal) q) ∙ success))
+          absurd (outcome-some (full-head T k) P s n p e (sym (ap (λ (y : FoldReading). y .refusal) q) ∙ success))
       by-outcome (accepted t x) e =
           let q = answered ∙ ap as-fold-reading e in
-          let a = outcome-read (full-head table k) P s t x e in
+          let a = outcome-read (full-head T k) P s t x e in
           record {
             text = x;
             means = accepted-means k P s small t x a;
             long = accepted-length k P s small t x a ∙ sym (ap (λ (y : FoldReading). y .length) q);
-            weighed = ap (λ (y : FoldReading). y .cost) q ∙ accepted-cost k P s small t x a ∙ cost-size table first each (tree-of s);
+            weighed = ap (λ (y : FoldReading). y .cost) q ∙ accepted-cost k P s small t x a ∙ cost-report P (tree-of s);
           }

@@ -6,7 +6,7 @@ use Prim.Native.Nat.{ℕ, _≤_}
 use native.Mathlib.Nat.{mul-le-mul-left, le-of-mul-le-mul-left}
 use native.Mathlib.Omega.{arith}
 use lib.ListN.{length}
-use Rattle.format.specs.Limits.{Prices, priced}
+use Rattle.format.specs.Limits.{Prices, Tariff, priced}
 use Rattle.format.specs.Order.{Bytes}
 use Rattle.format.specs.Forest.{Forest, end, step, group, repeat, Allowed, at-most, Sound, unroll, nodes, steps, group-depth}
 use Rattle.format.specs.Machine.{Rules, Outcome, refused, accepted, read}
@@ -101,17 +101,17 @@ module _ (s : List ℕ) (small : Bytes s) (k : ℕ) (P : Prices) (t : Tally) (y 
 
 -- A FOLD AND THE RUN THAT IT UNROLLS TO HAVE THE SAME NODES, STEPS AND DEPTH: whatever the limit and the costs at which the fold
 -- reader accepts a fold, and whatever the limit at which it is unrolled.
-module _ (s : List ℕ) (small : Bytes s) (k : ℕ) (table : List ℕ) (first each : ℕ) (success : fold-reading s k table first each .refusal ≡ 0) where
+module _ (s : List ℕ) (small : Bytes s) (k : ℕ) (T : Tariff) (success : fold-reading s k T .refusal ≡ 0) where
   abbrev P : Prices
-  P = priced table first each
+  P = priced T
 
-  pub unrolled-alike : (j : ℕ) (u : Tally) (x : List ℕ) → measured s j ≡ accepted u x → Alike (fold-reading s k table first each) x
+  pub unrolled-alike : (j : ℕ) (u : Tally) (x : List ℕ) → measured s j ≡ accepted u x → Alike (fold-reading s k T) x
   unfolding fold-reading
-  unrolled-alike j u x e = by-outcome (fold-outcome (full-head table k) P s) refl
+  unrolled-alike j u x e = by-outcome (fold-outcome (full-head T k) P s) refl
     where
-      by-outcome : (o : Outcome) → fold-outcome (full-head table k) P s ≡ o → Alike (fold-reading s k table first each) x
+      by-outcome : (o : Outcome) → fold-outcome (full-head T k) P s ≡ o → Alike (fold-reading s k T) x
       by-outcome (refused n p) f =
-          absurd (outcome-some (full-head table k) P s n p f (sym (ap (λ (o : Outcome). as-fold-reading o .refusal) f) ∙ success))
+          absurd (outcome-some (full-head T k) P s n p f (sym (ap (λ (o : Outcome). as-fold-reading o .refusal) f) ∙ success))
       by-outcome (accepted t y) f =
           rw f
-          (alike-of-fold s small k P t y (outcome-read (full-head table k) P s t y f) j free u x (outcome-read (limit-head j) free s u x e))
+          (alike-of-fold s small k P t y (outcome-read (full-head T k) P s t y f) j free u x (outcome-read (limit-head j) free s u x e))

@@ -13,3 +13,4 @@ pub mod Parts
 pub mod Tree
 pub mod Report
 pub mod Meaning
+pub mod OneTable

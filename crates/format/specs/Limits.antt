@@ -18,9 +18,26 @@ pub record Prices : Type 0 where
 abbrev pub of-repeat : Prices → ℕ → ℕ
 of-repeat P h = P .first + P .each * (h - 2)
 
--- One lent table prices the labels of steps and groups alike.
-abbrev pub priced : List ℕ → ℕ → ℕ → Prices
-priced table first each = record { of-step = λ l. getD table l 0; of-group = λ l. getD table l 0; first = first; each = each }
+-- What is lent to price a fold: a table of what steps cost by their labels, one of what groups cost by theirs, and the repeat
+-- prices first and each.
+pub record Tariff : Type 0 where
+  pub steps : List ℕ
+  pub groups : List ℕ
+  pub first : ℕ
+  pub each : ℕ
+
+abbrev pub tariff : (steps groups : List ℕ) → (first each : ℕ) → Tariff
+tariff steps groups first each = record { steps = steps; groups = groups; first = first; each = each }
+
+-- The prices that it gives: the one table prices `10` and the other `11`.
+abbrev pub priced : Tariff → Prices
+priced T =
+    record {
+      of-step = λ l. getD (T .steps) l 0;
+      of-group = λ l. getD (T .groups) l 0;
+      first = T .first;
+      each = T .each;
+    }
 
 -- The entries that each of the two work slices must have for a run of n nodes: one for each stretch of numbers from 1 to n.
 abbrev pub cells : ℕ → ℕ

@@ -1,22 +1,28 @@
 -- What accepted bytes mean in the report's words: demand 2, first sentence.
 use mathlib.Core.Path.{_≡_}
 use mathlib.Core.List.{List}
-use Prim.Native.Nat.{ℕ, _+_, _-_, _*_}
-use lib.ListN.{length, getD}
+use Prim.Native.Nat.{ℕ}
+use lib.ListN.{length}
+use Rattle.format.specs.Limits.{Prices, of-repeat}
 use Rattle.format.specs.Forest.{Forest, end, step, group, repeat, bytes}
 use Rattle.format.specs.Readings.{run-reading}
 use Rattle.format.specs.Tree.{tree-of}
 use Rattle.format.specs.Report.{RRT, empty, letter, repetition, Valid, Represents, Width, WidthAtMost, size}
 
--- The report's tree of a sequence, less its root. A step and a group of one label bear one letter: the step is a leaf.
-unfoldable pub report : Forest → RRT ℕ
+-- The report's alphabet: a step and a group of one label are two letters.
+pub data Letter : Type 0 where
+  step-of : (label : ℕ) → Letter
+  group-of : (label : ℕ) → Letter
+
+-- The report's tree of a sequence, less its root. A step is a leaf.
+unfoldable pub report : Forest → RRT Letter
 report end = empty
-report (step l f) = letter l empty (report f)
-report (group l b f) = letter l (report b) (report f)
+report (step l f) = letter (step-of l) empty (report f)
+report (group l b f) = letter (group-of l) (report b) (report f)
 report (repeat h w b f) = repetition h (report b) (report f)
 
 -- The report's tree of bytes.
-abbrev pub report-of : List ℕ → RRT ℕ
+abbrev pub report-of : List ℕ → RRT Letter
 report-of s = report (tree-of s)
 
 -- Every width operand is the report's width of its repetition.
@@ -36,14 +42,19 @@ pub record Means (k : ℕ) (s x : List ℕ) : Type 0 where
   pub run : run-reading x .refusal ≡ 0
   pub represented : Represents (report-of s) (report-of x)
 
--- The report's size by the lent prices as weights: a letter by its entry of the table, a number h by first + each × (h − 2).
-unfoldable pub report-size : (table : List ℕ) → (first each : ℕ) → RRT ℕ → ℕ
+-- The weight of a letter: a step's price or a group's, by its label.
+abbrev pub weight : Prices → Letter → ℕ
+weight P (step-of l) = P .of-step l
+weight P (group-of l) = P .of-group l
+
+-- The report's size by prices as weights: each letter by its own, a number h by first + each × (h − 2).
+unfoldable pub report-size : Prices → RRT Letter → ℕ
 unfolding size
-report-size table first each r = size (λ l. getD table l 0) (λ h. first + each * (h - 2)) r
+report-size P r = size (weight P) (of-repeat P) r
 
 -- The bytes s, read at width limit k and these prices, mean a run of n bytes, and the cost is the report's length.
-pub record MeansAtCost (k : ℕ) (table : List ℕ) (first each : ℕ) (s : List ℕ) (n cost : ℕ) : Type 0 where
+pub record MeansAtCost (k : ℕ) (P : Prices) (s : List ℕ) (n cost : ℕ) : Type 0 where
   pub text : List ℕ
   pub means : Means k s text
   pub long : length text ≡ n
-  pub weighed : cost ≡ report-size table first each (report-of s)
+  pub weighed : cost ≡ report-size P (report-of s)

@@ -3,7 +3,7 @@ use mathlib.Core.Path.{_≡_}
 use mathlib.Core.Bool.{true, false}
 use mathlib.Core.List.{List, []}
 use Prim.Native.Nat.{ℕ}
-use Rattle.format.specs.Limits.{limits, Prices, priced}
+use Rattle.format.specs.Limits.{limits, Prices, Tariff, tariff, priced}
 use Rattle.format.specs.Machine.{Rules, none, Outcome, refused, accepted, read}
 use Rattle.format.specs.Head.{Head, headed, limit-head, full-head}
 use Rattle.format.specs.declared.Tally.{Tally}
@@ -12,7 +12,7 @@ use Rattle.format.specs.declared.FoldReading.{FoldReading}
 
 -- Nothing has a price.
 abbrev pub free : Prices
-free = priced [] 0 0
+free = priced (tariff [] [] 0 0)
 
 -- The rules of runs: no repeats, so neither width limit nor prices matter.
 abbrev pub run-rules : Rules
@@ -90,6 +90,6 @@ abbrev pub measured : List ℕ → (limit : ℕ) → Outcome
 measured s k = fold-outcome (limit-head k) free s
 
 -- The fold reader.
-unfoldable pub fold-reading : List ℕ → (limit : ℕ) → (table : List ℕ) → (first each : ℕ) → FoldReading
+unfoldable pub fold-reading : List ℕ → (limit : ℕ) → Tariff → FoldReading
 unfolding fold-outcome
-fold-reading s k table first each = as-fold-reading (fold-outcome (full-head table k) (priced table first each) s)
+fold-reading s k T = as-fold-reading (fold-outcome (full-head T k) (priced T) s)

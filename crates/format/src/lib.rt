@@ -8,7 +8,7 @@ ghost use Rattle.format.specs.Machine.{none, first-of};
 ghost use Rattle.format.specs.Head.{head-checks};
 
 // What the format bounds: the nodes of a run, the groups and the repeats open at a time, the width limit; and the entries
-// that a label table has.
+// that a cost table has.
 pub struct Limits {
     pub nodes: usize,
     pub groups: usize,
@@ -17,10 +17,12 @@ pub struct Limits {
     pub labels: usize,
 }
 
-// What is checked before the first command, of what an entry point takes: the entries of the lent label table and the width
-// limit. For a subject that it does not take, an entry point hands a value that no check refuses.
+// What is checked before the first command, of what an entry point takes: the entries of the two lent cost tables, that of
+// steps and that of groups, and the width limit. For a subject that it does not take, an entry point hands a value that no
+// check refuses.
 pub struct Head {
-    pub labels: usize,
+    pub steps: usize,
+    pub groups: usize,
     pub limit: usize,
 }
 
@@ -36,7 +38,7 @@ impl Format {
     pub const REPEATS: usize = 10;
     // The largest width limit.
     pub const WIDTH: usize = 1024;
-    // The entries of a label table.
+    // The entries of a cost table: one for each label.
     pub const LABELS: usize = 256;
 
     // A step: its label follows.
@@ -77,12 +79,15 @@ pub fn wide_cost(x: u16) -> u64
     x as u64
 }
 
-// The refusal of a head: 11 for the table, then 12 for the limit; 0 where neither applies.
+// The refusal of a head: 11 for the table of steps, then 15 for that of groups, then 12 for the limit; 0 where none applies.
 pub fn head_refusal(bounds: Limits, head: Head) -> u8
     ensures { λ r. ⌜ r ≡ first-of (head-checks bounds head) ⌝ }
 {
-    if head.labels != bounds.labels {
+    if head.steps != bounds.labels {
         return 11;
+    }
+    if head.groups != bounds.labels {
+        return 15;
     }
     if bounds.width < head.limit {
         return 12;

@@ -10,6 +10,7 @@ ghost use mathlib.Core.Bool.{true};
 ghost use mathlib.Core.Logic.{_↔_};
 ghost use Prim.Native.Nat.{_≤_};
 ghost use lib.ListN.{length, replicate};
+ghost use Rattle.format.specs.Limits.{tariff};
 ghost use Rattle.folder.specs.Folding.{folding, fold-answer, fold-output, fold-work};
 ghost use Rattle.harness.specs.Lent.{filled-words, filled-bytes, Cleared, Untouched, Begins, used, Valued, LentAsSaid, unroll-says, unroll-leaves, Unrolls};
 
@@ -117,23 +118,24 @@ pub struct Checked {
 pub fn fold_checked(
     run: &[u8],
     limit: usize,
-    table: &[u16],
+    steps: &[u16],
+    groups: &[u16],
     first: u16,
     each: u16,
     costs: &mut [u32],
     choices: &mut [u32],
     out: &mut [u8],
 ) -> Checked
-    ensures answered { λ r. ⌜ r .answer ≡ fold-answer (folding (now (run .entry)) limit (now (table .entry)) first each) (length (now (costs .entry))) (length (now (choices .entry))) (length (now (out .entry))) ⌝ }
-    ensures written { λ _. ⌜ now (out .exit) ≡ fold-output (folding (now (run .entry)) limit (now (table .entry)) first each) (length (now (costs .entry))) (length (now (choices .entry))) (filled-bytes (length (now (out .entry)))) ⌝ }
-    ensures costs_cleared { λ _. ⌜ now (costs .exit) ≡ fold-work (folding (now (run .entry)) limit (now (table .entry)) first each) (length (now (costs .entry))) (length (now (choices .entry))) (filled-words (length (now (costs .entry)))) ⌝ }
-    ensures choices_cleared { λ _. ⌜ now (choices .exit) ≡ fold-work (folding (now (run .entry)) limit (now (table .entry)) first each) (length (now (costs .entry))) (length (now (choices .entry))) (filled-words (length (now (choices .entry)))) ⌝ }
+    ensures answered { λ r. ⌜ r .answer ≡ fold-answer (folding (now (run .entry)) limit (tariff (now (steps .entry)) (now (groups .entry)) first each)) (length (now (costs .entry))) (length (now (choices .entry))) (length (now (out .entry))) ⌝ }
+    ensures written { λ _. ⌜ now (out .exit) ≡ fold-output (folding (now (run .entry)) limit (tariff (now (steps .entry)) (now (groups .entry)) first each)) (length (now (costs .entry))) (length (now (choices .entry))) (filled-bytes (length (now (out .entry)))) ⌝ }
+    ensures costs_cleared { λ _. ⌜ now (costs .exit) ≡ fold-work (folding (now (run .entry)) limit (tariff (now (steps .entry)) (now (groups .entry)) first each)) (length (now (costs .entry))) (length (now (choices .entry))) (filled-words (length (now (costs .entry)))) ⌝ }
+    ensures choices_cleared { λ _. ⌜ now (choices .exit) ≡ fold-work (folding (now (run .entry)) limit (tariff (now (steps .entry)) (now (groups .entry)) first each)) (length (now (costs .entry))) (length (now (choices .entry))) (filled-words (length (now (choices .entry)))) ⌝ }
     ensures looked_at { λ r. ⌜ (r .right ≡ true) ↔ LentAsSaid (now (run .entry)) (r .answer) (now (costs .exit)) (now (choices .exit)) (now (out .exit)) ⌝ }
 {
     fill_words(costs);
     fill_words(choices);
     fill_bytes(out);
-    let answer = fold(run, limit, table, first, each, costs, choices, out);
+    let answer = fold(run, limit, steps, groups, first, each, costs, choices, out);
     let right = kept(run, answer, costs, choices, out);
     Checked { answer, right }
 }

@@ -18,13 +18,14 @@ use reader::read_run;
 fn reads(
     fold: &[u8],
     limit: usize,
-    table: &[u16],
+    steps: &[u16],
+    groups: &[u16],
     first: u16,
     each: u16,
     run: &[u8],
     cost: u64,
 ) -> bool {
-    let r = read_fold(fold, limit, table, first, each);
+    let r = read_fold(fold, limit, steps, groups, first, each);
     if !alike(r, run) {
         return false;
     }
@@ -35,6 +36,9 @@ fn reads(
 fn show(name: &[u8], run: &[u8], a: Case, r: Folded) {
     word(name);
     setting(a.limit, a.first, a.each);
+    if a.group != 1 {
+        number(b", groups ", a.group as u64);
+    }
     number(b": cost ", r.cost);
     number(b", length ", r.length as u64);
     let s = read_run(run);
@@ -57,9 +61,10 @@ fn wrote(c: Checked, out: &[u8], fold: &[u8], cost: u64) -> bool {
     c.right
 }
 
-// What a run is folded at, and the cost that is known.
+// What a run is folded at, and the cost that is known. Every step costs 1, every group as much as is said.
 struct Case {
     limit: usize,
+    group: u16,
     first: u16,
     each: u16,
     cost: u64,
@@ -76,11 +81,23 @@ fn known_in(
     out: &mut [u8],
     text: &mut [u8],
 ) {
-    let table = [1u16; 256];
-    let c = fold_checked(run, a.limit, &table, a.first, a.each, costs, choices, out);
+    let group = a.group;
+    let steps = [1u16; 256];
+    let groups = [group; 256];
+    let c = fold_checked(
+        run,
+        a.limit,
+        &steps,
+        &groups,
+        a.first,
+        a.each,
+        costs,
+        choices,
+        out,
+    );
     show(name, run, a, c.answer);
     let mut right = wrote(c, out, fold, a.cost);
-    if !reads(fold, a.limit, &table, a.first, a.each, run, a.cost) {
+    if !reads(fold, a.limit, &steps, &groups, a.first, a.each, run, a.cost) {
         right = false;
     }
     if !unrolls(fold, a.limit, run, text) {
@@ -91,8 +108,24 @@ fn known_in(
     }
 }
 
-// The same with room for 22 nodes.
+// The same at one price for every label.
 fn known(name: &[u8], run: &[u8], limit: usize, first: u16, each: u16, fold: &[u8], cost: u64) {
+    known_at(
+        name,
+        run,
+        Case {
+            limit,
+            group: 1,
+            first,
+            each,
+            cost,
+        },
+        fold,
+    );
+}
+
+// With room for 22 nodes.
+fn known_at(name: &[u8], run: &[u8], a: Case, fold: &[u8]) {
     let mut costs = [0u32; 260];
     let mut choices = [0u32; 260];
     let mut out = [0u8; 80];
@@ -100,12 +133,7 @@ fn known(name: &[u8], run: &[u8], limit: usize, first: u16, each: u16, fold: &[u
     known_in(
         name,
         run,
-        Case {
-            limit,
-            first,
-            each,
-            cost,
-        },
+        a,
         fold,
         &mut costs,
         &mut choices,
@@ -177,6 +205,27 @@ fn groups() {
     let fold = b"\x20\x00\x02\x00\x01\x11\x05\x20\x00\x03\x00\x01\x10\x01\x21\x12\x21";
     known(b"group 05 holding aaa, twice", group, 1024, 1, 0, fold, 4);
     known(b"group 05 holding aaa, twice", group, 1, 1, 0, fold, 4);
+    dear(b"group 05 holding aaa, twice", group, 4, 1, fold, 7);
+    let plain = b"\x11\x05\x10\x01\x12\x11\x05\x10\x01\x12";
+    let folded = b"\x20\x00\x02\x00\x01\x11\x05\x10\x01\x12\x21";
+    dear(b"group 05 holding a, twice", plain, 4, 3, folded, 8);
+    dear(b"group 05 holding a, twice", plain, 1, 3, plain, 4);
+}
+
+// A run whose groups cost as much as is said, steps 1 and a repeat first, which folds to these bytes at this cost.
+fn dear(name: &[u8], run: &[u8], group: u16, first: u16, fold: &[u8], cost: u64) {
+    known_at(
+        name,
+        run,
+        Case {
+            limit: 1024,
+            group,
+            first,
+            each: 0,
+            cost,
+        },
+        fold,
+    );
 }
 
 // Longer ones, which are run alone.
@@ -224,6 +273,7 @@ fn thousand_in(costs: &mut [u32], choices: &mut [u32]) {
         &run,
         Case {
             limit: 1024,
+            group: 1,
             first: 1,
             each: 0,
             cost: 2,

@@ -12,4 +12,5 @@ pub mod Second
 pub mod Level
 pub mod Demands
 pub mod Minimum
+pub mod OneTable
 pub mod Known

@@ -3,12 +3,13 @@ use mathlib.Core.Path.{_≡_}
 use mathlib.Core.List.{List}
 use Prim.Native.Nat.{ℕ, _<_, _≤_}
 use lib.ListN.{length}
+use Rattle.format.specs.Limits.{Prices}
 use Rattle.format.specs.Order.{Bytes, Before}
 use Rattle.format.specs.Forest.{widest-of}
 use Rattle.format.specs.Machine.{Rules}
 use Rattle.format.specs.Readings.{WellFormed}
 use Rattle.format.specs.Tree.{tree-of}
-use Rattle.format.specs.Meaning.{Means, report-of, report-size}
+use Rattle.format.specs.Meaning.{Letter, Means, report-of, report-size}
 use Rattle.format.specs.Report.{RRT, Valid, WidthAtMost, Represents}
 
 -- The bytes g are a fold of the run within the limit, of this cost: they are well formed by the rules, they unroll to the
@@ -35,8 +36,8 @@ pub record CheapestOver (room : ℕ) (run : List ℕ) (limit : ℕ) (R : Rules) 
   pub longer : room < length fold
 
 -- The report's own problem (minimum width-k repetition representation tree): the tree of f is of width k and represents the
--- tree of the run, and no tree of width k that represents it is smaller, the lent prices as weights.
-pub record MinimumTree (run : List ℕ) (k : ℕ) (table : List ℕ) (first each : ℕ) (f : List ℕ) : Type 0 where
+-- tree of the run, and no tree of width k that represents it is smaller, the prices as weights.
+pub record MinimumTree (run : List ℕ) (k : ℕ) (P : Prices) (f : List ℕ) : Type 0 where
   pub means : Means k f run
-  pub smallest : (r : RRT ℕ) → Valid r → WidthAtMost k r → Represents r (report-of run)
-      → report-size table first each (report-of f) ≤ report-size table first each r
+  pub smallest : (r : RRT Letter) → Valid r → WidthAtMost k r → Represents r (report-of run)
+      → report-size P (report-of f) ≤ report-size P r

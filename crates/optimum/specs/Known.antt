@@ -3,7 +3,7 @@
 use mathlib.Core.Path.{_≡_}
 use mathlib.Core.List.{List, [], _∷_, _++_, map}
 use Prim.Native.Nat.{ℕ}
-use Rattle.format.specs.Limits.{Prices, priced}
+use Rattle.format.specs.Limits.{Prices, tariff, priced}
 use Rattle.format.specs.Forest.{bytes, at-most}
 use Rattle.format.specs.Machine.{Outcome, refused, accepted, read, times}
 use Rattle.format.specs.Readings.{run-rules, fold-rules}
@@ -48,18 +48,31 @@ answered (q gives a) = answer q
 unfoldable pub expected : Case → Answer
 expected (q gives a) = a
 
--- One price for every label, and the repeat prices first and each; unit costs; a for nothing, b for 3 and each 0.
-abbrev pub labels-at : ℕ → (first each : ℕ) → Prices
+-- One price for every step, one for every group, and the repeat prices first and each; one price for both; unit costs.
+abbrev pub nodes-at : (step group first each : ℕ) → Prices
 unfolding times
-labels-at l first each = priced (times 256 (l ∷ [])) first each
+nodes-at l g first each = priced (tariff (times 256 (l ∷ [])) (times 256 (g ∷ [])) first each)
+
+abbrev pub labels-at : ℕ → (first each : ℕ) → Prices
+unfolding nodes-at
+labels-at l first each = nodes-at l l first each
 
 abbrev pub unit : Prices
 unfolding labels-at
 unit = labels-at 1 1 0
 
+-- Both tables have label 01 for nothing, 02 for 3 and the others for 1; each is 0.
 abbrev pub free-a : ℕ → Prices
 unfolding times
-free-a first = priced (1 ∷ 0 ∷ 3 ∷ times 253 (1 ∷ [])) first 0
+free-a first =
+    let table : List ℕ = 1 ∷ 0 ∷ 3 ∷ times 253 (1 ∷ []) in
+    priced (tariff table table first 0)
+
+-- The group 05 costs 9, label 01 costs 2 as a step and 5 as a group, 02 costs 3 and 1; the others cost 1, and so does a repeat.
+abbrev pub unlike : Prices
+unfolding times
+unlike =
+    priced (tariff (1 ∷ 2 ∷ 3 ∷ times 253 (1 ∷ [])) (1 ∷ 5 ∷ 1 ∷ 1 ∷ 1 ∷ 9 ∷ times 250 (1 ∷ [])) 1 0)
 
 -- The steps a and b; a group.
 abbrev pub a : List ℕ
@@ -73,7 +86,7 @@ group-05 s = 0x11 ∷ 0x05 ∷ s ++ 0x12 ∷ []
 
 -- The table: the cases of docs/FORMAT.md, then more, which pin what prices and ties decide.
 unfoldable pub known : List Case
-unfolding unit free-a times
+unfolding unit free-a unlike times
 known =
     -- the empty run, and a
     run 1024 unit [] gives fold-is [] 0
@@ -94,6 +107,9 @@ known =
     gives fold-is (0x20 ∷ 0x00 ∷ 0x02 ∷ 0x00 ∷ 0x01 ∷ 0x11 ∷ 0x05 ∷ 0x20 ∷ 0x00 ∷ 0x03 ∷ 0x00 ∷ 0x01 ∷ 0x10 ∷ 0x01 ∷ 0x21 ∷ 0x12 ∷ 0x21 ∷ []) 4
     ∷ run 1 unit (times 2 (group-05 (a ++ a ++ a)))
     gives fold-is (0x20 ∷ 0x00 ∷ 0x02 ∷ 0x00 ∷ 0x01 ∷ 0x11 ∷ 0x05 ∷ 0x20 ∷ 0x00 ∷ 0x03 ∷ 0x00 ∷ 0x01 ∷ 0x10 ∷ 0x01 ∷ 0x21 ∷ 0x12 ∷ 0x21 ∷ []) 4
+    -- every group costs 4 and all else is at unit costs
+    ∷ run 1024 (nodes-at 1 4 1 0) (times 2 (group-05 (a ++ a ++ a)))
+    gives fold-is (0x20 ∷ 0x00 ∷ 0x02 ∷ 0x00 ∷ 0x01 ∷ 0x11 ∷ 0x05 ∷ 0x20 ∷ 0x00 ∷ 0x03 ∷ 0x00 ∷ 0x01 ∷ 0x10 ∷ 0x01 ∷ 0x21 ∷ 0x12 ∷ 0x21 ∷ []) 7
     -- the examples of refusals 5 and 9
     ∷ run 1024 unit (0x11 ∷ 0x05 ∷ 0x12 ∷ []) gives refusal-is 5 2
     ∷ fold 1024 unit (0x20 ∷ 0x00 ∷ 0x02 ∷ 0x00 ∷ 0x02 ∷ 0x10 ∷ 0x07 ∷ 0x21 ∷ []) gives refusal-is 9 7
@@ -111,6 +127,13 @@ known =
     ∷ run 1024 unit (group-05 a ++ group-05 b ++ group-05 a) gives fold-is (group-05 a ++ group-05 b ++ group-05 a) 6
     ∷ run 1024 unit (times 2 (group-05 a ++ group-05 b))
     gives fold-is (0x20 ∷ 0x00 ∷ 0x02 ∷ 0x00 ∷ 0x02 ∷ 0x11 ∷ 0x05 ∷ 0x10 ∷ 0x01 ∷ 0x12 ∷ 0x11 ∷ 0x05 ∷ 0x10 ∷ 0x02 ∷ 0x12 ∷ 0x21 ∷ []) 5
+    -- more: two groups are repeated where a group is dear, and are not where it is cheap
+    ∷ run 1024 (nodes-at 1 4 3 0) (times 2 (group-05 a))
+    gives fold-is (0x20 ∷ 0x00 ∷ 0x02 ∷ 0x00 ∷ 0x01 ∷ 0x11 ∷ 0x05 ∷ 0x10 ∷ 0x01 ∷ 0x12 ∷ 0x21 ∷ []) 8
+    ∷ run 1024 (nodes-at 1 1 3 0) (times 2 (group-05 a)) gives fold-is (times 2 (group-05 a)) 4
+    -- more: steps by their table and groups by theirs, whatever the label
+    ∷ run 1024 unlike (group-05 (a ++ 0x11 ∷ 0x01 ∷ b ++ 0x12 ∷ []) ++ 0x11 ∷ 0x02 ∷ a ++ 0x12 ∷ [])
+    gives fold-is (group-05 (a ++ 0x11 ∷ 0x01 ∷ b ++ 0x12 ∷ []) ++ 0x11 ∷ 0x02 ∷ a ++ 0x12 ∷ []) 22
     -- more: labels that cost nothing, all of them or a alone with b at 3
     ∷ run 1024 (labels-at 0 0 0) (times 4 a) gives fold-is (times 4 a) 0
     ∷ run 1024 (free-a 2) (times 2 (a ++ b))

@@ -3,4 +3,5 @@ pub mod Optimal
 pub mod Cheapest
 pub mod Verdict
 pub mod Demands
+pub mod OneTable
 pub mod Known

@@ -6,7 +6,7 @@ use mathlib.Core.Logic.{_≢_}
 use Prim.Native.Nat.{ℕ}
 use lib.Dec.{eqb}
 use borrow.Author.Tests.{eqb-true, eqb-false}
-use Rattle.format.specs.Limits.{limits, Prices, priced}
+use Rattle.format.specs.Limits.{limits, Prices, Tariff, priced}
 use Rattle.format.specs.Machine.{Rules, none, read, first-of}
 use Rattle.format.specs.Head.{head-checks, full-head}
 use Rattle.format.specs.Order.{Bytes}
@@ -60,8 +60,8 @@ module _ (h : Head) (n : ℕ) (checked : n ≡ first-of (head-checks limits h)) 
         rw (headed-passed limits h (read (fold-rules (h .limit) P) s) (sym none ∙ checked)) (answered (fold-rules (h .limit) P) s w walked)
 
 -- The fold reader's answer: it is the reading, and on success means what the report says.
-pub with-meaning : (s table : List ℕ) (k first each : ℕ) → Bytes s → (r : FoldReading)
-    → r ≡ as-fold-reading (fold-outcome (full-head table k) (priced table first each) s)
-    → (r ≡ fold-reading s k table first each) × (r .refusal ≡ 0 → MeansAtCost k table first each s (r .length) (r .cost))
+pub with-meaning : (s : List ℕ) (k : ℕ) (T : Tariff) → Bytes s → (r : FoldReading)
+    → r ≡ as-fold-reading (fold-outcome (full-head T k) (priced T) s)
+    → (r ≡ fold-reading s k T) × (r .refusal ≡ 0 → MeansAtCost k (priced T) s (r .length) (r .cost))
 unfolding fold-reading
-with-meaning s table k first each small r e = (e, reading-means s k table first each small r e)
+with-meaning s k T small r e = (e, reading-means s k T small r e)

@@ -16,7 +16,7 @@ use walk::Walk;
 use walk::whole;
 ghost use mathlib.Core.Path.{_≡_};
 ghost use mathlib.Core.Bool.{true};
-ghost use Rattle.format.specs.Limits.{priced};
+ghost use Rattle.format.specs.Limits.{tariff, priced};
 ghost use Rattle.format.specs.Readings.{run-numbers, fold-numbers, as-run-reading, run-outcome, run-reading, fold-outcome, measured, fold-reading, as-fold-reading};
 ghost use Rattle.format.specs.Meaning.{MeansAtCost};
 ghost use Rattle.format.specs.Parts.{node-part, part-of};
@@ -62,7 +62,7 @@ pub fn read_run(run: &[u8]) -> RunReading
         first: 0,
         each: 0,
     };
-    let w = whole(run, &free, a);
+    let w = whole(run, &free, &free, a);
     let none = Tally::none();
     if w.refusal != 0 {
         return as_run(w.refusal, w.at, none);
@@ -129,8 +129,15 @@ fn answer(w: Walk) -> FoldReading
 
 // A fold at an entry point with this head: the checks of the head, then refusals 1 and 3 to 10; or the nodes, bytes, steps and
 // depth of the run and the fold's cost.
-fn read_headed(fold: &[u8], head: Head, table: &[u16], first: u16, each: u16) -> FoldReading
-    ensures { λ r. ⌜ r ≡ as-fold-reading (fold-outcome head (priced (now (table .entry)) first each) (now (fold .entry))) ⌝ }
+fn read_headed(
+    fold: &[u8],
+    head: Head,
+    steps: &[u16],
+    groups: &[u16],
+    first: u16,
+    each: u16,
+) -> FoldReading
+    ensures { λ r. ⌜ r ≡ as-fold-reading (fold-outcome head (priced (tariff (now (steps .entry)) (now (groups .entry)) first each)) (now (fold .entry))) ⌝ }
 {
     let bounds = Format::limits();
     let number = head_refusal(bounds, head);
@@ -144,7 +151,7 @@ fn read_headed(fold: &[u8], head: Head, table: &[u16], first: u16, each: u16) ->
         first: wide_cost(first),
         each: wide_cost(each),
     };
-    answer(whole(fold, table, a))
+    answer(whole(fold, steps, groups, a))
 }
 
 // A fold at a width limit, without costs: refusals 12, 1 and 3 to 10, or the nodes, bytes, steps and depth of the run at cost 0.
@@ -153,21 +160,30 @@ pub fn measure(fold: &[u8], limit: usize) -> FoldReading
 {
     let free: [u16; 0] = [0; 0];
     let head = Head {
-        labels: Format::LABELS,
+        steps: Format::LABELS,
+        groups: Format::LABELS,
         limit,
     };
-    read_headed(fold, head, &free, 0, 0)
+    read_headed(fold, head, &free, &free, 0, 0)
 }
 
-// The fold reader: refusals 11, 12, 1 and 3 to 10, or the nodes, bytes, steps and depth of the run and the fold's cost. What it
+// The fold reader: refusals 11, 15, 12, 1 and 3 to 10, or the nodes, bytes, steps and depth of the run and the fold's cost. What it
 // accepts means, in the report's words, a run of that length at that cost.
-pub fn read_fold(fold: &[u8], limit: usize, table: &[u16], first: u16, each: u16) -> FoldReading
-    ensures answered { λ r. ⌜ r ≡ fold-reading (now (fold .entry)) limit (now (table .entry)) first each ⌝ }
-    ensures meant { λ r. ⌜ (r .refusal ≡ 0 → MeansAtCost limit (now (table .entry)) first each (now (fold .entry)) (r .length) (r .cost)) ⌝ }
+pub fn read_fold(
+    fold: &[u8],
+    limit: usize,
+    steps: &[u16],
+    groups: &[u16],
+    first: u16,
+    each: u16,
+) -> FoldReading
+    ensures answered { λ r. ⌜ r ≡ fold-reading (now (fold .entry)) limit (tariff (now (steps .entry)) (now (groups .entry)) first each) ⌝ }
+    ensures meant { λ r. ⌜ (r .refusal ≡ 0 → MeansAtCost limit (priced (tariff (now (steps .entry)) (now (groups .entry)) first each)) (now (fold .entry)) (r .length) (r .cost)) ⌝ }
 {
     let head = Head {
-        labels: table.len(),
+        steps: steps.len(),
+        groups: groups.len(),
         limit,
     };
-    read_headed(fold, head, table, first, each)
+    read_headed(fold, head, steps, groups, first, each)
 }

@@ -64,8 +64,8 @@ fn by_run_reader(run: &[u8], e: Expected) {
     );
 }
 
-fn by_fold_reader(fold: &[u8], limit: usize, table: &[u16], e: Expected) {
-    let r = read_fold(fold, limit, table, 1, 0);
+fn by_fold_reader(fold: &[u8], limit: usize, steps: &[u16], groups: &[u16], e: Expected) {
+    let r = read_fold(fold, limit, steps, groups, 1, 0);
     let mut right = no_values(r.nodes, r.steps, r.depth);
     if r.length != 0 {
         right = false;
@@ -90,23 +90,33 @@ fn by_unroller(fold: &[u8], limit: usize, out: &mut [u8], e: Expected) {
 fn by_folder(
     run: &[u8],
     limit: usize,
-    table: &[u16],
+    steps: &[u16],
+    groups: &[u16],
     costs: &mut [u32],
     choices: &mut [u32],
     out: &mut [u8],
     e: Expected,
 ) {
-    let c = fold_checked(run, limit, table, 1, 0, costs, choices, out);
+    let c = fold_checked(run, limit, steps, groups, 1, 0, costs, choices, out);
     let r = c.answer;
     told(b" folder", r.refusal, r.place, e, c.right);
 }
 
 // The folder with room enough.
-fn by_roomy_folder(run: &[u8], limit: usize, table: &[u16], e: Expected) {
+fn by_roomy_folder(run: &[u8], limit: usize, steps: &[u16], groups: &[u16], e: Expected) {
     let mut costs = [0u32; 60];
     let mut choices = [0u32; 60];
     let mut out = [0u8; 40];
-    by_folder(run, limit, table, &mut costs, &mut choices, &mut out, e);
+    by_folder(
+        run,
+        limit,
+        steps,
+        groups,
+        &mut costs,
+        &mut choices,
+        &mut out,
+        e,
+    );
 }
 
 // The line of a refusal begins with its number, the input, and what that is read at; repeats have unit prices everywhere.
@@ -119,33 +129,33 @@ fn row(refusal: u8, input: &[u8], limit: usize) {
 
 // The folder with an output of 1 byte, and as much work as is lent: a line of its own.
 fn by_cramped_folder(run: &[u8], costs: &mut [u32], choices: &mut [u32], e: Expected) {
-    let table = [1u16; 256];
+    let labels = [1u16; 256];
     let mut out = [0u8; 1];
     row(e.refusal, run, 1024);
     number(b", work ", costs.len() as u64);
     number(b" and ", choices.len() as u64);
     word(b", output 1:");
-    by_folder(run, 1024, &table, costs, choices, &mut out, e);
+    by_folder(run, 1024, &labels, &labels, costs, choices, &mut out, e);
     word(b"\n");
 }
 
 // The example of a refusal among runs, and among folds at a limit.
 fn refused_run(refusal: u8, run: &[u8], place: usize) {
-    let table = [1u16; 256];
+    let labels = [1u16; 256];
     let e = Expected { refusal, place };
     row(refusal, run, 1024);
     by_run_reader(run, e);
     word(b",");
-    by_roomy_folder(run, 1024, &table, e);
+    by_roomy_folder(run, 1024, &labels, &labels, e);
     word(b"\n");
 }
 
 fn refused_fold(refusal: u8, fold: &[u8], limit: usize, place: usize) {
-    let table = [1u16; 256];
+    let labels = [1u16; 256];
     let mut out = [0u8; 40];
     let e = Expected { refusal, place };
     row(refusal, fold, limit);
-    by_fold_reader(fold, limit, &table, e);
+    by_fold_reader(fold, limit, &labels, &labels, e);
     word(b",");
     by_unroller(fold, limit, &mut out, e);
     word(b"\n");
@@ -208,37 +218,73 @@ fn nodes() {
     refused_run(10, &run, 2048);
 }
 
-// An expected refusal at place 0, where refusals 11 to 14 have theirs.
+// An expected refusal at place 0, where refusals 11 to 15 have theirs.
 fn placeless(refusal: u8) -> Expected {
     Expected { refusal, place: 0 }
 }
 
-// Refusals 11 and 12. Each example would be refused by a later check too.
+// Refusals 11, 15 and 12. Each example would be refused by a later check too.
 pub fn settings() {
-    let table = [1u16; 256];
-    short_table(&table[0..255]);
-    high_limit(&table);
+    let short = [1u16; 255];
+    let right = [1u16; 256];
+    wrong_tables();
+    before_commands(&right, &short);
+    high_limit(&right);
 }
 
-fn short_table(table: &[u16]) {
-    let e = placeless(11);
-    row(11, b"\x13", 1025);
-    word(b", 255 label costs");
-    by_fold_reader(b"\x13", 1025, table, e);
+// Tables with so many entries for steps and so many for groups, at a limit that 12 refuses.
+fn tables(refusal: u8, steps: &[u16], groups: &[u16]) {
+    by_tables(refusal, b"\x13", 1025, steps, groups);
+}
+
+fn by_tables(refusal: u8, input: &[u8], limit: usize, steps: &[u16], groups: &[u16]) {
+    let e = placeless(refusal);
+    row(refusal, input, limit);
+    number(b", costs of ", steps.len() as u64);
+    number(b" steps and ", groups.len() as u64);
+    word(b" groups");
+    by_fold_reader(input, limit, steps, groups, e);
     word(b",");
-    by_roomy_folder(b"\x13", 1025, table, e);
+    by_roomy_folder(input, limit, steps, groups, e);
     word(b"\n");
 }
 
-fn high_limit(table: &[u16]) {
+// The table of steps wrong, that of groups wrong, and both at once: then 11 comes first.
+fn wrong_tables() {
+    let none: [u16; 0] = [0; 0];
+    let short = [1u16; 255];
+    let right = [1u16; 256];
+    let long = [1u16; 257];
+    tables(11, &none, &right);
+    tables(11, &short, &right);
+    tables(11, &long, &right);
+    tables(15, &right, &none);
+    tables(15, &right, &short);
+    tables(15, &right, &long);
+    tables(11, &none, &long);
+    tables(11, &short, &short);
+    tables(11, &long, &none);
+}
+
+// 15 before every command, each of which is refused by itself.
+fn before_commands(steps: &[u16], groups: &[u16]) {
+    by_tables(15, b"\x13", 1024, steps, groups);
+    by_tables(15, b"\x10", 1024, steps, groups);
+    by_tables(15, b"\x11", 1024, steps, groups);
+    by_tables(15, b"\x12", 1024, steps, groups);
+    by_tables(15, b"\x20", 1024, steps, groups);
+    by_tables(15, b"\x21", 1024, steps, groups);
+}
+
+fn high_limit(labels: &[u16]) {
     let e = placeless(12);
     let mut out = [0u8; 8];
     row(12, b"\x13", 1025);
-    by_fold_reader(b"\x13", 1025, table, e);
+    by_fold_reader(b"\x13", 1025, labels, labels, e);
     word(b",");
     by_unroller(b"\x13", 1025, &mut out, e);
     word(b",");
-    by_roomy_folder(b"\x13", 1025, table, e);
+    by_roomy_folder(b"\x13", 1025, labels, labels, e);
     word(b"\n");
 }
 

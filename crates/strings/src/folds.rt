@@ -176,8 +176,8 @@ fn follow(run: &[u8], string: &[u8], depth: usize, starts: &[usize], trail: &[us
 
 // Whether a string that follows the run up to a place may be the beginning of a fold of the run (1), is one (2), or neither.
 fn judge(run: &[u8], string: &[u8], at: usize) -> u8 {
-    let table = [1u16; 256];
-    let r = read_fold(string, Format::WIDTH, &table, 1, 0);
+    let labels = [1u16; 256];
+    let r = read_fold(string, Format::WIDTH, &labels, &labels, 1, 0);
     if r.refusal == 3 {
         return 1;
     }
@@ -193,9 +193,10 @@ fn judge(run: &[u8], string: &[u8], at: usize) -> u8 {
 // Whether the unroller agrees that a fold is one of the run, and whether the readers give both the same nodes, bytes, steps and
 // depth.
 fn confirmed(fold: &[u8], run: &[u8]) -> bool {
-    let table = [1u16; 256];
+    let labels = [1u16; 256];
     let mut text = [0u8; 64];
-    if !alike(read_fold(fold, Format::WIDTH, &table, 1, 0), run) {
+    let r = read_fold(fold, Format::WIDTH, &labels, &labels, 1, 0);
+    if !alike(r, run) {
         return false;
     }
     unrolls(fold, Format::WIDTH, run, &mut text)

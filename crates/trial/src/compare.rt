@@ -11,38 +11,54 @@ use std::num::wrapping_add_u64;
 use strings::fold_at;
 use strings::gather;
 
-// Prices: of the labels 1 and 2, and of a repeat.
+// Prices: of steps and of groups by the labels 1 and 2, and of a repeat.
 struct Prices {
-    one: u16,
-    two: u16,
+    step1: u16,
+    step2: u16,
+    group1: u16,
+    group2: u16,
     first: u16,
     each: u16,
 }
 
-fn priced(one: u16, two: u16, first: u16, each: u16) -> Prices {
+// Labels that cost the same for steps and groups.
+fn alike(one: u16, two: u16, first: u16, each: u16) -> Prices {
     Prices {
-        one,
-        two,
+        step1: one,
+        step2: two,
+        group1: one,
+        group2: two,
         first,
         each,
     }
 }
 
-// The prices that are tried: unit costs, first 0, each 5, labels that cost nothing, and labels that cost unlike.
+// The prices that are tried: unit costs, first 0, each 5, labels that cost nothing, labels that cost unlike, and groups that cost
+// unlike steps.
 fn prices_of(k: usize) -> Prices {
     if k == 0 {
-        return priced(1, 1, 1, 0);
+        return alike(1, 1, 1, 0);
     }
     if k == 1 {
-        return priced(1, 1, 0, 0);
+        return alike(1, 1, 0, 0);
     }
     if k == 2 {
-        return priced(1, 1, 1, 5);
+        return alike(1, 1, 1, 5);
     }
     if k == 3 {
-        return priced(0, 0, 1, 0);
+        return alike(0, 0, 1, 0);
     }
-    priced(3, 1, 2, 1)
+    if k == 4 {
+        return alike(3, 1, 2, 1);
+    }
+    Prices {
+        step1: 1,
+        step2: 3,
+        group1: 4,
+        group2: 2,
+        first: 2,
+        each: 1,
+    }
 }
 
 // The limits that are tried: 0 to 3, and the largest.
@@ -83,12 +99,13 @@ fn better(
     k: usize,
     pool: &[u8],
     limit: usize,
-    table: &[u16],
+    steps: &[u16],
+    groups: &[u16],
     first: u16,
     each: u16,
 ) -> Best {
     let fold = fold_at(pool, k);
-    let r = read_fold(fold, limit, table, first, each);
+    let r = read_fold(fold, limit, steps, groups, first, each);
     let this = Best {
         some: true,
         k,
@@ -113,7 +130,15 @@ fn better(
 }
 
 // The best fold of the pool.
-fn best_of(found: usize, pool: &[u8], limit: usize, table: &[u16], first: u16, each: u16) -> Best {
+fn best_of(
+    found: usize,
+    pool: &[u8],
+    limit: usize,
+    steps: &[u16],
+    groups: &[u16],
+    first: u16,
+    each: u16,
+) -> Best {
     let mut best = Best {
         some: false,
         k: 0,
@@ -121,7 +146,7 @@ fn best_of(found: usize, pool: &[u8], limit: usize, table: &[u16], first: u16, e
     };
     let mut k = 0;
     while k < found {
-        best = better(best, k, pool, limit, table, first, each);
+        best = better(best, k, pool, limit, steps, groups, first, each);
         k += 1;
     }
     best
@@ -163,15 +188,19 @@ fn compared(mut sums: Sums, right: bool, cost: u64, length: usize) -> Sums {
 fn compare(sums: Sums, setting: usize, run: &[u8], found: usize, pool: &[u8]) -> Sums {
     let p = prices_of(setting / 5);
     let limit = limit_of(setting % 5);
-    let mut table = [7u16; 256];
-    table[1] = p.one;
-    table[2] = p.two;
-    let best = best_of(found, pool, limit, &table, p.first, p.each);
+    let mut steps = [7u16; 256];
+    steps[1] = p.step1;
+    steps[2] = p.step2;
+    let mut groups = [7u16; 256];
+    groups[1] = p.group1;
+    groups[2] = p.group2;
+    let best = best_of(found, pool, limit, &steps, &groups, p.first, p.each);
     compare_best(
         sums,
         run,
         limit,
-        &table,
+        &steps,
+        &groups,
         p.first,
         p.each,
         best,
@@ -184,7 +213,8 @@ fn compare_best(
     sums: Sums,
     run: &[u8],
     limit: usize,
-    table: &[u16],
+    steps: &[u16],
+    groups: &[u16],
     first: u16,
     each: u16,
     best: Best,
@@ -196,7 +226,8 @@ fn compare_best(
     let c = fold_checked(
         run,
         limit,
-        table,
+        steps,
+        groups,
         first,
         each,
         &mut costs,
@@ -225,7 +256,7 @@ fn agree(c: Checked, best: Best) -> bool {
     c.right
 }
 
-// The settings of prices and limits from one up to another; there are 25.
+// The settings of prices and limits from one up to another; there are 30.
 pub struct Settings {
     pub from: usize,
     pub to: usize,

@@ -21,7 +21,7 @@ fn show(name: &[u8], s: Sums) {
 }
 
 fn main() {
-    let all = Settings { from: 0, to: 25 };
+    let all = Settings { from: 0, to: 30 };
     let some = Settings { from: 4, to: 10 };
     show(b"runs of up to 5 nodes", try_runs(all, true, 5));
     show(b"runs of up to 6 nodes", try_runs(some, true, 6));

@@ -5,7 +5,7 @@ use mathlib.Core.List.{List, [], _∷_}
 use Prim.Native.Nat.{ℕ, _+_, _*_, _<_, _≤_}
 use lib.Dec.{eqb}
 use lib.ListN.{length, getD, drop}
-use Rattle.format.specs.Limits.{priced}
+use Rattle.format.specs.Limits.{tariff, priced}
 use Rattle.format.specs.declared.Limits.{Limits}
 use Rattle.format.specs.Machine.{Rules, Open, a-repeat, Outcome, refused, accepted, scan, read, open-groups, open-repeats}
 use Rattle.format.specs.declared.Tally.{Tally}
@@ -13,10 +13,10 @@ use Rattle.walk.specs.declared.command.Terms.{Terms}
 use Rattle.walk.specs.declared.command.Depth.{Depth}
 use Rattle.walk.specs.declared.command.Walk.{Walk}
 
--- The machine's rules for what was asked.
-abbrev pub rules-of : Terms → List ℕ → Rules
-rules-of a table =
-    record { limits = a .limits; folds = a .folds; widest = a .widest; prices = priced table (a .first) (a .each) }
+-- The machine's rules for what was asked, with the cost tables of steps and of groups.
+abbrev pub rules-of : Terms → (steps groups : List ℕ) → Rules
+rules-of a steps groups =
+    record { limits = a .limits; folds = a .folds; widest = a .widest; prices = priced (tariff steps groups (a .first) (a .each)) }
 
 -- The reading from offset p on, with these things open, these counts and this text.
 abbrev pub from : Rules → List ℕ → ℕ → List Open → Tally → List ℕ → Outcome

@@ -90,11 +90,11 @@ pub fn refused(number: u8, at: usize, t: Tally) -> Walk
 }
 
 // A step: refusals 3 and 10.
-pub fn step(s: &[u8], table: &[u16], a: Terms, at: usize, t: Tally) -> Walk
+pub fn step(s: &[u8], steps: &[u16], a: Terms, at: usize, t: Tally) -> Walk
     requires { ⌜ At (now s) at 0x10 ⌝ }
     requires { ⌜ RoomSomewhere (a .limits) t ⌝ }
     requires { ⌜ Sane a ⌝ }
-    ensures { λ r. ⌜ ((d : Depth) → ItemRead (rules-of a (now (table .entry))) (now (s .entry)) d at t r) ⌝ }
+    ensures { λ r. ⌜ ((groups : List ℕ) (d : Depth) → ItemRead (rules-of a (now (steps .entry)) groups) (now (s .entry)) d at t r) ⌝ }
 {
     if s.len() - at < 2 {
         return refused(3, s.len(), t);
@@ -103,7 +103,7 @@ pub fn step(s: &[u8], table: &[u16], a: Terms, at: usize, t: Tally) -> Walk
     if bounds.nodes <= t.nodes {
         return refused(10, at, t);
     }
-    let p = price(table, s[at + 1]);
+    let p = price(steps, s[at + 1]);
     Walk {
         refusal: 0,
         at: at + 2,
@@ -112,11 +112,11 @@ pub fn step(s: &[u8], table: &[u16], a: Terms, at: usize, t: Tally) -> Walk
 }
 
 // The open of a group: refusals 3, 8 and 10.
-pub fn enter_group(s: &[u8], table: &[u16], a: Terms, at: usize, d: Depth, t: Tally) -> Walk
+pub fn enter_group(s: &[u8], groups: &[u16], a: Terms, at: usize, d: Depth, t: Tally) -> Walk
     requires { ⌜ At (now s) at 0x11 ⌝ }
     requires { ⌜ Room (a .limits) d t ⌝ }
     requires { ⌜ Sane a ⌝ }
-    ensures { λ r. ⌜ OpenRead (rules-of a (now (table .entry))) (now (s .entry)) d (in-group-of d) at t (a-group t) 2 1 65535 r ⌝ }
+    ensures { λ r. ⌜ ((steps : List ℕ) → OpenRead (rules-of a steps (now (groups .entry))) (now (s .entry)) d (in-group-of d) at t (a-group t) 2 1 65535 r) ⌝ }
 {
     if s.len() - at < 2 {
         return refused(3, s.len(), t);
@@ -128,7 +128,7 @@ pub fn enter_group(s: &[u8], table: &[u16], a: Terms, at: usize, d: Depth, t: Ta
     if bounds.nodes <= t.nodes {
         return refused(10, at, t);
     }
-    let p = price(table, s[at + 1]);
+    let p = price(groups, s[at + 1]);
     Walk {
         refusal: 0,
         at: at + 2,
@@ -145,7 +145,7 @@ pub fn leave_group(s: &[u8], a: Terms, at: usize, t: Tally, i: Tally) -> Walk
     requires { ⌜ (t .size ≤ i .size) × (i .size + 3 * t .nodes + 1 ≤ t .size + 3 * i .nodes) ⌝ }
     requires { ⌜ i .cost + 4294967296 * t .nodes ≤ t .cost + 4294967296 * i .nodes ⌝ }
     requires { ⌜ (t .steps ≤ i .steps) × (i .steps + t .nodes ≤ t .steps + i .nodes) ⌝ }
-    ensures { λ r. ⌜ ((table : List ℕ) (d : Depth) → CloseRead (rules-of a table) (now (s .entry)) d at t i (a-group t) r) ⌝ }
+    ensures { λ r. ⌜ ((steps groups : List ℕ) (d : Depth) → CloseRead (rules-of a steps groups) (now (s .entry)) d at t i (a-group t) r) ⌝ }
 {
     if at == s.len() {
         return refused(3, at, t);
@@ -171,7 +171,7 @@ pub fn enter_repeat(s: &[u8], a: Terms, at: usize, d: Depth, t: Tally) -> Walk
     requires { ⌜ At (now s) at 0x20 ⌝ }
     requires { ⌜ Room (a .limits) d t ⌝ }
     requires { ⌜ Sane a ⌝ }
-    ensures { λ r. ⌜ ((table : List ℕ) → OpenRead (rules-of a table) (now (s .entry)) d (in-repeat-of d) at t (repeat-at (now (s .entry)) at t) 0 0 4294967295 r) ⌝ }
+    ensures { λ r. ⌜ ((steps groups : List ℕ) → OpenRead (rules-of a steps groups) (now (s .entry)) d (in-repeat-of d) at t (repeat-at (now (s .entry)) at t) 0 0 4294967295 r) ⌝ }
     ensures { λ r. ⌜ (r .refusal ≡ 0 → (a .folds ≡ true) × (2 ≤ word-at (now (s .entry)) (at + 1)) × (at + 5 ≤ length (now (s .entry)))) ⌝ }
 {
     if !a.folds {
@@ -209,7 +209,7 @@ pub fn leave_repeat(s: &[u8], a: Terms, at: usize, o: Operands, t: Tally, i: Tal
     requires { ⌜ (t .nodes + i .siblings ≤ i .nodes) × (i .nodes ≤ a .limits .nodes) ⌝ }
     requires { ⌜ (t .size ≤ i .size) × (i .size + 3 * t .nodes ≤ t .size + 3 * i .nodes) × (i .cost + 4294967296 * t .nodes ≤ t .cost + 4294967296 * i .nodes + 4294967296) ⌝ }
     requires { ⌜ (t .steps ≤ i .steps) × (i .steps + t .nodes ≤ t .steps + i .nodes) ⌝ }
-    ensures { λ r. ⌜ ((table : List ℕ) (d : Depth) → CloseRead (rules-of a table) (now (s .entry)) d at t i (a-repeat (o .count) (o .width) t) r) ⌝ }
+    ensures { λ r. ⌜ ((steps groups : List ℕ) (d : Depth) → CloseRead (rules-of a steps groups) (now (s .entry)) d at t i (a-repeat (o .count) (o .width) t) r) ⌝ }
 {
     if at == s.len() {
         return refused(3, at, t);

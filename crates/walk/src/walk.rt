@@ -18,11 +18,19 @@ ghost use lib.ListN.{length};
 ghost use Rattle.walk.specs.Walk.{At, NoClose, Room, Sane, ItemRead, SequenceRead, rules-of};
 
 // The items from `at` on, up to the end of the input or to a close.
-pub fn sequence(s: &[u8], table: &[u16], a: Terms, at: usize, d: Depth, t: Tally) -> Walk
+pub fn sequence(
+    s: &[u8],
+    steps: &[u16],
+    groups: &[u16],
+    a: Terms,
+    at: usize,
+    d: Depth,
+    t: Tally,
+) -> Walk
     requires { ⌜ at ≤ length (now s) ⌝ }
     requires { ⌜ Room (a .limits) d t ⌝ }
     requires { ⌜ Sane a ⌝ }
-    ensures { λ r. ⌜ SequenceRead (rules-of a (now (table .entry))) (now (s .entry)) d at t r ⌝ }
+    ensures { λ r. ⌜ SequenceRead (rules-of a (now (steps .entry)) (now (groups .entry))) (now (s .entry)) d at t r ⌝ }
 {
     let mut p = at;
     let mut now = t;
@@ -42,7 +50,7 @@ pub fn sequence(s: &[u8], table: &[u16], a: Terms, at: usize, d: Depth, t: Tally
                 tally: now,
             };
         }
-        let w = item(s, table, a, p, d, now);
+        let w = item(s, steps, groups, a, p, d, now);
         if w.refusal != 0 {
             return w;
         }
@@ -57,33 +65,33 @@ pub fn sequence(s: &[u8], table: &[u16], a: Terms, at: usize, d: Depth, t: Tally
 }
 
 // The item at `at`, which is no close.
-fn item(s: &[u8], table: &[u16], a: Terms, at: usize, d: Depth, t: Tally) -> Walk
+fn item(s: &[u8], steps: &[u16], groups: &[u16], a: Terms, at: usize, d: Depth, t: Tally) -> Walk
     requires { ⌜ NoClose (now s) at ⌝ }
     requires { ⌜ Room (a .limits) d t ⌝ }
     requires { ⌜ Sane a ⌝ }
-    ensures { λ r. ⌜ ItemRead (rules-of a (now (table .entry))) (now (s .entry)) d at t r ⌝ }
+    ensures { λ r. ⌜ ItemRead (rules-of a (now (steps .entry)) (now (groups .entry))) (now (s .entry)) d at t r ⌝ }
 {
     let c = s[at];
     if c == Format::STEP {
-        return step(s, table, a, at, t);
+        return step(s, steps, a, at, t);
     }
     if c == Format::GROUP {
-        return group(s, table, a, at, d, t);
+        return group(s, steps, groups, a, at, d, t);
     }
     if c == Format::REPEAT {
-        return repeat(s, table, a, at, d, t);
+        return repeat(s, steps, groups, a, at, d, t);
     }
     refused(1, at, t)
 }
 
 // The group at `at`.
-fn group(s: &[u8], table: &[u16], a: Terms, at: usize, d: Depth, t: Tally) -> Walk
+fn group(s: &[u8], steps: &[u16], groups: &[u16], a: Terms, at: usize, d: Depth, t: Tally) -> Walk
     requires { ⌜ At (now s) at 0x11 ⌝ }
     requires { ⌜ Room (a .limits) d t ⌝ }
     requires { ⌜ Sane a ⌝ }
-    ensures { λ r. ⌜ ItemRead (rules-of a (now (table .entry))) (now (s .entry)) d at t r ⌝ }
+    ensures { λ r. ⌜ ItemRead (rules-of a (now (steps .entry)) (now (groups .entry))) (now (s .entry)) d at t r ⌝ }
 {
-    let e = enter_group(s, table, a, at, d, t);
+    let e = enter_group(s, groups, a, at, d, t);
     if e.refusal != 0 {
         return e;
     }
@@ -93,7 +101,7 @@ fn group(s: &[u8], table: &[u16], a: Terms, at: usize, d: Depth, t: Tally) -> Wa
         groups: d.groups + 1,
         repeats: d.repeats,
     };
-    let w = sequence(s, table, a, from, deeper, inner);
+    let w = sequence(s, steps, groups, a, from, deeper, inner);
     if w.refusal != 0 {
         return w;
     }
@@ -103,11 +111,11 @@ fn group(s: &[u8], table: &[u16], a: Terms, at: usize, d: Depth, t: Tally) -> Wa
 }
 
 // The repeat at `at`.
-fn repeat(s: &[u8], table: &[u16], a: Terms, at: usize, d: Depth, t: Tally) -> Walk
+fn repeat(s: &[u8], steps: &[u16], groups: &[u16], a: Terms, at: usize, d: Depth, t: Tally) -> Walk
     requires { ⌜ At (now s) at 0x20 ⌝ }
     requires { ⌜ Room (a .limits) d t ⌝ }
     requires { ⌜ Sane a ⌝ }
-    ensures { λ r. ⌜ ItemRead (rules-of a (now (table .entry))) (now (s .entry)) d at t r ⌝ }
+    ensures { λ r. ⌜ ItemRead (rules-of a (now (steps .entry)) (now (groups .entry))) (now (s .entry)) d at t r ⌝ }
 {
     let e = enter_repeat(s, a, at, d, t);
     if e.refusal != 0 {
@@ -123,7 +131,7 @@ fn repeat(s: &[u8], table: &[u16], a: Terms, at: usize, d: Depth, t: Tally) -> W
         groups: d.groups,
         repeats: d.repeats + 1,
     };
-    let w = sequence(s, table, a, from, deeper, inner);
+    let w = sequence(s, steps, groups, a, from, deeper, inner);
     if w.refusal != 0 {
         return w;
     }

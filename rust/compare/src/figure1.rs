@@ -137,7 +137,8 @@ impl Tables {
         let (base, folds) = (self.siblings.labels.len(), self.siblings.folds.len());
         while at < run.len() && run[at] != 0x12 {
             let (begin, start) = (at, self.siblings.folds.len());
-            let mut weight = prices.labels[run[at + 1] as usize] as u32;
+            let table = if run[at] == 0x11 { &prices.groups } else { &prices.steps };
+            let mut weight = table[run[at + 1] as usize] as u32;
             self.siblings.folds.extend(&run[at..at + 2]);
             at += 2;
             if run[begin] == 0x11 {

@@ -28,17 +28,27 @@ impl Answer {
     }
 }
 
-/// The prices of labels and repeats.
+/// The prices of steps and of groups by their labels, and of repeats.
 #[derive(Clone, Debug, PartialEq, Eq)]
 pub struct Prices {
-    pub labels: Vec<u16>,
+    pub steps: Vec<u16>,
+    pub groups: Vec<u16>,
     pub first: u16,
     pub each: u16,
 }
 
 impl Prices {
-    fn label(&self, label: u8) -> u64 {
-        self.labels[label as usize] as u64
+    /// One price for each label, whether a step or a group bears it.
+    pub fn by_label(labels: Vec<u16>, first: u16, each: u16) -> Prices {
+        Prices { steps: labels.clone(), groups: labels, first, each }
+    }
+
+    fn step(&self, label: u8) -> u64 {
+        self.steps[label as usize] as u64
+    }
+
+    fn group(&self, label: u8) -> u64 {
+        self.groups[label as usize] as u64
     }
 
     fn repeat(&self, count: usize) -> u64 {
@@ -166,12 +176,13 @@ fn read(bytes: &[u8], limit: Option<usize>, prices: Option<&Prices>) -> Result<A
                     return refuse(10);
                 }
                 nodes += 1;
-                cost += prices.map_or(0, |p| p.label(bytes[at + 1]));
                 if command == 0x10 {
+                    cost += prices.map_or(0, |p| p.step(bytes[at + 1]));
                     siblings += 1;
                     length += 2;
                     just_opened = false;
                 } else {
+                    cost += prices.map_or(0, |p| p.group(bytes[at + 1]));
                     open.push(Open {
                         close: 0x12,
                         count: 1,
@@ -255,10 +266,13 @@ pub fn read_run(run: &[u8]) -> Answer {
     either(read(run, None, None).map(|a| Answer { length: 0, ..a }))
 }
 
-/// Refusals 11 and 12, for those who take a table and a limit.
+/// Refusals 11, 15 and 12, for those who take tables and a limit.
 fn terms(limit: usize, prices: Option<&Prices>) -> Result<(), Answer> {
-    if prices.is_some_and(|p| p.labels.len() != 256) {
+    if prices.is_some_and(|p| p.steps.len() != 256) {
         return Err(Answer::refuse(11, 0));
+    }
+    if prices.is_some_and(|p| p.groups.len() != 256) {
+        return Err(Answer::refuse(15, 0));
     }
     if limit > 1024 {
         return Err(Answer::refuse(12, 0));
@@ -369,13 +383,13 @@ pub fn cheapest(nodes: &[Item], limit: usize, prices: &Prices) -> (u64, Vec<u8>)
         .iter()
         .map(|node| {
             vec![match node {
-                Item::Step(label) => (prices.label(*label), vec![0x10, *label]),
+                Item::Step(label) => (prices.step(*label), vec![0x10, *label]),
                 Item::Group(label, body) => {
                     let (cost, bytes) = cheapest(body, limit, prices);
                     let mut whole = vec![0x11, *label];
                     whole.extend(bytes);
                     whole.push(0x12);
-                    (prices.label(*label) + cost, whole)
+                    (prices.group(*label) + cost, whole)
                 }
                 Item::Repeat(..) => unreachable!("a run has no repeats"),
             }]
@@ -401,8 +415,8 @@ pub fn cheapest_cost(nodes: &[Item], limit: usize, prices: &Prices) -> u64 {
     let mut best = vec![vec![u64::MAX; n + 1]; n];
     for (i, node) in nodes.iter().enumerate() {
         best[i][1] = match node {
-            Item::Step(label) => prices.label(*label),
-            Item::Group(label, body) => prices.label(*label) + cheapest_cost(body, limit, prices),
+            Item::Step(label) => prices.step(*label),
+            Item::Group(label, body) => prices.group(*label) + cheapest_cost(body, limit, prices),
             Item::Repeat(..) => unreachable!("a run has no repeats"),
         };
     }

@@ -44,7 +44,8 @@ impl Bench {
         let status = raw::fold(
             run,
             MAX_WIDTH,
-            &prices.labels,
+            &prices.steps,
+            &prices.groups,
             prices.first,
             prices.each,
             &mut self.costs,
@@ -129,15 +130,17 @@ pub fn price_sets() -> [(&'static str, Prices); 4] {
     let r = &mut Random::new(2008);
     let ones = vec![1; 256];
     [
-        ("unit", Prices { labels: ones.clone(), first: 1, each: 0 }),
-        ("first 0, each 0", Prices { labels: ones.clone(), first: 0, each: 0 }),
-        ("first 0, each 1", Prices { labels: ones, first: 0, each: 1 }),
+        ("unit", Prices::by_label(ones.clone(), 1, 0)),
+        ("first 0, each 0", Prices::by_label(ones.clone(), 0, 0)),
+        ("first 0, each 1", Prices::by_label(ones, 0, 1)),
         (
             "random",
-            Prices {
-                labels: (0..256).map(|_| 1 + r.below(1000) as u16).collect(),
-                first: r.below(2000) as u16,
-                each: r.below(100) as u16,
+            // Drawn in this order, so that adding a price leaves the others as they were.
+            {
+                let steps = (0..256).map(|_| 1 + r.below(1000) as u16).collect();
+                let (first, each) = (r.below(2000) as u16, r.below(100) as u16);
+                let groups = (0..256).map(|_| 1 + r.below(1000) as u16).collect();
+                Prices { steps, groups, first, each }
             },
         ),
     ]

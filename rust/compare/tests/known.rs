@@ -8,7 +8,7 @@ use runfold::{fold, folded, part, read_fold, read_run, unroll, work_entries, Fol
 const UNIT: [u16; 256] = [1; 256];
 
 fn prices(first: u16, each: u16) -> Prices<'static> {
-    Prices { labels: &UNIT, first, each }
+    Prices { steps: &UNIT, groups: &UNIT, first, each }
 }
 
 fn bytes(hex: &str) -> Vec<u8> {
@@ -28,7 +28,8 @@ fn check(run: &[u8], limit: usize, prices: Prices, expected: &[u8], cost: u64) {
     let mut back = vec![0; run.len()];
     assert_eq!(unroll(expected, limit, &mut back), Ok(run.len()));
     assert_eq!(back, run);
-    let same = reference::Prices { labels: UNIT.to_vec(), first: prices.first, each: prices.each };
+    let Prices { steps, groups, first, each } = prices;
+    let same = reference::Prices { steps: steps.to_vec(), groups: groups.to_vec(), first, each };
     let solved = reference::solve(run, limit, &same).unwrap();
     assert_eq!((solved.bytes, solved.cost), (expected.to_vec(), cost));
 }
@@ -48,6 +49,48 @@ fn known_folds() {
     let twice = bytes("20 0002 0001 1105 20 0003 0001 1001 21 12 21");
     check(&group.repeat(2), 1024, unit, &twice, 4);
     check(&group.repeat(2), 1, unit, &twice, 4);
+}
+
+#[test]
+fn groups_priced_apart() {
+    // Every group costs 4, all else is at unit costs.
+    let dear = |first| Prices { groups: &[4; 256], ..prices(first, 0) };
+    let group = bytes("1105 1001 1001 1001 12");
+    check(&group.repeat(2), 1024, dear(1), &bytes("20 0002 0001 1105 20 0003 0001 1001 21 12 21"), 7);
+    // Two groups are repeated where a group is dear, and are not where it is cheap.
+    let small = bytes("1105 1001 12");
+    check(&small.repeat(2), 1024, dear(3), &bytes("20 0002 0001 1105 1001 12 21"), 8);
+    check(&small.repeat(2), 1024, prices(3, 0), &small.repeat(2), 4);
+    // Steps by their table and groups by theirs, whatever the label: 9 + 2 + 5 + 3 + 1 + 2.
+    let (mut steps, mut groups) = (UNIT, UNIT);
+    (steps[1], steps[2]) = (2, 3);
+    (groups[1], groups[2], groups[5]) = (5, 1, 9);
+    let run = bytes("1105 1001 1101 1002 12 12 1102 1001 12");
+    check(&run, 1024, Prices { steps: &steps, groups: &groups, first: 1, each: 0 }, &run, 22);
+}
+
+#[test]
+fn tables_of_other_sizes() {
+    let ones = [1; 300];
+    for steps in [0, 255, 256, 257] {
+        for groups in [0, 255, 256, 257] {
+            let lent = Prices { steps: &ones[..steps], groups: &ones[..groups], first: 1, each: 0 };
+            // 11 before 15, 15 before 12, and 12 before the commands.
+            let refusal = match (steps, groups) {
+                (256, 256) => LimitSize,
+                (256, _) => GroupTableSize,
+                _ => TableSize,
+            };
+            assert_eq!(read_fold(&[0x13], 1025, lent), Err(refusal), "{steps} and {groups}");
+            assert_eq!(folded(&[0x13], 1025, lent), Err(refusal), "{steps} and {groups}");
+        }
+    }
+    // 15 before every command.
+    let lent = Prices { groups: &ones[..255], ..prices(1, 0) };
+    for command in 0..=u8::MAX {
+        assert_eq!(read_fold(&[command], 1024, lent), Err(GroupTableSize));
+        assert_eq!(folded(&[command], 1024, lent), Err(GroupTableSize));
+    }
 }
 
 /// A run and one of its folds have these nodes, steps and depth; the fold has this cost at unit costs.
@@ -136,9 +179,12 @@ fn numbered_refusals() {
         assert_eq!(read_fold(&fold, limit, unit), Err(refusal));
         assert_eq!(unroll(&fold, limit, &mut [0; 64]), Err(refusal));
     }
-    let short = Prices { labels: &UNIT[..255], first: 1, each: 0 };
+    let short = Prices { steps: &UNIT[..255], ..unit };
     assert_eq!(read_fold(&[], 1025, short), Err(TableSize));
     assert_eq!(folded(&[], 1025, short), Err(TableSize));
+    let short = Prices { groups: &UNIT[..255], ..unit };
+    assert_eq!(read_fold(&[], 1025, short), Err(GroupTableSize));
+    assert_eq!(folded(&[], 1025, short), Err(GroupTableSize));
     assert_eq!(folded(&[], 1025, unit), Err(LimitSize));
     let run = word("aa");
     let mut out = [0; 8];

@@ -1,14 +1,14 @@
 //! The run folder. A *run* is a record of steps and nested groups of steps, as bytes. A *fold* is the same run with nested
-//! repeats, priced by label costs and repeat prices. The folder gives the cheapest fold of a run, the fold reader reads a fold
+//! repeats, priced by the costs of steps, of groups and of repeats. The folder gives the cheapest fold of a run, the fold reader reads a fold
 //! and gives its cost, the unroller gives the run back. `docs/FORMAT.md` has the bytes of both.
 //!
 //! ```
 //! use runfold::{folded, unroll, Prices, MAX_WIDTH, RUN_ROOM};
 //!
 //! fn main() -> Result<(), Box<dyn std::error::Error>> {
-//!     // aaa, three steps of label 01. Every label costs 1, and so does a repeat of any count.
+//!     // aaa, three steps of label 01. Every step and every group costs 1, and so does a repeat of any count.
 //!     let run = [0x10, 0x01, 0x10, 0x01, 0x10, 0x01];
-//!     let prices = Prices { labels: &[1; 256], first: 1, each: 0 };
+//!     let prices = Prices { steps: &[1; 256], groups: &[1; 256], first: 1, each: 0 };
 //!
 //!     // A repeat of count 3 and width 1 over one step.
 //!     let (fold, cost) = folded(&run, MAX_WIDTH, prices)?;
@@ -87,11 +87,13 @@ pub const fn work_entries(nodes: usize) -> usize {
 /// The bytes of stack that a call takes at most, as measured: what a thread that folds has to have left.
 pub const STACK: usize = 98_304;
 
-/// What labels and repeats cost.
+/// What steps, groups and repeats cost.
 #[derive(Clone, Copy, Debug, PartialEq, Eq, Hash)]
 pub struct Prices<'a> {
-    /// The cost of each label, 256 entries; any other number of entries is [`Refusal::TableSize`].
-    pub labels: &'a [u16],
+    /// What a step costs by its label, 256 entries; any other number of entries is [`Refusal::TableSize`].
+    pub steps: &'a [u16],
+    /// What a group costs by its label, beside what it holds, 256 entries; any other number is [`Refusal::GroupTableSize`].
+    pub groups: &'a [u16],
     /// What a repeat of count 2 costs, beside its body.
     pub first: u16,
     /// What each count more costs: a repeat costs `first + each × (count − 2)`.
@@ -176,10 +178,11 @@ pub fn part(run: &[u8], at: usize) -> &[u8] {
 /// Reads a fold whose widths are at most `limit`, and gives the nodes, bytes, steps and depth of its run and its cost at these
 /// prices.
 ///
-/// Refusals 1 and 3 to 12.
+/// Refusals 1, 3 to 12 and 15.
 pub fn read_fold(fold: &[u8], limit: usize, prices: Prices) -> Result<FoldReading, Refusal> {
     let mut answer = [0; raw::ENTRIES];
-    let status = raw::read_fold(fold, limit, prices.labels, prices.first, prices.each, &mut answer);
+    let Prices { steps, groups, first, each } = prices;
+    let status = raw::read_fold(fold, limit, steps, groups, first, each, &mut answer);
     answered(status, &answer)?;
     Ok(FoldReading {
         nodes: answer[raw::NODES] as usize,
@@ -211,7 +214,7 @@ pub fn unroll(fold: &[u8], limit: usize, out: &mut [u8]) -> Result<usize, Refusa
 /// On success and after refusal 14 the entries of both work slices that the run needs are 0, and those behind them as they
 /// were; after any other refusal all are as they were.
 ///
-/// Refusals 1 to 5, 8 and 10 to 14.
+/// Refusals 1 to 5, 8 and 10 to 15.
 ///
 /// ```
 /// use runfold::{fold, fold_room, work_entries, Folding, Prices, Refusal, MAX_WIDTH};
@@ -222,7 +225,7 @@ pub fn unroll(fold: &[u8], limit: usize, out: &mut [u8]) -> Result<usize, Refusa
 /// let mut out = [0; fold_room(NODES)];
 ///
 /// let run = [0x10, 0x01, 0x10, 0x01, 0x10, 0x01];
-/// let prices = Prices { labels: &[1; 256], first: 1, each: 0 };
+/// let prices = Prices { steps: &[1; 256], groups: &[1; 256], first: 1, each: 0 };
 /// let folding = fold(&run, MAX_WIDTH, prices, &mut costs, &mut choices, &mut out)?;
 /// assert_eq!(folding, Folding { length: 8, cost: 2 });
 /// assert_eq!(out[..folding.length], [0x20, 0x00, 0x03, 0x00, 0x01, 0x10, 0x01, 0x21]);
@@ -237,14 +240,15 @@ pub fn fold(
     out: &mut [u8],
 ) -> Result<Folding, Refusal> {
     let mut answer = [0; raw::ENTRIES];
-    let status = raw::fold(run, limit, prices.labels, prices.first, prices.each, costs, choices, out, &mut answer);
+    let Prices { steps, groups, first, each } = prices;
+    let status = raw::fold(run, limit, steps, groups, first, each, costs, choices, out, &mut answer);
     answered(status, &answer)?;
     Ok(Folding { length: answer[raw::LENGTH] as usize, cost: answer[raw::COST] })
 }
 
 /// Folds a run as [`fold`] does, in memory of its own, and gives the bytes of the fold and its cost.
 ///
-/// Refusals 1 to 5, 8 and 10 to 12.
+/// Refusals 1 to 5, 8, 10 to 12 and 15.
 pub fn folded(run: &[u8], limit: usize, prices: Prices) -> Result<(Vec<u8>, u64), Refusal> {
     // A refused run needs no memory: the folder below says which refusal comes first.
     let nodes = read_run(run).map_or(0, |reading| reading.nodes);

@@ -11,7 +11,7 @@ use crate::declared;
 pub const ENTRIES: usize = 7;
 /// Where the refusal number stands in an answer, 0 for success.
 pub const REFUSAL: usize = 0;
-/// Where the place of a refusal stands: an offset in the input, 0 for refusals 11 to 14 and on success.
+/// Where the place of a refusal stands: an offset in the input, 0 for refusals 11 to 15 and on success.
 pub const PLACE: usize = 1;
 /// Where the nodes of the run stand (run reader, fold reader).
 pub const NODES: usize = 2;
@@ -44,16 +44,26 @@ pub fn part(run: &[u8], at: usize) -> usize {
 }
 
 /// The fold reader: as [`read_fold`](crate::read_fold), with [`NODES`], [`LENGTH`], [`COST`], [`STEPS`] and [`DEPTH`] in the
-/// answer. `table` has the label costs.
-pub fn read_fold(fold: &[u8], limit: usize, table: &[u16], first: u16, each: u16, answer: &mut [u64]) -> u8 {
+/// answer. `steps` and `groups` have the costs of the labels, as [`Prices`](crate::Prices) says.
+pub fn read_fold(
+    fold: &[u8],
+    limit: usize,
+    steps: &[u16],
+    groups: &[u16],
+    first: u16,
+    each: u16,
+    answer: &mut [u64],
+) -> u8 {
     // SAFETY: see above.
     unsafe {
         declared::runfold_read_fold(
             fold.as_ptr(),
             fold.len(),
             limit,
-            table.as_ptr(),
-            table.len(),
+            steps.as_ptr(),
+            steps.len(),
+            groups.as_ptr(),
+            groups.len(),
             first,
             each,
             answer.as_mut_ptr(),
@@ -78,12 +88,14 @@ pub fn unroll(fold: &[u8], limit: usize, out: &mut [u8], answer: &mut [u64]) -> 
     }
 }
 
-/// The folder: as [`fold`](crate::fold), with [`LENGTH`] and [`COST`] in the answer. `table` has the label costs.
+/// The folder: as [`fold`](crate::fold), with [`LENGTH`] and [`COST`] in the answer. `steps` and `groups` have the costs of
+/// the labels, as [`Prices`](crate::Prices) says.
 #[allow(clippy::too_many_arguments)] // The C function has them.
 pub fn fold(
     run: &[u8],
     limit: usize,
-    table: &[u16],
+    steps: &[u16],
+    groups: &[u16],
     first: u16,
     each: u16,
     costs: &mut [u32],
@@ -97,8 +109,10 @@ pub fn fold(
             run.as_ptr(),
             run.len(),
             limit,
-            table.as_ptr(),
-            table.len(),
+            steps.as_ptr(),
+            steps.len(),
+            groups.as_ptr(),
+            groups.len(),
             first,
             each,
             costs.as_mut_ptr(),

@@ -6,7 +6,7 @@ use core::fmt;
 /// Why an input was refused: one variant for each number of `docs/REFUSALS.md`, which has an example of each and the order in
 /// which they are looked for.
 ///
-/// The place is an offset in the input: that of the command that is refused, or for 3 the input's size. Refusals 11 to 14 have
+/// The place is an offset in the input: that of the command that is refused, or for 3 the input's size. Refusals 11 to 15 have
 /// none, which counts as 0. `{}` shows number, place and condition; `?` out of `main` shows the variant.
 ///
 /// ```
@@ -71,7 +71,7 @@ pub enum Refusal {
         /// The command's offset.
         place: usize,
     },
-    /// 11: the label costs are not 256 entries.
+    /// 11: the costs of steps are not 256 entries.
     TableSize,
     /// 12: the width limit is over 1,024.
     LimitSize,
@@ -79,13 +79,15 @@ pub enum Refusal {
     WorkSize,
     /// 14: the output is shorter than the result.
     OutputSize,
+    /// 15: the costs of groups are not 256 entries.
+    GroupTableSize,
 }
 
 use Refusal::*;
 
 impl Refusal {
     /// The refusal of a number and a place, as the functions of [`raw`](crate::raw) answer them; none for 0 and for numbers
-    /// that this version does not know. 11 to 14 have no place.
+    /// that this version does not know. 11 to 15 have no place.
     pub const fn numbered(number: u8, place: usize) -> Option<Refusal> {
         Some(match number {
             1 => UnknownCommand { place },
@@ -102,11 +104,12 @@ impl Refusal {
             12 => LimitSize,
             13 => WorkSize,
             14 => OutputSize,
+            15 => GroupTableSize,
             _ => return None,
         })
     }
 
-    /// Its number, 1 to 14.
+    /// Its number, 1 to 15.
     pub const fn number(self) -> u8 {
         match self {
             UnknownCommand { .. } => 1,
@@ -123,6 +126,7 @@ impl Refusal {
             LimitSize => 12,
             WorkSize => 13,
             OutputSize => 14,
+            GroupTableSize => 15,
         }
     }
 
@@ -139,7 +143,7 @@ impl Refusal {
             | Deep { place }
             | FalseWidth { place }
             | ManyNodes { place } => place,
-            TableSize | LimitSize | WorkSize | OutputSize => 0,
+            TableSize | LimitSize | WorkSize | OutputSize | GroupTableSize => 0,
         }
     }
 
@@ -156,10 +160,11 @@ impl Refusal {
             Deep { .. } => "a 9th open group or an 11th open repeat",
             FalseWidth { .. } => "width operand not the true width, found at 21",
             ManyNodes { .. } => "node total would pass 1,024",
-            TableSize => "cost table not of 256 entries",
+            TableSize => "step cost table not of 256 entries",
             LimitSize => "width limit over 1,024",
             WorkSize => "a work slice too short",
             OutputSize => "output shorter than the result",
+            GroupTableSize => "group cost table not of 256 entries",
         }
     }
 }
@@ -179,12 +184,12 @@ mod tests {
 
     #[test]
     fn numbers_and_places_come_back() {
-        for number in 1..=14 {
+        for number in 1..=15 {
             let refusal = Refusal::numbered(number, 7).expect("a refusal");
             assert_eq!(refusal.number(), number);
             assert_eq!(refusal.place(), if number <= 10 { 7 } else { 0 });
         }
-        for other in [0, 15, crate::raw::SHORT] {
+        for other in [0, 16, crate::raw::SHORT] {
             assert_eq!(Refusal::numbered(other, 0), None);
         }
     }

@@ -1,5 +1,6 @@
 -- `read_fold` meets its contract.
 use borrow.Author.Needs.{needs}
+use Rattle.format.specs.Limits.{tariff}
 use Rattle.reader.proofs.Answers.{with-meaning}
 use Rattle.reader.proofs.read_fold.Statement.{statement}
 use Rattle.reader.proofs.read_fold.Tie as tie
@@ -9,9 +10,9 @@ read-headed-requires c κs = search needs
 
 returns : tie.Need-returns
 returns c =
-    let known = c .before .before in
+    let known = c .before .before .before in
     let a = known .before .args in
-    with-meaning (a .fold .now) (a .table .now) (a .limit) (a .first) (a .each) (λ i. known .shared-slice-known .given i .fits)
+    with-meaning (a .fold .now) (a .limit) (tariff (a .steps .now) (a .groups .now) (a .first) (a .each)) (λ i. known .shared-slice-known .given i .fits)
     (c .read-headed .result) (c .read-headed .ensures)
 
 pub read-fold-spec : {M : Type 1} → statement M

@@ -27,19 +27,20 @@ const ENTRY_NAMES: [&str; 5] = ["run reader", "part of a node", "fold reader", "
 const POSSIBLE: [&[u8]; 5] = [
     &[1, 2, 3, 4, 5, 8, 10],
     &[],
-    &[1, 3, 4, 5, 6, 7, 8, 9, 10, 11, 12],
+    &[1, 3, 4, 5, 6, 7, 8, 9, 10, 11, 12, 15],
     &[1, 3, 4, 5, 6, 7, 8, 9, 10, 12, 14],
-    &[1, 2, 3, 4, 5, 8, 10, 11, 12, 13, 14],
+    &[1, 2, 3, 4, 5, 8, 10, 11, 12, 13, 14, 15],
 ];
 
 struct Compare {
     seed: u64,
     random: Random,
     calls: [u64; 5],
-    refusals: [[u64; 15]; 5],
+    refusals: [[u64; 16]; 5],
     short_answers: u64,
     against_trial: u64,
     written: u64,
+    unlike_tables: u64,
     against_cost: u64,
     longest: usize,
     deepest: usize,
@@ -52,14 +53,15 @@ fn hex(bytes: &[u8]) -> String {
     })
 }
 
-/// Prices in few words: the label costs are in hexadecimal, four digits each, where they differ.
+/// Prices in few words: the costs of a table are in hexadecimal, four digits each, where they differ.
 fn shown(prices: &Prices) -> String {
-    let labels = &prices.labels;
-    let costs = match labels.first() {
-        Some(cost) if labels.iter().all(|other| other == cost) => format!("all {cost}"),
-        _ => labels.iter().map(|cost| format!("{cost:04X}")).collect(),
+    let table = |costs: &[u16]| match costs.first() {
+        Some(cost) if costs.iter().all(|other| other == cost) => format!("all {cost}"),
+        _ => costs.iter().map(|cost| format!("{cost:04X}")).collect(),
     };
-    format!("{} label costs {costs}, first {}, each {}", labels.len(), prices.first, prices.each)
+    let Prices { steps, groups, first, each } = prices;
+    let [a, b] = [steps, groups].map(|costs| format!("{} costs {}", costs.len(), table(costs)));
+    format!("steps: {a}, groups: {b}, first {first}, each {each}")
 }
 
 /// Entries that no call writes by chance: each says where it stands.
@@ -172,7 +174,8 @@ impl Compare {
     fn fold_reader(&mut self, fold: &[u8], limit: usize, prices: &Prices) {
         let call = || format!("limit {limit}, {}", shown(prices));
         let mut answer = self.answer_slice();
-        let status = raw::read_fold(fold, limit, &prices.labels, prices.first, prices.each, &mut answer);
+        let Prices { steps, groups, first, each } = prices;
+        let status = raw::read_fold(fold, limit, steps, groups, *first, *each, &mut answer);
         let expected = reference::read_fold(fold, limit, prices);
         self.check_answer(Entry::Fold, fold, &call, status, &answer, expected);
     }
@@ -220,7 +223,8 @@ impl Compare {
         let status = raw::fold(
             run,
             limit,
-            &prices.labels,
+            &prices.steps,
+            &prices.groups,
             prices.first,
             prices.each,
             &mut costs,
@@ -243,6 +247,10 @@ impl Compare {
         self.check_slice(Entry::Folder, run, &call, "second work slice", &choices, &choices_after);
         if enough && expected.refusal == 0 {
             self.written += 1;
+            if prices.steps != prices.groups {
+                let read = reference::read_run(run);
+                self.unlike_tables += u64::from(read.steps < read.nodes);
+            }
             self.longest = self.longest.max(nodes);
         }
     }
@@ -260,35 +268,41 @@ impl Compare {
 
     fn prices(&mut self) -> Prices {
         let r = &mut self.random;
-        let mut prices = match r.below(8) {
-            0 | 1 => unit(),
-            2 => Prices { labels: vec![1; 256], first: 0, each: r.below(2) as u16 },
-            3 => Prices { labels: vec![1; 256], first: 1, each: r.below(6) as u16 },
-            4 => Prices {
-                labels: (0..256).map(|_| r.below(4) as u16).collect(),
-                first: r.below(4) as u16,
-                each: r.below(3) as u16,
-            },
-            5 => Prices {
-                labels: (0..256).map(|_| r.below(65536) as u16).collect(),
-                first: r.below(65536) as u16,
-                each: r.below(65536) as u16,
-            },
-            6 => Prices {
-                labels: (0..256).map(|_| r.below(1000) as u16).collect(),
-                first: r.below(3000) as u16,
-                each: r.below(100) as u16,
-            },
-            _ => Prices {
-                labels: vec![*r.pick(&[0, 1, 65535]); 256],
-                first: *r.pick(&[0, 1, 2, 65535]),
-                each: *r.pick(&[0, 1, 65535]),
-            },
+        let (steps, first, each): (Vec<u16>, u16, u16) = match r.below(8) {
+            0 | 1 => (vec![1; 256], 1, 0),
+            2 => (vec![1; 256], 0, r.below(2) as u16),
+            3 => (vec![1; 256], 1, r.below(6) as u16),
+            4 => ((0..256).map(|_| r.below(4) as u16).collect(), r.below(4) as u16, r.below(3) as u16),
+            5 => ((0..256).map(|_| r.below(65536) as u16).collect(), r.below(65536) as u16, r.below(65536) as u16),
+            6 => ((0..256).map(|_| r.below(1000) as u16).collect(), r.below(3000) as u16, r.below(100) as u16),
+            _ => (vec![*r.pick(&[0, 1, 65535]); 256], *r.pick(&[0, 1, 2, 65535]), *r.pick(&[0, 1, 65535])),
         };
+        // Groups cost what steps of their labels do; or each what some step does; or all the same; or anything.
+        let groups = match r.below(5) {
+            0 | 1 => steps.clone(),
+            2 => (0..256).map(|_| *r.pick(&steps)).collect(),
+            3 => vec![*r.pick(&[0, 2, 4, 65535]); 256],
+            _ => (0..256).map(|_| r.below(65536) as u16).collect(),
+        };
+        let mut prices = Prices { steps, groups, first, each };
         if r.once_in(60) {
-            let entries = *r.pick(&[0, 1, 255, 257, 300]);
-            prices.labels.resize(entries, 1);
+            let sizes = [0, 1, 255, 257, 300];
+            let which = r.below(3);
+            if which != 1 {
+                prices.steps.resize(*r.pick(&sizes), 1);
+            }
+            if which != 0 {
+                prices.groups.resize(*r.pick(&sizes), 1);
+            }
         }
+        prices
+    }
+
+    /// Prices with tables of the right size.
+    fn sound_prices(&mut self) -> Prices {
+        let mut prices = self.prices();
+        prices.steps.resize(256, 1);
+        prices.groups.resize(256, 1);
         prices
     }
 
@@ -327,7 +341,8 @@ impl Compare {
     /// is the lowest.
     fn cost_alone(&mut self, items: &[Item], limit: usize, prices: &Prices) {
         let run = inputs::bytes_of(items);
-        let lent = runfold::Prices { labels: &prices.labels, first: prices.first, each: prices.each };
+        let Prices { steps, groups, first, each } = prices;
+        let lent = runfold::Prices { steps, groups, first: *first, each: *each };
         let (bytes, cost) = runfold::folded(&run, limit, lent).expect("the run is sound");
         let call = || format!("limit {limit}, {}", shown(prices));
         let lowest = reference::cheapest_cost(items, limit, prices);
@@ -364,7 +379,7 @@ impl Compare {
 }
 
 fn unit() -> Prices {
-    Prices { labels: vec![1; 256], first: 1, each: 0 }
+    Prices::by_label(vec![1; 256], 1, 0)
 }
 
 /// The inputs that stand at the edges of the rules, sound and refused.
@@ -443,7 +458,8 @@ fn main() {
         seed,
         random: Random::new(seed),
         calls: [0; 5],
-        refusals: [[0; 15]; 5],
+        refusals: [[0; 16]; 5],
+        unlike_tables: 0,
         short_answers: 0,
         against_trial: 0,
         written: 0,
@@ -495,16 +511,14 @@ fn main() {
     for n in 0..=6 {
         inputs::every_run(n, &mut |items| {
             for _ in 0..2 {
-                let (limit, mut prices) = (c.limit().min(1024), c.prices());
-                prices.labels.resize(256, 1);
+                let (limit, prices) = (c.limit().min(1024), c.sound_prices());
                 c.trial(items, limit, &prices);
             }
         });
     }
     for n in 7..=10 {
         inputs::every_word(n, &mut |items| {
-            let (limit, mut prices) = (c.limit().min(1024), c.prices());
-            prices.labels.resize(256, 1);
+            let (limit, prices) = (c.limit().min(1024), c.sound_prices());
             c.trial(items, limit, &prices);
         });
     }
@@ -543,8 +557,7 @@ fn main() {
             1 => inputs::deep_run(&mut c.random, nodes, labels, 8),
             _ => inputs::regular_run(&mut c.random, nodes),
         };
-        let (limit, mut prices) = (c.limit().min(1024), c.prices());
-        prices.labels.resize(256, 1);
+        let (limit, prices) = (c.limit().min(1024), c.sound_prices());
         c.cost_alone(&items, limit, &prices);
     }
     done("long runs, by cost");
@@ -572,7 +585,7 @@ fn main() {
             continue;
         }
         let seen: Vec<String> =
-            (0..15).filter(|&n| c.refusals[entry][n] > 0).map(|n| format!("{n}: {}", c.refusals[entry][n])).collect();
+            (0..16).filter(|&n| c.refusals[entry][n] > 0).map(|n| format!("{n}: {}", c.refusals[entry][n])).collect();
         println!("  {:15} {}", ENTRY_NAMES[entry], seen.join("  "));
         for &number in POSSIBLE[entry] {
             if c.refusals[entry][number as usize] == 0 {
@@ -590,8 +603,8 @@ fn main() {
         println!("  {name:15} {calls:9}");
     }
     println!(
-        "  folds written and compared byte for byte: {}; runs held to a trial of every fold: {}; long runs held to the lowest cost: {}",
-        c.written, c.against_trial, c.against_cost
+        "  folds written and compared byte for byte: {}, {} of them with groups priced unlike steps; runs held to a trial of every fold: {}; long runs held to the lowest cost: {}",
+        c.written, c.unlike_tables, c.against_trial, c.against_cost
     );
     println!("  longest run {} nodes, deepest group {} levels", c.longest, c.deepest);
     println!(

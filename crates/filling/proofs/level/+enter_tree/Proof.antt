@@ -19,14 +19,14 @@ use Rattle.filling.proofs.Recursion.{Through, Opening, through-none, th
 use Rattle.filling.proofs.level.+enter_tree.{statement}
 use Rattle.filling.proofs.level.+enter_tree.Tie.{close}
 
-abbrev μ-tree : Measures 16 kinds.ps ℕ
+abbrev μ-tree : Measures 17 kinds.ps ℕ
 μ-tree κs a = length (a .1 .1 .0 .now)
 
-abbrev asked : ℕ → In 16 kinds.ps
-asked t = and 16 kinds.ps (is 16 kinds.ps μ-tree t) reads.Pre
+abbrev asked : ℕ → In 17 kinds.ps
+asked t = and 17 kinds.ps (is 17 kinds.ps μ-tree t) reads.Pre
 
-abbrev asked-below : ℕ → In 16 kinds.ps
-asked-below t = and 16 kinds.ps (falls 16 kinds.ps _<_ μ-tree t) reads.Pre
+abbrev asked-below : ℕ → In 17 kinds.ps
+asked-below t = and 17 kinds.ps (falls 17 kinds.ps _<_ μ-tree t) reads.Pre
 
 abbrev calls : ℕ → lts.Claims
 calls t = (
@@ -41,17 +41,17 @@ calls t = (
 )
 
 abbrev Inv-loop : lts.InvT-loop
-Inv-loop places nexts s level table prices offsets₀ numbers₀ kinds₀ matches₀ extents₀ tails₀ stops₀ seen₀ keys₀ costs₀ choices₀ span q₀ offsets numbers kinds matches extents tails stops seen keys costs choices q =
-    Through (at-most (level .limit)) (prices-of table prices) s (level .span .behind) costs₀ choices₀ costs choices q
+Inv-loop places nexts s level steps groups prices offsets₀ numbers₀ kinds₀ matches₀ extents₀ tails₀ stops₀ seen₀ keys₀ costs₀ choices₀ span q₀ offsets numbers kinds matches extents tails stops seen keys costs choices q =
+    Through (at-most (level .limit)) (prices-of steps groups prices) s (level .span .behind) costs₀ choices₀ costs choices q
     × Scratch offsets numbers kinds matches extents tails stops seen keys
 
 abbrev μ-loop : lts.MeasureT-loop
-μ-loop places nexts s level table prices offsets₀ numbers₀ kinds₀ matches₀ extents₀ tails₀ stops₀ seen₀ keys₀ costs₀ choices₀ span q₀ offsets numbers kinds matches extents tails stops seen keys costs choices q = q
+μ-loop places nexts s level steps groups prices offsets₀ numbers₀ kinds₀ matches₀ extents₀ tails₀ stops₀ seen₀ keys₀ costs₀ choices₀ span q₀ offsets numbers kinds matches extents tails stops seen keys costs choices q = q
 
 module _ (t : ℕ) where
   -- The function's start, from where the loop begins, and from its head.
   abbrev begun : lts.After-span (calls t) (asked t) reads.Post Inv-loop μ-loop → lts.Start (calls t) (asked t) reads.Post Inv-loop μ-loop
-  begun c = c .before .before .before .before .before .before .before .before .before .before .before .before .before .before .before .before .before
+  begun c = c .before .before .before .before .before .before .before .before .before .before .before .before .before .before .before .before .before .before
 
   abbrev start : lts.At-loop (calls t) (asked t) reads.Post Inv-loop μ-loop → lts.Start (calls t) (asked t) reads.Post Inv-loop μ-loop
   start c = begun (c .before)
@@ -84,7 +84,7 @@ module _ (t : ℕ) where
       let S = begun c in
       let a = S .args in
       let A = at-most (a .level .limit) in
-      let P = prices-of (a .table .now) (a .prices .now) in (
+      let P = prices-of (a .steps .now) (a .groups .now) (a .prices .now) in (
         through-none A P (a .s .now) (a .level .span .behind) (a .costs .now) (a .choices .now) (a .level .span .first) (S .pre .1 .1 .1 .listed .numbered),
         S .pre .1 .1 .0,
       )
@@ -144,7 +144,7 @@ module _ (t : ℕ) where
       → (let p = part (group c) in
       let H = head (taken p) in
       let a = start H .args in
-      Opening (a .places .now) (a .nexts .now) (a .s .now) (p .part-of .result .now) (c .inside .result) (a .table .now) (a .prices .now) (H .loop .costs)
+      Opening (a .places .now) (a .nexts .now) (a .s .now) (p .part-of .result .now) (c .inside .result) (a .steps .now) (a .groups .now) (a .prices .now) (H .loop .costs)
       (H .loop .choices))
   opens c =
       let g = group c in

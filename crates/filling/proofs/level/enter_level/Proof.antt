@@ -11,16 +11,16 @@ use Rattle.filling.proofs.level.enter_level.Statement.{statement}
 use Rattle.filling.proofs.level.enter_level.Tie as tie
 
 abbrev Inv-loop : tie.InvT-loop
-Inv-loop places nexts s level table prices offsets numbers kinds matches₀ extents₀ tails₀ stops₀ seen₀ keys₀ costs₀ choices₀ m i₀ matches extents tails stops seen keys costs choices i =
-    (i ≤ m) × Descended s (level .span .behind) (level .limit) table prices costs₀ choices₀ i costs choices matches extents tails stops
+Inv-loop places nexts s level steps groups prices offsets numbers kinds matches₀ extents₀ tails₀ stops₀ seen₀ keys₀ costs₀ choices₀ m i₀ matches extents tails stops seen keys costs choices i =
+    (i ≤ m) × Descended s (level .span .behind) (level .limit) steps groups prices costs₀ choices₀ i costs choices matches extents tails stops
     × Scratch offsets numbers kinds matches extents tails stops seen keys
 
 abbrev μ-loop : tie.MeasureT-loop
-μ-loop places nexts s level table prices offsets numbers kinds matches₀ extents₀ tails₀ stops₀ seen₀ keys₀ costs₀ choices₀ m i₀ matches extents tails stops seen keys costs choices i = i
+μ-loop places nexts s level steps groups prices offsets numbers kinds matches₀ extents₀ tails₀ stops₀ seen₀ keys₀ costs₀ choices₀ m i₀ matches extents tails stops seen keys costs choices i = i
 
 -- The function's start, from where the siblings are listed.
 abbrev begun : tie.After-list-siblings Inv-loop μ-loop → tie.Start Inv-loop μ-loop
-begun c = c .before .before .before .before .before .before .before .before .before .before .before .before .before .before .before .before .before .before .before .before
+begun c = c .before .before .before .before .before .before .before .before .before .before .before .before .before .before .before .before .before .before .before .before .before
 
 -- From where the siblings are classified, and from the loop's head: where they were listed, and the function's start.
 abbrev listed : tie.After-classify Inv-loop μ-loop → tie.After-list-siblings Inv-loop μ-loop
@@ -58,7 +58,7 @@ few c = omega (arith, listed c .list-siblings .ensures .0, siblings-few (begun (
 
 list-siblings-requires : tie.Need-list-siblings-requires Inv-loop μ-loop
 list-siblings-requires c κs =
-    let p = c .before .before .before .before .before .before .before .before .before .before .before .before .before .before .before .before .before .before .before .pre in
+    let p = c .before .before .before .before .before .before .before .before .before .before .before .before .before .before .before .before .before .before .before .before .pre in
     let z = p .1 .1 .1 in
     let w = p .1 .1 .0 in
     (p .0 .spelled, (z .listed, ((z .long-places, z .long-nexts), (w .long-offsets, w .long-numbers))))

@@ -12,12 +12,9 @@ use Rattle.filling.proofs.Singles.{own-step, own-inside, own-cell, own-
 use Rattle.filling.proofs.own.own_cost.Statement.{statement}
 use Rattle.filling.proofs.own.own_cost.Tie as tie
 
--- The function's start, from where the label is read, and that, from where the sibling is no step.
-abbrev start : tie.After-shared-slice-known7 → tie.Start
-start c = c .before .before .before .before .before .before .before
-
-abbrev read : tie.Else1 → tie.After-shared-slice-known7
-read c = c .before .before .before
+-- The function's start, from where the command is read.
+abbrev start : tie.After-shared-slice-known9 → tie.Start
+start c = c .before .before .before .before .before .before .before .before .before
 
 -- The sibling's first byte and its label.
 abbrev command : tie.Start → ℕ
@@ -53,22 +50,25 @@ mul-at c = search needs
 shared-slice-read-at : tie.Need-shared-slice-read-at
 shared-slice-read-at c = search needs
 
-add-price : tie.Need-add-price
-add-price c = omega (arith, long (c .before .before .before .before .before .before))
+add-label : tie.Need-add-label
+add-label c = omega (arith, long (c .before .before .before .before .before .before .before))
 
-shared-slice-read-price : tie.Need-shared-slice-read-price
-shared-slice-read-price c = omega (arith, long (start c))
+shared-slice-read-label : tie.Need-shared-slice-read-label
+shared-slice-read-label c = omega (arith, long (c .before .before .before .before .before .before .before .before))
+
+shared-slice-read-if1 : tie.Need-shared-slice-read-if1
+shared-slice-read-if1 c = omega (arith, long (start c))
 
 price-requires : tie.Need-price-requires
 price-requires c κs = search needs
 
-shared-slice-read-if1 : tie.Need-shared-slice-read-if1
-shared-slice-read-if1 c = omega (arith, long (start (c .before .before)))
-
 returns : tie.Need-returns
 returns c =
-    let p = c .before .before in
-    own-step _ _ _ _ (first (start (p .before))) _ _ _ (c .if1 .taken) _ (p .price .ensures .0)
+    let T = c .before in
+    own-step _ _ _ _ (first (start (T .before))) _ _ _ _ (T .if1 .taken) _ (c .price .ensures .0)
+
+price-requires-2 : tie.Need-price-requires-2
+price-requires-2 c κs = search needs
 
 add-entry : tie.Need-add-entry
 add-entry c = search needs
@@ -86,24 +86,24 @@ shared-slice-read-entry-2 : tie.Need-shared-slice-read-entry-2
 shared-slice-read-entry-2 c = search needs
 
 sub-entry : tie.Need-sub-entry
-sub-entry c = let e = c .before .before in omega (arith, some (start (read e)) (e .if1 .left))
+sub-entry c = let e = c .before .before .before in omega (arith, some (start (e .before)) (e .if1 .left))
 
 entry-requires : tie.Need-entry-requires
 entry-requires c κs =
-    let e = c .before .before in
-    let S = start (read e) in
+    let e = c .before .before .before in
+    let S = start (e .before) in
     (some S (e .if1 .left), omega (arith, falling-most _ _ _ (S .pre .1 .1 .1 .0) (S .args .i) (omega arith)))
 
 mul-widen : tie.Need-mul-widen
 mul-widen c =
-    let e = c .before .before .before in
-    let S = start (read e) in
+    let e = c .before .before .before .before in
+    let S = start (e .before) in
     omega (arith, stored S (e .if1 .left), c .entry .ensures, S .good)
 
 shared-slice-read-widen : tie.Need-shared-slice-read-widen
 shared-slice-read-widen c =
-    let e = c .before .before .before .before in
-    omega (arith, stored (start (read e)) (e .if1 .left), c .before .entry .ensures)
+    let e = c .before .before .before .before .before in
+    omega (arith, stored (start (e .before)) (e .if1 .left), c .before .entry .ensures)
 
 widen-requires : tie.Need-widen-requires
 widen-requires c κs = search needs
@@ -113,11 +113,12 @@ add-result c = search needs
 
 returns-2 : tie.Need-returns-2
 returns-2 c =
-    let e = c .before .before .before .before .before in
-    let p = e .before .before in
-    let S = start (p .before) in
-    own-group _ _ _ _ (first S) _ (S .pre .0) (omega arith) (S .pre .1 .1 .1 .1) (e .if1 .left) _ _ _
-    (rw (p .price .ensures .0, c .widen .ensures .0, c .before .before .entry .ensures))
+    let p = c .before .before .before .before .before in
+    let e = p .before in
+    let S = start (e .before) in
+    let priced : p .price2 .result ≡ getD (S .args .groups .now) (label S) 0 = p .price2 .ensures .0 in
+    own-group _ _ _ _ (first S) _ (S .pre .0) (omega arith) (S .pre .1 .1 .1 .1) (e .if1 .left) _ _ _ _
+    (rw (priced, c .widen .ensures .0, c .before .before .entry .ensures))
 
 pub own-cost-spec : {M : Type 1} → statement M
 own-cost-spec =
@@ -125,11 +126,12 @@ own-cost-spec =
     (tie.spec
     mul-at
     shared-slice-read-at
-    add-price
-    shared-slice-read-price
-    price-requires
+    add-label
+    shared-slice-read-label
     shared-slice-read-if1
+    price-requires
     returns
+    price-requires-2
     add-entry
     mul-entry
     shared-slice-read-entry

@@ -8,7 +8,7 @@ use Rattle.folder.proofs.run.fill.Tie as tie
 
 -- The function's start, from where the lists are made.
 abbrev start : tie.After-keys → tie.Start
-start c = c .before .before .before .before .before .before .before .before .before .before .before .before .before .before .before .before
+start c = c .before .before .before .before .before .before .before .before .before .before .before .before .before .before .before .before .before
 
 slice-aggregate-enter-tree : tie.Need-slice-aggregate-enter-tree
 slice-aggregate-enter-tree c = search needs

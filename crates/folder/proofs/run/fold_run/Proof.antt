@@ -13,12 +13,12 @@ abbrev list-of : tie.After-fill → tie.After-list-nodes
 list-of c = c .before .before .before .before .before .before .before
 
 abbrev start : tie.After-fill → tie.Start
-start c = list-of c .before .before .before .before .before .before .before .before .before
+start c = list-of c .before .before .before .before .before .before .before .before .before .before
 
 filled : (c : tie.After-fill)
     → (let a = start c .args in
-    RunFilled (a .run .now) (a .n) (a .limit) (prices-of (a .table .now) (a .prices .now)) (c .fill .last .1 .1 .1 .1 .1 .1 .0)
-    (c .fill .last .1 .1 .1 .1 .1 .1 .1 .0))
+    RunFilled (a .run .now) (a .n) (a .limit) (prices-of (a .steps .now) (a .groups .now) (a .prices .now)) (c .fill .last .1 .1 .1 .1 .1 .1 .1 .0)
+    (c .fill .last .1 .1 .1 .1 .1 .1 .1 .1 .0))
 filled c = let S = start c in run-filled (S .pre .0) (S .pre .1) (c .fill .ensures .0) (c .fill .ensures .1)
 
 slice-aggregate-list-nodes : tie.Need-slice-aggregate-list-nodes
@@ -39,7 +39,7 @@ slice-aggregate-fill-2 c = search needs
 fill-requires : tie.Need-fill-requires
 fill-requires c κs =
     let N = c .before .before .before .before .before .before in
-    let p = N .before .before .before .before .before .before .before .before .before .pre in
+    let p = N .before .before .before .before .before .before .before .before .before .before .pre in
     let l = N .list-nodes .ensures in
     let whole = span-whole _ _ _ _ (p .1) (omega (arith, p .0 .total)) (l .1) in
     (p .0, record { long-places = l .0 .0; long-nexts = l .0 .1; listed = whole })

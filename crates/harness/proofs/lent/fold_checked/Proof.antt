@@ -1,5 +1,6 @@
 -- `harness::lent::fold_checked` meets its contract: what the folder ensures, of slices that were filled, and what was looked at.
 use mathlib.Core.Path.{_∙_}
+use Rattle.format.specs.Limits.{tariff}
 use Rattle.folder.specs.Folding.{folding}
 use Rattle.harness.proofs.Calls.{answer-filled, output-filled, costs-filled, choices-filled}
 use borrow.Author.Needs.{needs}
@@ -36,8 +37,8 @@ returns c =
     let third = F .before .before .before .before .before .before in
     let second = third .before .before .before .before in
     let first = second .before .before .before .before in
-    let a = first .before .before .before .before .before .before .before .args in
-    let v = folding (a .run .now) (a .limit) (a .table .now) (a .first) (a .each) in
+    let a = first .before .before .before .before .before .before .before .before .args in
+    let v = folding (a .run .now) (a .limit) (tariff (a .steps .now) (a .groups .now) (a .first) (a .each)) in
     let x = a .costs .now in
     let y = a .choices .now in
     let z = a .out .now in

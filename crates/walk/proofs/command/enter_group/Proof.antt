@@ -21,7 +21,7 @@ refused-requires c κs = search needs
 returns : tie.Need-returns
 returns c =
     let S = c .before .before .before .before in
-    rw (c .refused .ensures) (group-short (S .args .a) (S .args .table .now) (S .args .s .now) (S .args .d) (S .args .at) (S .args .t) (S .pre .0) (omega (arith, S .pre .0 .below)) _ _)
+    λ steps. rw (c .refused .ensures) (group-short (S .args .a) steps (S .args .groups .now) (S .args .s .now) (S .args .d) (S .args .at) (S .args .t) (S .pre .0) (omega (arith, S .pre .0 .below)) _ _)
 
 refused-requires-2 : tie.Need-refused-requires-2
 refused-requires-2 c κs = search needs
@@ -29,7 +29,7 @@ refused-requires-2 c κs = search needs
 returns-2 : tie.Need-returns-2
 returns-2 c =
     let S = start (c .before .before .before .before .before) in
-    rw (c .refused2 .ensures) (group-deep (S .args .a) (S .args .table .now) (S .args .s .now) (S .args .d) (S .args .at) (S .args .t) (S .pre .0) (omega (arith, S .pre .0 .below)) (c .before .if2 .taken) _ _)
+    λ steps. rw (c .refused2 .ensures) (group-deep (S .args .a) steps (S .args .groups .now) (S .args .s .now) (S .args .d) (S .args .at) (S .args .t) (S .pre .0) (omega (arith, S .pre .0 .below)) (c .before .if2 .taken) _ _)
 
 refused-requires-3 : tie.Need-refused-requires-3
 refused-requires-3 c κs = search needs
@@ -38,7 +38,7 @@ returns-3 : tie.Need-returns-3
 returns-3 c =
     let shallow = c .before .before .before .before in
     let S = start (labelled shallow) in
-    rw (c .refused3 .ensures) (group-full (S .args .a) (S .args .table .now) (S .args .s .now) (S .args .d) (S .args .at) (S .args .t) (S .pre .0) (omega (arith, S .pre .0 .below)) (shallow .if2 .left) (c .before .if3 .taken) _ _)
+    λ steps. rw (c .refused3 .ensures) (group-full (S .args .a) steps (S .args .groups .now) (S .args .s .now) (S .args .d) (S .args .at) (S .args .t) (S .pre .0) (omega (arith, S .pre .0 .below)) (shallow .if2 .left) (c .before .if3 .taken) _ _)
 
 add-price : tie.Need-add-price
 add-price c = search needs
@@ -65,7 +65,7 @@ returns-4 c =
     let shallow = room .before .before .before in
     let e = labelled shallow in
     let S = start e in
-    rw (c .inside-group .ensures) (group-on (S .args .a) (S .args .table .now) (S .args .s .now) (S .args .d) (S .args .at) (S .args .t) (S .pre .1 .0) (S .pre .0) (omega (arith, S .pre .0 .below, e .if1 .left)) (shallow .if2 .left) (room .if3 .left) _ (p .price .ensures .0) (p .price .ensures .1))
+    λ steps. rw (c .inside-group .ensures) (group-on (S .args .a) steps (S .args .groups .now) (S .args .s .now) (S .args .d) (S .args .at) (S .args .t) (S .pre .1 .0) (S .pre .0) (omega (arith, S .pre .0 .below, e .if1 .left)) (shallow .if2 .left) (room .if3 .left) _ (p .price .ensures .0) (p .price .ensures .1))
 
 pub enter-group-spec : {M : Type 1} → statement M
 enter-group-spec =

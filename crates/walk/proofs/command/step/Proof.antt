@@ -21,7 +21,7 @@ refused-requires c κs = search needs
 returns : tie.Need-returns
 returns c =
     let S = c .before .before .before .before in
-    λ d. rw (c .refused .ensures) (step-short (S .args .a) (S .args .table .now) (S .args .s .now) d (S .args .at) (S .args .t) (S .pre .0) (omega (arith, S .pre .0 .below)) _)
+    λ groups d. rw (c .refused .ensures) (step-short (S .args .a) (S .args .steps .now) groups (S .args .s .now) d (S .args .at) (S .args .t) (S .pre .0) (omega (arith, S .pre .0 .below)) _)
 
 refused-requires-2 : tie.Need-refused-requires-2
 refused-requires-2 c κs = search needs
@@ -29,7 +29,7 @@ refused-requires-2 c κs = search needs
 returns-2 : tie.Need-returns-2
 returns-2 c =
     let S = start (c .before .before .before .before .before) in
-    λ d. rw (c .refused2 .ensures) (step-full (S .args .a) (S .args .table .now) (S .args .s .now) d (S .args .at) (S .args .t) (S .pre .0) (omega (arith, S .pre .0 .below)) (c .before .if2 .taken) _)
+    λ groups d. rw (c .refused2 .ensures) (step-full (S .args .a) (S .args .steps .now) groups (S .args .s .now) d (S .args .at) (S .args .t) (S .pre .0) (omega (arith, S .pre .0 .below)) (c .before .if2 .taken) _)
 
 add-price : tie.Need-add-price
 add-price c = search needs
@@ -54,7 +54,7 @@ returns-3 c =
     let room = p .before .before in
     let e = labelled room in
     let S = start e in
-    λ d. rw (c .after-step .ensures) (step-on (S .args .a) (S .args .table .now) (S .args .s .now) d (S .args .at) (S .args .t) (S .pre .0) (omega (arith, S .pre .0 .below, e .if1 .left)) (room .if2 .left) _ (p .price .ensures .0) (p .price .ensures .1))
+    λ groups d. rw (c .after-step .ensures) (step-on (S .args .a) (S .args .steps .now) groups (S .args .s .now) d (S .args .at) (S .args .t) (S .pre .0) (omega (arith, S .pre .0 .below, e .if1 .left)) (room .if2 .left) _ (p .price .ensures .0) (p .price .ensures .1))
 
 pub step-spec : {M : Type 1} → statement M
 step-spec =

@@ -1,0 +1,22 @@
+-- The cheapest fold as it was when one table priced the labels of steps and groups alike: by the one-table cost, against any bytes.
+use mathlib.Core.Path.{_≡_}
+use mathlib.Core.List.{List}
+use Prim.Native.Nat.{ℕ, _≤_}
+use Rattle.format.specs.Order.{Bytes, Before}
+use Rattle.format.specs.Forest.{widest-of}
+use Rattle.format.specs.Readings.{free, format-rules, WellFormed}
+use Rattle.format.specs.Tree.{tree-of}
+use Rattle.format.specs.OneTable.{label-cost}
+
+-- The bytes g are a fold of the run within the limit, and this is their one-table cost.
+pub record FoldByLabel (run : List ℕ) (limit : ℕ) (table : List ℕ) (first each : ℕ) (g : List ℕ) (cost : ℕ) : Type 0 where
+  pub formed : WellFormed (format-rules free) g
+  pub unrolls : formed .text ≡ run
+  pub within : widest-of (tree-of g) ≤ limit
+  pub costs : label-cost table first each (tree-of g) ≡ cost
+
+-- The bytes f are the cheapest of these: no fold costs less, and every other one of that cost has bytes that come later.
+pub record CheapestByLabel (run : List ℕ) (limit : ℕ) (table : List ℕ) (first each : ℕ) (f : List ℕ) (cost : ℕ) : Type 0 where
+  pub fold : FoldByLabel run limit table first each f cost
+  pub no-cheaper : (g : List ℕ) (c : ℕ) → Bytes g → FoldByLabel run limit table first each g c → cost ≤ c
+  pub earliest : (g : List ℕ) (c : ℕ) → Bytes g → FoldByLabel run limit table first each g c → c ≡ cost → (g ≡ f → ⊥) → Before f g
