@@ -9,7 +9,7 @@
  * A call, for a run of at most 3 nodes; examples/ has whole programs, docs/FORMAT.md the bytes of runs and folds:
  *
  *     const uint8_t run[] = {0x10, 0x01, 0x10, 0x01, 0x10, 0x01};
- *     uint16_t steps[256], groups[256];                             (what each label costs, filled in before)
+ *     uint16_t steps[256], groups[256];                             (what steps and groups cost by their labels, filled in before)
  *     uint32_t costs[RUNFOLD_WORK(3)], choices[RUNFOLD_WORK(3)];    (work; for long runs better not on the stack)
  *     uint8_t out[RUNFOLD_ROOM(3)];
  *     uint64_t answer[RUNFOLD_ENTRIES];
@@ -24,10 +24,10 @@
  * call takes.
  *
  * Slices. A slice passes as a pointer and a number of entries. One of 0 entries may have a null pointer, for nothing is read or
- * written there (tested by scripts/c.sh, not proved); that of `steps` is answered with refusal 11, that of `groups` with 15,
- * that of `answer` with RUNFOLD_SHORT. Any other points to so many entries, aligned for their type. A slice that is written
- * (`out`, `costs`, `choices`, `answer`) overlaps no other slice of the call; `steps` and `groups` may be one table. Nothing else
- * is asked of a caller: every input has a defined answer.
+ * written there (tested by scripts/c.sh, not proved): an empty `answer` is answered with RUNFOLD_SHORT, else an empty `steps`
+ * with refusal 11, else an empty `groups` with 15. Any other points to so many entries, aligned for their type. A slice that is
+ * written (`out`, `costs`, `choices`, `answer`) overlaps no other slice of the call; `steps` and `groups` may be one table.
+ * Nothing else is asked of a caller: every input has a defined answer.
  *
  * Prices. `steps` prices the steps by their labels and `groups` the groups, 256 entries each; a repeat of count h costs
  * first + each * (h - 2). The cost of a fold is the sum over the commands that stand in it.
@@ -116,7 +116,7 @@ enum {
     RUNFOLD_DEEP = 8,               /* a 9th open group or an 11th open repeat */
     RUNFOLD_FALSE_WIDTH = 9,        /* width operand not the true width */
     RUNFOLD_MANY_NODES = 10,        /* more than 1,024 nodes */
-    RUNFOLD_TABLE_SIZE = 11,        /* step cost table not of 256 entries */
+    RUNFOLD_STEP_TABLE_SIZE = 11,   /* step cost table not of 256 entries */
     RUNFOLD_LIMIT_SIZE = 12,        /* width limit over 1,024 */
     RUNFOLD_WORK_SIZE = 13,         /* a work slice too short */
     RUNFOLD_OUTPUT_SIZE = 14,       /* output shorter than the result */
@@ -150,7 +150,7 @@ static inline const char *runfold_refusal_text(uint64_t number)
         return "width operand not the true width, found at 21";
     case RUNFOLD_MANY_NODES:
         return "node total would pass 1,024";
-    case RUNFOLD_TABLE_SIZE:
+    case RUNFOLD_STEP_TABLE_SIZE:
         return "step cost table not of 256 entries";
     case RUNFOLD_LIMIT_SIZE:
         return "width limit over 1,024";

@@ -57,4 +57,4 @@ all_with "${CC:-cc}" "${CXX:-c++}"
 if command -v clang >/dev/null && command -v clang++ >/dev/null; then
     all_with clang clang++
 fi
-echo "passed: the header by itself, its texts, null pointers, steps and depth, the version $version and both examples, with$used"
+echo "passed: the header by itself, its texts, null pointers, steps, depth and cost, the version $version and both examples, with$used"

@@ -47,8 +47,8 @@ static void calls(const char *where, uint8_t *b, uint16_t *t, uint32_t *w, uint6
     }
 
     EXPECT(RUNFOLD_OK, runfold_read_fold(b, 0, LIMIT, table, 256, table, 256, 1, 0, answer, ALL));
-    EXPECT(RUNFOLD_TABLE_SIZE, runfold_read_fold(step, 2, LIMIT, t, 0, table, 256, 1, 0, answer, ALL));
-    EXPECT(RUNFOLD_TABLE_SIZE, runfold_read_fold(b, 0, LIMIT, t, 0, t, 0, 1, 0, answer, ALL));
+    EXPECT(RUNFOLD_STEP_TABLE_SIZE, runfold_read_fold(step, 2, LIMIT, t, 0, table, 256, 1, 0, answer, ALL));
+    EXPECT(RUNFOLD_STEP_TABLE_SIZE, runfold_read_fold(b, 0, LIMIT, t, 0, t, 0, 1, 0, answer, ALL));
     EXPECT(RUNFOLD_GROUP_TABLE_SIZE, runfold_read_fold(step, 2, LIMIT, table, 256, t, 0, 1, 0, answer, ALL));
     EXPECT(RUNFOLD_GROUP_TABLE_SIZE, runfold_read_fold(b, 0, LIMIT + 1, table, 256, t, 0, 1, 0, answer, ALL));
     EXPECT(RUNFOLD_SHORT, runfold_read_fold(step, 2, LIMIT, table, 256, table, 256, 1, 0, a, 0));
@@ -63,8 +63,8 @@ static void calls(const char *where, uint8_t *b, uint16_t *t, uint32_t *w, uint6
 
     EXPECT(RUNFOLD_OK, runfold_fold(b, 0, LIMIT, table, 256, table, 256, 1, 0, costs, 1, choices, 1, out, 4, answer, ALL));
     EXPECT(RUNFOLD_OK, runfold_fold(b, 0, LIMIT, table, 256, table, 256, 1, 0, w, 0, w, 0, b, 0, answer, ALL));
-    EXPECT(RUNFOLD_TABLE_SIZE, runfold_fold(step, 2, LIMIT, t, 0, table, 256, 1, 0, costs, 1, choices, 1, out, 4, answer, ALL));
-    EXPECT(RUNFOLD_TABLE_SIZE, runfold_fold(b, 0, LIMIT, t, 0, t, 0, 1, 0, w, 0, w, 0, b, 0, answer, ALL));
+    EXPECT(RUNFOLD_STEP_TABLE_SIZE, runfold_fold(step, 2, LIMIT, t, 0, table, 256, 1, 0, costs, 1, choices, 1, out, 4, answer, ALL));
+    EXPECT(RUNFOLD_STEP_TABLE_SIZE, runfold_fold(b, 0, LIMIT, t, 0, t, 0, 1, 0, w, 0, w, 0, b, 0, answer, ALL));
     EXPECT(RUNFOLD_GROUP_TABLE_SIZE,
            runfold_fold(step, 2, LIMIT, table, 256, t, 0, 1, 0, costs, 1, choices, 1, out, 4, answer, ALL));
     EXPECT(RUNFOLD_GROUP_TABLE_SIZE, runfold_fold(b, 0, LIMIT + 1, table, 256, t, 0, 1, 0, w, 0, w, 0, b, 0, answer, ALL));

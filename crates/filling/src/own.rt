@@ -12,7 +12,8 @@ ghost use Rattle.table.specs.Table.{Falling};
 ghost use Rattle.table.specs.Listing.{Spelled, Placed, Numbered};
 ghost use Rattle.filling.specs.Filling.{Single};
 
-// The cost of one sibling by itself: a step by its label, a group by its label and the cheapest fold of what it holds.
+// The cost of one sibling by itself: of a step, by the table of steps; of a group, by the table of groups, and the cheapest fold
+// of what it holds.
 pub fn own_cost(
     s: &[u8],
     steps: &[u16],

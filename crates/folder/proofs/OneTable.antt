@@ -1,20 +1,53 @@
 -- WITH EQUAL TABLES THE FOLDER'S ANSWER IS THE ONE IT HAD when one table priced the labels of steps and groups alike: result, output
--- and work slices are made of what is decided here, and the fold is the cheapest by the one-table cost.
-use mathlib.Core.Path.{_≡_, ap}
+-- and work slices are made of what is decided here. And the fold that it decides on is the cheapest by the one-table cost.
+use mathlib.Core.Path.{_≡_, refl, sym, ap, _∙_}
 use mathlib.Core.List.{List}
-use Prim.Native.Nat.{ℕ}
-use Rattle.format.specs.Limits.{tariff}
-use Rattle.format.specs.Forest.{at-most}
-use Rattle.format.specs.Machine.{read}
+use Prim.Native.Nat.{ℕ, suc}
+use native.Mathlib.Omega.{arith}
+use Rattle.format.specs.Limits.{limits, Tariff, tariff, Prices, priced}
+use Rattle.format.specs.Order.{Bytes}
+use Rattle.format.specs.Forest.{at-most, bytes}
+use Rattle.format.specs.Machine.{Outcome, refused, accepted, read}
+use Rattle.format.specs.Head.{full-head}
 use Rattle.format.specs.Readings.{run-rules, run-outcome}
+use Rattle.format.specs.Tree.{tree-of}
 use Rattle.format.specs.OneTable.{by-label}
+use Rattle.format.proofs.Heads.{headed-accepted, headed-narrow}
 use Rattle.format.proofs.OneTable.{equal-tables-headed}
-use Rattle.optimum.specs.Verdict.{verdict}
+use Rattle.optimum.specs.Cheapest.{cheapest, best-cost}
+use Rattle.optimum.specs.Verdict.{Verdict, refuses, folds, verdict}
+use Rattle.optimum.specs.OneTable.{CheapestByLabel}
+use Rattle.optimum.proofs.Demands.{cheapest-small, cheapest-bytes}
+use Rattle.optimum.proofs.OneTable.{equal-tables-cheapest}
 use Rattle.folder.specs.Folding.{folding}
 use Rattle.folder.specs.OneTable.{one-table-folding}
 
-pub equal-tables-folding : (s : List ℕ) (k : ℕ) (table : List ℕ) (first each : ℕ)
-    → folding s k (tariff table table first each) ≡ one-table-folding s k table first each
-unfolding folding run-outcome one-table-folding
-equal-tables-folding s k table first each =
-    ap (verdict (at-most k) (by-label table first each) s) (equal-tables-headed table first each k (read run-rules s))
+module _ (s : List ℕ) (k : ℕ) (table : List ℕ) (first each : ℕ) where
+  abbrev T : Tariff
+  T = tariff table table first each
+
+  pub equal-tables-folding : folding s k T ≡ one-table-folding s k table first each
+  unfolding folding run-outcome one-table-folding
+  equal-tables-folding =
+      ap (verdict (at-most k) (by-label table first each) s) (equal-tables-headed table first each k (read run-rules s))
+
+  pub equal-tables-fold : Bytes s → (n : ℕ) (f : List ℕ) (c : ℕ) → folding s k T ≡ folds n f c → CheapestByLabel s k table first each f c
+  unfolding folding run-outcome
+  equal-tables-fold small n f c decided = by-outcome (run-outcome (full-head T k) s) refl
+    where
+      by-outcome : (o : Outcome) → run-outcome (full-head T k) s ≡ o → CheapestByLabel s k table first each f c
+      by-outcome (refused m p) e =
+          let none : n ≡ suc n = cc (decided, ap (verdict (at-most k) (priced T) s) e) in
+          absurd (omega arith)
+      by-outcome (accepted t x) e =
+          let P : Prices = priced T in
+          let g = bytes (cheapest (at-most k) P (tree-of s)) in
+          let accepts = headed-accepted limits (full-head T k) (read run-rules s) t x e in
+          let narrow = headed-narrow limits (full-head T k) (read run-rules s) t x e in
+          let best = cheapest-bytes s small t x accepts k narrow P in
+          let coded = cheapest-small s small t x accepts k narrow P in
+          let same : folds (t .nodes) g (best-cost (at-most k) P (tree-of s)) ≡ folds n f c =
+          sym (ap (verdict (at-most k) P s) e) ∙ decided in
+          let fold : g ≡ f = cc same in
+          let cost : best-cost (at-most k) P (tree-of s) ≡ c = cc same in
+          rw (← fold, ← cost) (equal-tables-cheapest s k table first each _ _ coded .0 best)

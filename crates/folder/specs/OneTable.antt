@@ -1,4 +1,5 @@
--- What the folder decided when one table priced the labels of steps and groups alike. Only the theorem about equal tables uses it.
+-- What the folder decided when one table priced the labels of steps and groups alike. Only the theorems about equal tables
+-- use it.
 use mathlib.Core.List.{List}
 use Prim.Native.Nat.{ℕ}
 use Rattle.format.specs.Forest.{at-most}

@@ -1,5 +1,5 @@
-// The folder: the cheapest fold of a run under a width limit, ties by byte order. One table serves the whole tree; only lent
-// memory holds it.
+// The folder: the cheapest fold of a run under a width limit, ties by byte order. One table of stretches serves the whole
+// tree; only lent memory holds it.
 mod prices;
 mod run;
 

@@ -1,5 +1,6 @@
 -- Examples of what the readers answer, checked by computation: every check of docs/REFUSALS.md, the order of the checks, each
--- limit met and passed, widths, costs, tables of every size, steps, depth and parts. A table is a list of cases with one statement: every case holds.
+-- limit met and passed, widths, costs, cost tables of other sizes, steps, depth and parts. Each list of cases has one statement:
+-- every case holds.
 use mathlib.Core.Path.{_≡_, refl}
 use mathlib.Core.List.{List, [], _∷_, _++_, map}
 use Prim.Native.Nat.{ℕ, _/_, _%_}
@@ -61,7 +62,7 @@ answered (q gives a) = answer q
 unfoldable pub expected : Case → FoldReading
 expected (q gives a) = a
 
--- Every case of a table holds.
+-- Every case of a list holds.
 abbrev pub Hold : List Case → Type 0
 Hold cs = map answered cs ≡ map expected cs
 
@@ -161,7 +162,7 @@ bounds =
     ∷ fold (times 11 (repeat-start 2 1)) gives a-refusal 8 50
     -- a width operand that is the limit
     ∷ fold-within 2 (repeating 2 2 (one-step ++ one-step)) gives fold-values 4 8 3 4 0
-    -- limit 1,024 and 256 entries in both tables; `tables` has other sizes
+    -- limit 1,024 and 256 entries in both tables; `table-sizes` has others
     ∷ fold [] gives fold-values 0 0 0 0 0
     ∷ []
 
@@ -210,11 +211,11 @@ pub values-hold : Hold values
 unfolding answered expected values
 values-hold = refl
 
--- The sizes of the two tables, each alone and both at once, and 15 before every command: a byte that is none, each one by itself,
--- of which none is passed but `10`, `11` and `20` with operands, and a whole repeat.
-unfoldable pub tables : List Case
+-- Each cost table of 0, 255 and 257 entries, alone and both at once; 15 before 12; and 15 before every command: before an unknown
+-- byte, before each command without operands, before those that have them, and before a whole repeat.
+unfoldable pub table-sizes : List Case
 unfolding sized times
-tables =
+table-sizes =
     map (λ m. fold-with 1024 (sized m 256) [] gives a-refusal 11 0) (0 ∷ 255 ∷ 257 ∷ [])
     ++ map (λ n. fold-with 1024 (sized 256 n) [] gives a-refusal 15 0) (0 ∷ 255 ∷ 257 ∷ [])
     ++ map (λ n. fold-with 1024 (sized 0 n) [] gives a-refusal 11 0) (0 ∷ 255 ∷ 257 ∷ [])
@@ -225,9 +226,9 @@ tables =
     ((0x13 ∷ []) ∷ (0x10 ∷ []) ∷ (0x11 ∷ []) ∷ (0x12 ∷ []) ∷ (0x20 ∷ []) ∷ (0x21 ∷ []) ∷ one-step ∷ group-start ∷ repeat-start 2 1
     ∷ repeating 2 1 one-step ∷ [])
 
-pub tables-hold : Hold tables
-unfolding answered expected tables
-tables-hold = refl
+pub table-sizes-hold : Hold table-sizes
+unfolding answered expected table-sizes
+table-sizes-hold = refl
 
 -- How many of the nodes are steps, and how many groups are open together; `bounds` has eight inside each other.
 unfoldable pub shapes : List Case

@@ -1,7 +1,7 @@
--- From the report's trees back to folds. A tree of ours has steps as leaves and groups with children; so has every tree of the
--- report that expands to one, and each such tree is that of a fold.
+-- From the report's trees back to folds. In the tree of a fold steps are leaves and groups are not. So it is in every tree of the
+-- report that expands to the tree of a run, and each such tree is the tree of a fold.
 use mathlib.Core.Path.{_≡_, refl, sym, ap, ap₂}
-use Prim.Native.Nat.{ℕ, zero, suc, _+_, _<_}
+use Prim.Native.Nat.{zero, suc, _<_}
 use native.Mathlib.Omega.{arith}
 use Rattle.format.specs.Forest.{Forest, end, step, group, repeat, siblings}
 use Rattle.format.specs.Report.{RRT, empty, letter, repetition, count, Valid, append, series}

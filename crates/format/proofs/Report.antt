@@ -149,7 +149,7 @@ module _ (A : Allowed) where
         sound-fold-of r (z .1) (v .3) (k .2),
       )
 
-  -- So is each of the report's trees that represents the tree of a run.
+  -- In each of the report's trees that represents the tree of a run, steps are leaves and groups are not.
   pub represents-lettered : (r : RRT Letter) (t : Forest) → Valid r → Sound A t → Represents r (report t) → Lettered r
   represents-lettered r t v s p = lettered-expand r v (rw (represents r (report t) .0 p) at (lettered-report t s))
 

@@ -29,7 +29,7 @@ pub record Tariff : Type 0 where
 abbrev pub tariff : (steps groups : List ℕ) → (first each : ℕ) → Tariff
 tariff steps groups first each = record { steps = steps; groups = groups; first = first; each = each }
 
--- The prices that it gives: the one table prices `10` and the other `11`.
+-- The prices of a tariff: its table of steps prices `10`, its table of groups `11`.
 abbrev pub priced : Tariff → Prices
 priced T =
     record {

@@ -108,7 +108,25 @@ fn known_in(
     }
 }
 
-// The same at one price for every label.
+// The same with room for 22 nodes.
+fn known_at(name: &[u8], run: &[u8], a: Case, fold: &[u8]) {
+    let mut costs = [0u32; 260];
+    let mut choices = [0u32; 260];
+    let mut out = [0u8; 80];
+    let mut text = [0u8; 80];
+    known_in(
+        name,
+        run,
+        a,
+        fold,
+        &mut costs,
+        &mut choices,
+        &mut out,
+        &mut text,
+    );
+}
+
+// The same where every step and every group costs 1.
 fn known(name: &[u8], run: &[u8], limit: usize, first: u16, each: u16, fold: &[u8], cost: u64) {
     known_at(
         name,
@@ -124,21 +142,19 @@ fn known(name: &[u8], run: &[u8], limit: usize, first: u16, each: u16, fold: &[u
     );
 }
 
-// With room for 22 nodes.
-fn known_at(name: &[u8], run: &[u8], a: Case, fold: &[u8]) {
-    let mut costs = [0u32; 260];
-    let mut choices = [0u32; 260];
-    let mut out = [0u8; 80];
-    let mut text = [0u8; 80];
-    known_in(
+// The same where every group costs 4, every step 1 and a repeat first.
+fn dear(name: &[u8], run: &[u8], first: u16, fold: &[u8], cost: u64) {
+    known_at(
         name,
         run,
-        a,
+        Case {
+            limit: 1024,
+            group: 4,
+            first,
+            each: 0,
+            cost,
+        },
         fold,
-        &mut costs,
-        &mut choices,
-        &mut out,
-        &mut text,
     );
 }
 
@@ -205,27 +221,11 @@ fn groups() {
     let fold = b"\x20\x00\x02\x00\x01\x11\x05\x20\x00\x03\x00\x01\x10\x01\x21\x12\x21";
     known(b"group 05 holding aaa, twice", group, 1024, 1, 0, fold, 4);
     known(b"group 05 holding aaa, twice", group, 1, 1, 0, fold, 4);
-    dear(b"group 05 holding aaa, twice", group, 4, 1, fold, 7);
+    dear(b"group 05 holding aaa, twice", group, 1, fold, 7);
     let plain = b"\x11\x05\x10\x01\x12\x11\x05\x10\x01\x12";
     let folded = b"\x20\x00\x02\x00\x01\x11\x05\x10\x01\x12\x21";
-    dear(b"group 05 holding a, twice", plain, 4, 3, folded, 8);
-    dear(b"group 05 holding a, twice", plain, 1, 3, plain, 4);
-}
-
-// A run whose groups cost as much as is said, steps 1 and a repeat first, which folds to these bytes at this cost.
-fn dear(name: &[u8], run: &[u8], group: u16, first: u16, fold: &[u8], cost: u64) {
-    known_at(
-        name,
-        run,
-        Case {
-            limit: 1024,
-            group,
-            first,
-            each: 0,
-            cost,
-        },
-        fold,
-    );
+    dear(b"group 05 holding a, twice", plain, 3, folded, 8);
+    known(b"group 05 holding a, twice", plain, 1024, 3, 0, plain, 4);
 }
 
 // Longer ones, which are run alone.

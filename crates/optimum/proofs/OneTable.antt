@@ -1,5 +1,6 @@
 -- WITH EQUAL TABLES the cheapest fold is the one it was when one table priced the labels of steps and groups alike.
-use mathlib.Core.Path.{_≡_, refl, sym, ap, _∙_}
+use mathlib.Core.Path.{_≡_, sym, ap, _∙_}
+use mathlib.Core.Logic.{_↔_}
 use mathlib.Core.List.{List}
 use Prim.Native.Nat.{ℕ}
 use Rattle.format.specs.Limits.{limits, Prices, tariff, priced}
@@ -44,10 +45,16 @@ module _ (run : List ℕ) (k : ℕ) (table : List ℕ) (first each : ℕ) where
         costs = ap (cost P) e ∙ equal-tables-cost table first each (tree-of g) ∙ w .costs;
       }
 
-  pub equal-tables-cheapest : (f : List ℕ) (c : ℕ) → Bytes f → CheapestWithin run k (format-rules P) f c → CheapestByLabel run k table first each f c
-  equal-tables-cheapest f c small b =
-      record {
-        fold = as-one f c small (b .fold);
-        no-cheaper = λ g d z w. b .no-cheaper g d z (as-two g d z w);
-        earliest = λ g d z w. b .first g d z (as-two g d z w);
-      }
+  pub equal-tables-cheapest : (f : List ℕ) (c : ℕ) → Bytes f → CheapestWithin run k (format-rules P) f c ↔ CheapestByLabel run k table first each f c
+  equal-tables-cheapest f c small = (
+    λ b. record {
+      fold = as-one f c small (b .fold);
+      no-cheaper = λ g d z w. b .no-cheaper g d z (as-two g d z w);
+      earliest = λ g d z w. b .first g d z (as-two g d z w);
+    },
+    λ b. record {
+      fold = as-two f c small (b .fold);
+      no-cheaper = λ g d z w. b .no-cheaper g d z (as-one g d z w);
+      first = λ g d z w. b .earliest g d z (as-one g d z w);
+    },
+  )

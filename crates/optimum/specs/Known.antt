@@ -110,6 +110,10 @@ known =
     -- every group costs 4 and all else is at unit costs
     ∷ run 1024 (nodes-at 1 4 1 0) (times 2 (group-05 (a ++ a ++ a)))
     gives fold-is (0x20 ∷ 0x00 ∷ 0x02 ∷ 0x00 ∷ 0x01 ∷ 0x11 ∷ 0x05 ∷ 0x20 ∷ 0x00 ∷ 0x03 ∷ 0x00 ∷ 0x01 ∷ 0x10 ∷ 0x01 ∷ 0x21 ∷ 0x12 ∷ 0x21 ∷ []) 7
+    -- two groups are repeated where a group is dear, and are not where it is cheap
+    ∷ run 1024 (nodes-at 1 4 3 0) (times 2 (group-05 a))
+    gives fold-is (0x20 ∷ 0x00 ∷ 0x02 ∷ 0x00 ∷ 0x01 ∷ 0x11 ∷ 0x05 ∷ 0x10 ∷ 0x01 ∷ 0x12 ∷ 0x21 ∷ []) 8
+    ∷ run 1024 (nodes-at 1 1 3 0) (times 2 (group-05 a)) gives fold-is (times 2 (group-05 a)) 4
     -- the examples of refusals 5 and 9
     ∷ run 1024 unit (0x11 ∷ 0x05 ∷ 0x12 ∷ []) gives refusal-is 5 2
     ∷ fold 1024 unit (0x20 ∷ 0x00 ∷ 0x02 ∷ 0x00 ∷ 0x02 ∷ 0x10 ∷ 0x07 ∷ 0x21 ∷ []) gives refusal-is 9 7
@@ -127,10 +131,6 @@ known =
     ∷ run 1024 unit (group-05 a ++ group-05 b ++ group-05 a) gives fold-is (group-05 a ++ group-05 b ++ group-05 a) 6
     ∷ run 1024 unit (times 2 (group-05 a ++ group-05 b))
     gives fold-is (0x20 ∷ 0x00 ∷ 0x02 ∷ 0x00 ∷ 0x02 ∷ 0x11 ∷ 0x05 ∷ 0x10 ∷ 0x01 ∷ 0x12 ∷ 0x11 ∷ 0x05 ∷ 0x10 ∷ 0x02 ∷ 0x12 ∷ 0x21 ∷ []) 5
-    -- more: two groups are repeated where a group is dear, and are not where it is cheap
-    ∷ run 1024 (nodes-at 1 4 3 0) (times 2 (group-05 a))
-    gives fold-is (0x20 ∷ 0x00 ∷ 0x02 ∷ 0x00 ∷ 0x01 ∷ 0x11 ∷ 0x05 ∷ 0x10 ∷ 0x01 ∷ 0x12 ∷ 0x21 ∷ []) 8
-    ∷ run 1024 (nodes-at 1 1 3 0) (times 2 (group-05 a)) gives fold-is (times 2 (group-05 a)) 4
     -- more: steps by their table and groups by theirs, whatever the label
     ∷ run 1024 unlike (group-05 (a ++ 0x11 ∷ 0x01 ∷ b ++ 0x12 ∷ []) ++ 0x11 ∷ 0x02 ∷ a ++ 0x12 ∷ [])
     gives fold-is (group-05 (a ++ 0x11 ∷ 0x01 ∷ b ++ 0x12 ∷ []) ++ 0x11 ∷ 0x02 ∷ a ++ 0x12 ∷ []) 22

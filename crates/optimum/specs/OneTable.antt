@@ -8,14 +8,15 @@ use Rattle.format.specs.Readings.{free, format-rules, WellFormed}
 use Rattle.format.specs.Tree.{tree-of}
 use Rattle.format.specs.OneTable.{label-cost}
 
--- The bytes g are a fold of the run within the limit, and this is their one-table cost.
+-- The bytes g are a fold of the run within the limit, well formed whatever the prices, and this is their one-table cost.
 pub record FoldByLabel (run : List ℕ) (limit : ℕ) (table : List ℕ) (first each : ℕ) (g : List ℕ) (cost : ℕ) : Type 0 where
   pub formed : WellFormed (format-rules free) g
   pub unrolls : formed .text ≡ run
   pub within : widest-of (tree-of g) ≤ limit
   pub costs : label-cost table first each (tree-of g) ≡ cost
 
--- The bytes f are the cheapest of these: no fold costs less, and every other one of that cost has bytes that come later.
+-- The bytes f are the cheapest of these: no fold of the run within the limit costs less, and every other one of that cost has
+-- bytes that come later.
 pub record CheapestByLabel (run : List ℕ) (limit : ℕ) (table : List ℕ) (first each : ℕ) (f : List ℕ) (cost : ℕ) : Type 0 where
   pub fold : FoldByLabel run limit table first each f cost
   pub no-cheaper : (g : List ℕ) (c : ℕ) → Bytes g → FoldByLabel run limit table first each g c → cost ≤ c

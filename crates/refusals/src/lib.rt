@@ -232,12 +232,8 @@ pub fn settings() {
     high_limit(&right);
 }
 
-// Tables with so many entries for steps and so many for groups, at a limit that 12 refuses.
-fn tables(refusal: u8, steps: &[u16], groups: &[u16]) {
-    by_tables(refusal, b"\x13", 1025, steps, groups);
-}
-
-fn by_tables(refusal: u8, input: &[u8], limit: usize, steps: &[u16], groups: &[u16]) {
+// The example of a refusal with tables of these sizes, by fold reader and folder.
+fn refused_tables(refusal: u8, input: &[u8], limit: usize, steps: &[u16], groups: &[u16]) {
     let e = placeless(refusal);
     row(refusal, input, limit);
     number(b", costs of ", steps.len() as u64);
@@ -247,6 +243,11 @@ fn by_tables(refusal: u8, input: &[u8], limit: usize, steps: &[u16], groups: &[u
     word(b",");
     by_roomy_folder(input, limit, steps, groups, e);
     word(b"\n");
+}
+
+// The same at a limit that 12 refuses.
+fn tables(refusal: u8, steps: &[u16], groups: &[u16]) {
+    refused_tables(refusal, b"\x13", 1025, steps, groups);
 }
 
 // The table of steps wrong, that of groups wrong, and both at once: then 11 comes first.
@@ -268,12 +269,12 @@ fn wrong_tables() {
 
 // 15 before every command, each of which is refused by itself.
 fn before_commands(steps: &[u16], groups: &[u16]) {
-    by_tables(15, b"\x13", 1024, steps, groups);
-    by_tables(15, b"\x10", 1024, steps, groups);
-    by_tables(15, b"\x11", 1024, steps, groups);
-    by_tables(15, b"\x12", 1024, steps, groups);
-    by_tables(15, b"\x20", 1024, steps, groups);
-    by_tables(15, b"\x21", 1024, steps, groups);
+    refused_tables(15, b"\x13", 1024, steps, groups);
+    refused_tables(15, b"\x10", 1024, steps, groups);
+    refused_tables(15, b"\x11", 1024, steps, groups);
+    refused_tables(15, b"\x12", 1024, steps, groups);
+    refused_tables(15, b"\x20", 1024, steps, groups);
+    refused_tables(15, b"\x21", 1024, steps, groups);
 }
 
 fn high_limit(labels: &[u16]) {

@@ -23,7 +23,12 @@ fn show(name: &[u8], s: Sums) {
 fn main() {
     let all = Settings { from: 0, to: 30 };
     let some = Settings { from: 4, to: 10 };
+    let apart = Settings { from: 25, to: 30 };
     show(b"runs of up to 5 nodes", try_runs(all, true, 5));
     show(b"runs of up to 6 nodes", try_runs(some, true, 6));
+    show(
+        b"runs of up to 6 nodes, groups priced apart",
+        try_runs(apart, true, 6),
+    );
     show(b"runs of up to 9 steps", try_runs(all, false, 9));
 }

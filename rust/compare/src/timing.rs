@@ -135,7 +135,7 @@ pub fn price_sets() -> [(&'static str, Prices); 4] {
         ("first 0, each 1", Prices::by_label(ones, 0, 1)),
         (
             "random",
-            // Drawn in this order, so that adding a price leaves the others as they were.
+            // The groups' costs are drawn last, so that steps and repeats cost what they did without them.
             {
                 let steps = (0..256).map(|_| 1 + r.below(1000) as u16).collect();
                 let (first, each) = (r.below(2000) as u16, r.below(100) as u16);

@@ -79,7 +79,7 @@ fn tables_of_other_sizes() {
             let refusal = match (steps, groups) {
                 (256, 256) => LimitSize,
                 (256, _) => GroupTableSize,
-                _ => TableSize,
+                _ => StepTableSize,
             };
             assert_eq!(read_fold(&[0x13], 1025, lent), Err(refusal), "{steps} and {groups}");
             assert_eq!(folded(&[0x13], 1025, lent), Err(refusal), "{steps} and {groups}");
@@ -180,8 +180,8 @@ fn numbered_refusals() {
         assert_eq!(unroll(&fold, limit, &mut [0; 64]), Err(refusal));
     }
     let short = Prices { steps: &UNIT[..255], ..unit };
-    assert_eq!(read_fold(&[], 1025, short), Err(TableSize));
-    assert_eq!(folded(&[], 1025, short), Err(TableSize));
+    assert_eq!(read_fold(&[], 1025, short), Err(StepTableSize));
+    assert_eq!(folded(&[], 1025, short), Err(StepTableSize));
     let short = Prices { groups: &UNIT[..255], ..unit };
     assert_eq!(read_fold(&[], 1025, short), Err(GroupTableSize));
     assert_eq!(folded(&[], 1025, short), Err(GroupTableSize));

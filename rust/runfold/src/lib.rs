@@ -1,6 +1,6 @@
 //! The run folder. A *run* is a record of steps and nested groups of steps, as bytes. A *fold* is the same run with nested
-//! repeats, priced by the costs of steps, of groups and of repeats. The folder gives the cheapest fold of a run, the fold reader reads a fold
-//! and gives its cost, the unroller gives the run back. `docs/FORMAT.md` has the bytes of both.
+//! repeats, priced by the costs of steps, of groups and of repeats. The folder gives the cheapest fold of a run, the fold
+//! reader reads a fold and gives its cost, the unroller gives the run back. `docs/FORMAT.md` has the bytes of both.
 //!
 //! ```
 //! use runfold::{folded, unroll, Prices, MAX_WIDTH, RUN_ROOM};
@@ -90,7 +90,7 @@ pub const STACK: usize = 98_304;
 /// What steps, groups and repeats cost.
 #[derive(Clone, Copy, Debug, PartialEq, Eq, Hash)]
 pub struct Prices<'a> {
-    /// What a step costs by its label, 256 entries; any other number of entries is [`Refusal::TableSize`].
+    /// What a step costs by its label, 256 entries; any other number of entries is [`Refusal::StepTableSize`].
     pub steps: &'a [u16],
     /// What a group costs by its label, beside what it holds, 256 entries; any other number is [`Refusal::GroupTableSize`].
     pub groups: &'a [u16],

@@ -72,7 +72,7 @@ pub enum Refusal {
         place: usize,
     },
     /// 11: the costs of steps are not 256 entries.
-    TableSize,
+    StepTableSize,
     /// 12: the width limit is over 1,024.
     LimitSize,
     /// 13: a work slice is too short.
@@ -100,7 +100,7 @@ impl Refusal {
             8 => Deep { place },
             9 => FalseWidth { place },
             10 => ManyNodes { place },
-            11 => TableSize,
+            11 => StepTableSize,
             12 => LimitSize,
             13 => WorkSize,
             14 => OutputSize,
@@ -122,7 +122,7 @@ impl Refusal {
             Deep { .. } => 8,
             FalseWidth { .. } => 9,
             ManyNodes { .. } => 10,
-            TableSize => 11,
+            StepTableSize => 11,
             LimitSize => 12,
             WorkSize => 13,
             OutputSize => 14,
@@ -143,7 +143,7 @@ impl Refusal {
             | Deep { place }
             | FalseWidth { place }
             | ManyNodes { place } => place,
-            TableSize | LimitSize | WorkSize | OutputSize | GroupTableSize => 0,
+            StepTableSize | LimitSize | WorkSize | OutputSize | GroupTableSize => 0,
         }
     }
 
@@ -160,7 +160,7 @@ impl Refusal {
             Deep { .. } => "a 9th open group or an 11th open repeat",
             FalseWidth { .. } => "width operand not the true width, found at 21",
             ManyNodes { .. } => "node total would pass 1,024",
-            TableSize => "step cost table not of 256 entries",
+            StepTableSize => "step cost table not of 256 entries",
             LimitSize => "width limit over 1,024",
             WorkSize => "a work slice too short",
             OutputSize => "output shorter than the result",

@@ -598,6 +598,10 @@ fn main() {
         println!("REFUSALS NEVER SEEN: {}", missing.join(", "));
         exit(1);
     }
+    if c.unlike_tables == 0 {
+        println!("NO FOLD WITH GROUPS PRICED UNLIKE STEPS");
+        exit(1);
+    }
     println!("\ncompared calls");
     for (name, calls) in ENTRY_NAMES.iter().zip(c.calls) {
         println!("  {name:15} {calls:9}");
