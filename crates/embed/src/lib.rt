@@ -75,7 +75,8 @@ pub extern "C" fn runfold_part(run: &[u8], at: usize) -> usize
     part(run, at).len()
 }
 
-// The fold reader at a width limit and costs: the nodes and the bytes of the run, the fold's cost, and the run's steps and depth.
+// The fold reader at a width limit and costs, of which `steps` and `groups` are the tables: the nodes and the bytes of the run,
+// the fold's cost, and the run's steps and depth.
 #[no_mangle]
 pub extern "C" fn runfold_read_fold(
     fold: &[u8],
@@ -130,7 +131,7 @@ pub extern "C" fn runfold_unroll(
     r.refusal
 }
 
-// The folder at a width limit and costs, over two lent work slices: the length written and the fold's cost.
+// The folder at a width limit and the same costs, over two lent work slices: the length written and the fold's cost.
 #[no_mangle]
 pub extern "C" fn runfold_fold(
     run: &[u8],

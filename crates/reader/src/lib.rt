@@ -167,8 +167,9 @@ pub fn measure(fold: &[u8], limit: usize) -> FoldReading
     read_headed(fold, head, &free, &free, 0, 0)
 }
 
-// The fold reader: refusals 11, 15, 12, 1 and 3 to 10, or the nodes, bytes, steps and depth of the run and the fold's cost. What it
-// accepts means, in the report's words, a run of that length at that cost.
+// The fold reader: refusals 11, 15, 12, 1 and 3 to 10, or the nodes, bytes, steps and depth of the run and the fold's cost.
+// `steps` and `groups` are the cost tables: what a step and what a group costs by its label. What it accepts means, in the
+// report's words, a run of that length at that cost.
 pub fn read_fold(
     fold: &[u8],
     limit: usize,

@@ -15,7 +15,7 @@ use format::Tally;
 use walk::sequence;
 ghost use Rattle.walk.specs.Walk.{Sane, Whole, rules-of};
 
-// The whole input: the top sequence, then the end and no close.
+// The whole input, at the cost tables of steps and of groups: the top sequence, then the end and no close.
 pub fn whole(s: &[u8], steps: &[u16], groups: &[u16], a: Terms) -> Walk
     requires { ⌜ Sane a ⌝ }
     ensures { λ r. ⌜ Whole (rules-of a (now (steps .entry)) (now (groups .entry))) (now (s .entry)) r ⌝ }

@@ -1,5 +1,5 @@
 // The walk over a sequence: a sequence is made of items, and a group or a repeat holds a sequence. The functions here call
-// each other, remaining bytes falling; every test stands in command.rt.
+// each other, remaining bytes falling; every test stands in command.rt. `steps` and `groups` are the cost tables.
 use crate::command::Depth;
 use crate::command::Operands;
 use crate::command::Terms;
