@@ -15,7 +15,7 @@ use Rattle.format.specs.OneTable.{by-label}
 use Rattle.format.proofs.Heads.{headed-accepted, headed-narrow}
 use Rattle.format.proofs.OneTable.{equal-tables-headed}
 use Rattle.optimum.specs.Cheapest.{cheapest, best-cost}
-use Rattle.optimum.specs.Verdict.{Verdict, refuses, folds, verdict}
+use Rattle.optimum.specs.Verdict.{folds, verdict}
 use Rattle.optimum.specs.OneTable.{CheapestByLabel}
 use Rattle.optimum.proofs.Demands.{cheapest-small, cheapest-bytes}
 use Rattle.optimum.proofs.OneTable.{equal-tables-cheapest}
