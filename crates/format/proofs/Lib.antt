@@ -5,6 +5,7 @@ pub mod Machine
 pub mod Bridge
 pub mod Depth
 pub mod Short
+pub mod Standing
 pub mod Refusals
 pub mod Heads
 pub mod More

@@ -14,3 +14,4 @@ pub mod Tree
 pub mod Report
 pub mod Meaning
 pub mod OneTable
+pub mod inner

@@ -23,7 +23,7 @@ use Rattle.format.specs.declared.Unrolled.{Unrolled}
 use Rattle.format.proofs.Bridge.{parses}
 use Rattle.format.proofs.Report.{accepted-means, accepted-length, outcome-read, outcome-some}
 use Rattle.unroller.specs.Unrolling.{unroll-answer, unroll-output}
-use Rattle.unroller.specs.inner.Writing.{SequenceAt, PassedOver}
+use Rattle.unroller.specs.inner.Writing.{SequenceFrom, PassedOver}
 use Rattle.unroller.specs.declared.write.Place.{Place}
 
 -- What the contract promises of the answer and of the output.
@@ -102,18 +102,20 @@ module _ (s : List ℕ) (small : Bytes s) (k : ℕ) (m : FoldReading) (reads : m
           promised s k small out out _ (rw (r .reading, lt-ltb _ _ f)) (rw (r .reading, lt-ltb _ _ f))
 
       module _ (enough : m .length ≤ length out) where
-        pub whole-fold : SequenceAt s (length out) top (r .tree .tree)
+        pub whole-fold : SequenceFrom s (length out) top (r .tree .tree)
         whole-fold =
             let a = r .tree in
             record {
-              rest = [];
               stands = record {
-                form = sym (a .form) ∙ sym (append-nil (bytes (a .tree)));
-                allowed = at-most k;
-                sound = a .shape .sound;
-                fits = omega (arith, r .size, ap length (a .text));
+                rest = [];
+                stands = record {
+                  form = sym (a .form) ∙ sym (append-nil (bytes (a .tree)));
+                  allowed = at-most k;
+                  sound = a .shape .sound;
+                };
+                ends = tt;
               };
-              ends = tt;
+              fits = omega (arith, r .size, ap length (a .text));
             }
 
         pub run-written : (after : List ℕ) (q : Place) → PassedOver out after top (r .tree .tree) q

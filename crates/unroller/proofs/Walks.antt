@@ -8,20 +8,17 @@ use lib.ListN.{length, length-append, getD, set, length-set, take, drop}
 use lib.Seq.{sets, length-sets}
 use Rattle.format.specs.Forest.{Forest, end, step, group, repeat, join, unroll, bytes}
 use Rattle.format.specs.Machine.{times}
-use Rattle.format.proofs.Forests.{join-end, join-assoc, bytes-join, unroll-join}
-use Rattle.unroller.specs.inner.Writing.{FormAt, SequenceAt, ItemAt, PassedOver}
-use Rattle.unroller.specs.declared.write.Place.{Place}
+use Rattle.format.proofs.Forests.{bytes-join, unroll-join}
 use Rattle.format.proofs.Lists.{sets-append}
+use Rattle.format.proofs.Standing.{one-some, item-step, NoItem, Along, along-none, along-ended, next, next-item, along-more}
+use Rattle.unroller.specs.inner.Writing.{SequenceFrom, ItemFrom, PassedOver}
+use Rattle.unroller.specs.declared.write.Place.{Place}
 use Rattle.unroller.proofs.Stores.{sets-part}
-use Rattle.unroller.proofs.Places.{unrolled-step, unrolled-group, unrolled-repeat, size-step, size-group, size-repeat, one-some, RepeatAt, GroupAt, item-step, front-stands, back-stands, Cut, sequence-cut, NoItem, sequence-ended}
+use Rattle.unroller.proofs.Places.{unrolled-step, unrolled-group, unrolled-repeat, size-step, size-group, size-repeat, size-join, behind, body-of, its-repeat, repeat-some, repeat-fits, repeat-inside, its-group, group-fits, group-inside}
 
 -- Writing keeps the length of the output.
 put-length : {a b : List ℕ} {w r : Place} {f : Forest} → PassedOver a b w f r → length b ≡ length a
 put-length {a} {b} {w} {r} {f} y = ap length (y .output) ∙ length-sets a (w .to) (bytes (unroll f))
-
--- The place behind the open and the label of a node.
-abbrev pub behind : Place → Place
-behind w = record { at = w .at + 2; to = w .to + 2 }
 
 -- The output with the open and the label of a node.
 abbrev pub opened : List ℕ → List ℕ → Place → List ℕ
@@ -40,9 +37,9 @@ put-step out w c l e =
       output = let n : w .to + 1 ≡ suc (w .to) = omega arith in rw (unrolled-step l, e, n);
     }
 
-pub step-put : {s : List ℕ} (out : List ℕ) {w : Place} {f : Forest} → ItemAt s (length out) w f → getD s (w .at) 0 ≡ 0x10
+pub step-put : {s : List ℕ} (out : List ℕ) {w : Place} {f : Forest} → ItemFrom s (length out) w f → getD s (w .at) 0 ≡ 0x10
     → PassedOver out (opened s out w) w f (behind w)
-step-put {s} out {w} i e = rw (item-step i e) (put-step out w _ (getD s (w .at + 1) 0) e)
+step-put {s} out {w} i e = rw (item-step (i .stands) e) (put-step out w _ (getD s (w .at + 1) 0) e)
 
 -- A group is its open and its label, its body and its close.
 put-group : (out : List ℕ) (w : Place) (c l : ℕ) (b : Forest) (r : Place) (after : List ℕ) → c ≡ 0x11
@@ -62,28 +59,29 @@ put-group out w c l b r after e y =
           (omega (arith, y .reached))));
     }
 
-module _ {s : List ℕ} (out : List ℕ) {w : Place} {f : Forest} (q : GroupAt s (length out) w f) where
-  pub group-inside : SequenceAt s (length (opened s out w)) (behind w) (q .body)
-  group-inside = q .inside (length (opened s out w)) (opened-length s out w)
+module _ {s : List ℕ} (out : List ℕ) {w : Place} {f : Forest} (i : ItemFrom s (length out) w f)
+    (e : getD s (w .at) 0 ≢ 0x20) (g : getD s (w .at) 0 ≢ 0x10) where
+  pub opened-inside : SequenceFrom s (length (opened s out w)) (behind w) (its-group i e g .body)
+  opened-inside = group-inside i e g (length (opened s out w)) (opened-length s out w)
 
   module _ {r : Place} {after : List ℕ}
-      (put : (b : Forest) → SequenceAt s (length (opened s out w)) (behind w) b → PassedOver (opened s out w) after (behind w) b r) where
-    body-put : PassedOver (opened s out w) after (behind w) (q .body) r
-    body-put = put (q .body) group-inside
+      (put : (b : Forest) → SequenceFrom s (length (opened s out w)) (behind w) b → PassedOver (opened s out w) after (behind w) b r) where
+    body-put : PassedOver (opened s out w) after (behind w) (its-group i e g .body) r
+    body-put = put (its-group i e g .body) opened-inside
 
     pub group-next : r .at < length s
-    group-next = omega (arith, body-put .passed, q .there)
+    group-next = omega (arith, body-put .passed, its-group i e g .there)
 
     pub group-room : r .to < length after
-    group-room = omega (arith, body-put .reached, q .fits, put-length body-put, opened-length s out w)
+    group-room = omega (arith, body-put .reached, group-fits i e g, put-length body-put, opened-length s out w)
 
     pub group-put : PassedOver out (set after (r .to) 0x12) w f (record { at = r .at + 1; to = r .to + 1 })
-    group-put = rw (q .is) (put-group out w _ (getD s (w .at + 1) 0) (q .body) r after (q .byte) body-put)
+    group-put = rw (its-group i e g .is) (put-group out w _ (getD s (w .at + 1) 0) (its-group i e g .body) r after (its-group i e g .byte) body-put)
 
 -- A repeat is its body, written once and then copied on.
 put-repeat : (out : List ℕ) (w : Place) (h k : ℕ) (b : Forest) (r : Place) (after last : List ℕ) (to : ℕ) → 1 ≤ h
     → w .to + length (bytes (unroll b)) ≤ length out
-    → PassedOver out after (record { at = w .at + 5; to = w .to }) b r
+    → PassedOver out after (body-of w) b r
     → to ≡ r .to + (h - 1) * (r .to - w .to)
     → last ≡ sets after (r .to) (times (h - 1) (drop (w .to) (take (r .to) after)))
     → PassedOver out last w (repeat h k b end) (record { at = r .at + 1; to = to })
@@ -102,32 +100,30 @@ put-repeat out w h k b r after last to some fits y there copied =
           (sym (sets-append x (times (h - 1) x) out (w .to) (r .to) (sym (y .reached))));
     }
 
-module _ {s : List ℕ} (out : List ℕ) {w : Place} {f : Forest} (q : RepeatAt s (length out) w f) {count : ℕ}
+module _ {s : List ℕ} (out : List ℕ) {w : Place} {f : Forest} (i : ItemFrom s (length out) w f) (e : getD s (w .at) 0 ≡ 0x20) {count : ℕ}
     (read : count ≡ getD s (w .at + 1) 0 * 256 + getD s (w .at + 1 + 1) 0) where
-  pub repeat-some : 1 ≤ count
-  repeat-some = omega (arith, q .operand, q .some)
+  pub count-some : 1 ≤ count
+  count-some = omega (arith, read, its-repeat i e .operand, its-repeat i e .twice)
 
-  module _ {r : Place} {after : List ℕ}
-      (put : (b : Forest) → SequenceAt s (length out) (record { at = w .at + 5; to = w .to }) b
-      → PassedOver out after (record { at = w .at + 5; to = w .to }) b r) where
-    pass-put : PassedOver out after (record { at = w .at + 5; to = w .to }) (q .body) r
-    pass-put = put (q .body) (q .inside)
+  module _ {r : Place} {after : List ℕ} (put : (b : Forest) → SequenceFrom s (length out) (body-of w) b → PassedOver out after (body-of w) b r) where
+    pass-put : PassedOver out after (body-of w) (its-repeat i e .body) r
+    pass-put = put (its-repeat i e .body) (repeat-inside i e)
 
     pub repeat-next : r .at < length s
-    repeat-next = omega (arith, pass-put .passed, q .there)
+    repeat-next = omega (arith, pass-put .passed, its-repeat i e .there)
 
     pub repeat-room : (w .to ≤ r .to) × (r .to + (count - 1) * (r .to - w .to) ≤ length after)
     repeat-room =
-        let e : r .to - w .to ≡ length (bytes (unroll (q .body))) = omega (arith, pass-put .reached) in
-        (omega (arith, pass-put .reached), rw (e, read ∙ q .operand, put-length pass-put) (omega (arith, pass-put .reached, q .fits)))
+        let one : r .to - w .to ≡ length (bytes (unroll (its-repeat i e .body))) = omega (arith, pass-put .reached) in
+        (omega (arith, pass-put .reached), rw (one, read ∙ its-repeat i e .operand, put-length pass-put) (omega (arith, pass-put .reached, repeat-fits i e)))
 
     pub repeat-put : {to : ℕ} {last : List ℕ} → to ≡ r .to + (count - 1) * (r .to - w .to)
         → last ≡ sets after (r .to) (times (count - 1) (drop (w .to) (take (r .to) after)))
         → PassedOver out last w f (record { at = r .at + 1; to = to })
-    repeat-put {to} {last} e g =
-        let n = read ∙ q .operand in
-        rw (q .is)
-        (put-repeat out w (q .count) (q .width) (q .body) r after last to (q .some) (omega (arith, q .fits)) pass-put (rw n at e) (rw n at g))
+    repeat-put {to} {last} there copied =
+        let n = read ∙ its-repeat i e .operand in
+        rw (its-repeat i e .is)
+        (put-repeat out w (its-repeat i e .count) (its-repeat i e .width) (its-repeat i e .body) r after last to (repeat-some i e) (omega (arith, repeat-fits i e)) pass-put (rw n at there) (rw n at copied))
 
 -- One sequence behind another.
 put-join : {a b c : List ℕ} {w r q : Place} {f g : Forest} → PassedOver a b w f r → PassedOver b c r g q → PassedOver a c w (join f g) q
@@ -142,68 +138,44 @@ put-join {a} {b} {c} {w} {r} {q} {f} {g} y z =
     }
 
 -- A walk over the sequence f came from w to p: its first items are written, and the others stand at p.
-pub record Along (s before now : List ℕ) (w p : Place) (f : Forest) : Type 0 where
-  pub done : Forest
-  pub left : Forest
-  pub split : join done left ≡ f
-  pub put : PassedOver before now w done p
-  pub ahead : SequenceAt s (length before) p left
+pub record Writing (s before now : List ℕ) (w p : Place) (f : Forest) (rest : List ℕ) : Type 0 where
+  pub along : Along s (w .at) (p .at) f rest
+  pub put : PassedOver before now w (along .done) p
+  pub fits : w .to + length (bytes (unroll f)) ≤ length before
 
-pub along-none : (s out : List ℕ) (w : Place) (f : Forest) → SequenceAt s (length out) w f → Along s out out w w f
-unfolding join unroll bytes
-along-none s out w f z =
-    record {
-      done = end;
-      left = f;
-      split = refl;
-      put = record { passed = omega arith; reached = omega arith; output = refl };
-      ahead = z;
-    }
+none-put : (out : List ℕ) (w : Place) → PassedOver out out w end w
+unfolding unroll bytes
+none-put out w = record { passed = omega arith; reached = omega arith; output = refl }
 
-module _ {s before now : List ℕ} {w p : Place} {f : Forest} (a : Along s before now w p f) where
-  pub along-length : length now ≡ length before
-  along-length = put-length (a .put)
+pub writing-none : {s : List ℕ} (out : List ℕ) {w : Place} {f : Forest} (z : SequenceFrom s (length out) w f)
+    → Writing s out out w w f (z .stands .rest)
+writing-none out {w} z = record { along = along-none (z .stands .stands); put = none-put out w; fits = z .fits }
 
-  pub along-ends : NoItem s p → PassedOver before now w f p
-  along-ends e =
-      let n = sequence-ended (a .left) (a .ahead .stands) e in
-      let m : a .done ≡ f = sym (join-end (a .done)) ∙ ap (join (a .done)) (sym n) ∙ a .split in
-      rw m at (a .put)
+module _ {s before now : List ℕ} {w p : Place} {f : Forest} {rest : List ℕ} (a : Writing s before now w p f rest) where
+  pub writing-length : length now ≡ length before
+  writing-length = put-length (a .put)
 
-  -- Where no close stands before the end, one more item does.
-  module _ (there : p .at < length s) (g : getD s (p .at) 0 ≢ 0x12) (h : getD s (p .at) 0 ≢ 0x21) where
-    cut : Cut (a .left)
-    cut = sequence-cut (a .ahead) there g h
+  pub writing-ends : NoItem s (p .at) → PassedOver before now w f p
+  writing-ends e = rw (along-ended (a .along) e) at (a .put)
 
-    stands : FormAt s (length before) p (join (cut .front) (cut .back)) (a .ahead .rest)
-    stands = rw (cut .split) (a .ahead .stands)
+  -- Where an item is left, it stands next and has room.
+  module _ (some : a .along .left ≢ end) where
+    abbrev pub item : Forest
+    item = next (a .along) some .front
 
-    next : ItemAt s (length now) p (cut .front)
-    next =
-        record {
-          rest = bytes (cut .back) ++ a .ahead .rest;
-          stands = rw along-length (front-stands (cut .front) (cut .back) stands);
-          one = cut .one;
-        }
+    total : length (bytes (unroll f)) ≡ length (bytes (unroll (a .along .done))) + (length (bytes (unroll item)) + length (bytes (unroll (next (a .along) some .back))))
+    total =
+        ap (λ (g : Forest). length (bytes (unroll g))) (sym (a .along .split))
+        ∙ size-join (a .along .done) (a .along .left)
+        ∙ ap (λ (g : Forest). length (bytes (unroll (a .along .done))) + length (bytes (unroll g))) (sym (next (a .along) some .split))
+        ∙ ap (λ (n : ℕ). length (bytes (unroll (a .along .done))) + n) (size-join item (next (a .along) some .back))
 
-    pub along-item : (i : Forest) × ItemAt s (length now) p i
-    along-item = (cut .front, next)
+    pub writing-item : ItemFrom s (length now) p item
+    writing-item = record { stands = next-item (a .along) some; fits = omega (arith, a .put .reached, a .fits, total, writing-length) }
 
-    module _ {after : List ℕ} {r : Place} (put : (i : Forest) → ItemAt s (length now) p i → PassedOver now after p i r) where
-      pub along-further : p .at < r .at
-      along-further = omega (arith, put (cut .front) next .passed, one-some (cut .one))
+    module _ {after : List ℕ} {r : Place} (y : PassedOver now after p item r) where
+      pub writing-further : p .at < r .at
+      writing-further = omega (arith, y .passed, one-some (next (a .along) some .one))
 
-      pub along-more : Along s before after w r f
-      along-more =
-          let y = put (cut .front) next in
-          record {
-            done = join (a .done) (cut .front);
-            left = cut .back;
-            split = join-assoc (a .done) (cut .front) (cut .back) ∙ rw (cut .split) (a .split);
-            put = put-join (a .put) y;
-            ahead = record {
-              rest = a .ahead .rest;
-              stands = back-stands (cut .front) (cut .back) stands r (y .passed) (y .reached);
-              ends = a .ahead .ends;
-            };
-          }
+      pub writing-more : Writing s before after w r f rest
+      writing-more = record { along = along-more (a .along) some (r .at) (y .passed); put = put-join (a .put) y; fits = a .fits }

@@ -9,7 +9,7 @@ ghost use lib.ListN.{length, take, drop};
 ghost use lib.Seq.{sets};
 ghost use Rattle.format.specs.Forest.{Forest};
 ghost use Rattle.format.specs.Machine.{times};
-ghost use Rattle.unroller.specs.inner.Writing.{SequenceAt, ItemAt, PassedOver};
+ghost use Rattle.unroller.specs.inner.Writing.{SequenceFrom, ItemFrom, PassedOver};
 
 // How far the fold is read, and how far the output is written.
 pub struct Place {
@@ -37,8 +37,8 @@ fn copy_on(out: &mut [u8], start: usize, to: usize, more: usize) -> usize
 
 // The items from a place on, up to the end of the input or to a close. A loop, so that siblings take no stack.
 pub fn put_sequence(s: &[u8], out: &mut [u8], w: Place) -> Place
-    requires { ⌜ ((f : Forest) × SequenceAt (now s) (length (now out)) w f) ⌝ }
-    ensures { λ r. ⌜ ((f : Forest) → SequenceAt (now (s .entry)) (length (now (out .entry))) w f → PassedOver (now (out .entry)) (now (out .exit)) w f r) ⌝ }
+    requires { ⌜ ((f : Forest) × SequenceFrom (now s) (length (now out)) w f) ⌝ }
+    ensures { λ r. ⌜ ((f : Forest) → SequenceFrom (now (s .entry)) (length (now (out .entry))) w f → PassedOver (now (out .entry)) (now (out .exit)) w f r) ⌝ }
 {
     let mut p = w;
     while p.at < s.len() {
@@ -57,8 +57,8 @@ pub fn put_sequence(s: &[u8], out: &mut [u8], w: Place) -> Place
 
 // The item at a place. A repeat is unrolled once and then copied, so that its body is walked once whatever its count.
 fn put_item(s: &[u8], out: &mut [u8], w: Place) -> Place
-    requires { ⌜ ((f : Forest) × ItemAt (now s) (length (now out)) w f) ⌝ }
-    ensures { λ r. ⌜ ((f : Forest) → ItemAt (now (s .entry)) (length (now (out .entry))) w f → PassedOver (now (out .entry)) (now (out .exit)) w f r) ⌝ }
+    requires { ⌜ ((f : Forest) × ItemFrom (now s) (length (now out)) w f) ⌝ }
+    ensures { λ r. ⌜ ((f : Forest) → ItemFrom (now (s .entry)) (length (now (out .entry))) w f → PassedOver (now (out .entry)) (now (out .exit)) w f r) ⌝ }
 {
     let at = w.at;
     let to = w.to;

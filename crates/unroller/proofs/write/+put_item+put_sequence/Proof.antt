@@ -2,16 +2,18 @@
 -- at one offset a sequence stands above an item. The loop's invariant: whatever sequence stands at the beginning, its first
 -- items are written and the others stand at the place reached.
 use mathlib.Core.Path.{_∙_}
+use mathlib.Core.Logic.{_≢_}
 use Prim.Native.Nat.{ℕ, _+_, _-_, _*_, _<_, _≤_}
 use native.Mathlib.Omega.{arith}
 use lib.ListN.{length, length-set}
 use borrow.Fn.Kinds.{In}
 use borrow.Fn.PlainCycle.{Measures, is, falls, and}
-use Rattle.format.specs.Forest.{Forest}
+use Rattle.format.specs.Forest.{Forest, end}
+use Rattle.format.proofs.Standing.{item-there, item-node, more-before-close}
 use Rattle.walk.proofs.operand.Reads as operand-reads
-use Rattle.unroller.specs.inner.Writing.{SequenceAt}
-use Rattle.unroller.proofs.Places.{RepeatAt, GroupAt, item-there, item-repeat, item-node, item-group}
-use Rattle.unroller.proofs.Walks.{opened-length, step-put, group-inside, group-next, group-room, group-put, repeat-some, repeat-next, repeat-room, repeat-put, Along, along-none, along-length, along-ends, along-item, along-further, along-more}
+use Rattle.unroller.specs.inner.Writing.{SequenceFrom}
+use Rattle.unroller.proofs.Places.{node-fits, its-repeat, repeat-inside}
+use Rattle.unroller.proofs.Walks.{opened-length, step-put, opened-inside, group-next, group-room, group-put, count-some, repeat-next, repeat-room, repeat-put, Writing, writing-none, writing-length, writing-ends, item, writing-item, writing-further, writing-more}
 use Rattle.unroller.proofs.write.copy_on.Reads as copy-on-reads
 use Rattle.unroller.proofs.write.put_item.Reads as put-item
 use Rattle.unroller.proofs.write.put_item.Kinds as put-item-kinds
@@ -69,57 +71,51 @@ module _ (t : ℕ) where
   grouped c = c .before .before
 
   -- What each branch knows of its item.
-  abbrev Its-repeat : item-lts.Start (item-calls t) (item-start t) put-item.Post → Type 0
-  Its-repeat S = RepeatAt (S .args .s .now) (length (S .args .out .now)) (S .args .w) (S .pre .1 .0)
-
-  abbrev Its-group : item-lts.Start (item-calls t) (item-start t) put-item.Post → Type 0
-  Its-group S = GroupAt (S .args .s .now) (length (S .args .out .now)) (S .args .w) (S .pre .1 .0)
-
-  its-repeat : (c : item-lts.Then1 (item-calls t) (item-start t) put-item.Post) → Its-repeat (repeat-from c)
-  its-repeat c = let S = repeat-from c in item-repeat (S .pre .1 .1) (c .if1 .taken)
-
   its-node : (c : item-lts.Else1 (item-calls t) (item-start t) put-item.Post)
       → let S = node-from c in (S .args .w .at + 2 ≤ length (S .args .s .now)) × (S .args .w .to + 2 ≤ length (S .args .out .now))
-  its-node c = let S = node-from c in item-node (S .pre .1 .1) (c .if1 .left)
+  its-node c = let S = node-from c in (item-node (S .pre .1 .1 .stands) (c .if1 .left), node-fits (S .pre .1 .1) (c .if1 .left))
 
-  its-group : (c : item-lts.Else2 (item-calls t) (item-start t) put-item.Post) → Its-group (node-from (no-step c))
-  its-group c = let S = node-from (no-step c) in item-group (S .pre .1 .1) (no-step c .if1 .left) (c .if2 .left)
+  repeat-there : (c : item-lts.Then1 (item-calls t) (item-start t) put-item.Post) → let S = repeat-from c in S .args .w .at + 5 < length (S .args .s .now)
+  repeat-there c = let S = repeat-from c in omega (arith, its-repeat (S .pre .1 .1) (c .if1 .taken) .there)
 
   item-shared-slice-read-c : item-lts.Need-shared-slice-read-c (item-calls t) (item-start t) put-item.Post
-  item-shared-slice-read-c c = let S = c .before .before .before in item-there (S .pre .1 .1)
+  item-shared-slice-read-c c = let S = c .before .before .before in item-there (S .pre .1 .1 .stands)
 
   item-add-operand : item-lts.Need-add-operand (item-calls t) (item-start t) put-item.Post
-  item-add-operand c = omega (arith, its-repeat c .there)
+  item-add-operand c = omega (arith, repeat-there c)
 
   item-operand-requires : item-lts.Need-operand-requires (item-calls t) (item-start t) put-item.Post
   item-operand-requires c κs = tt
 
   item-add-copy-on : item-lts.Need-add-copy-on (item-calls t) (item-start t) put-item.Post
-  item-add-copy-on c = omega (arith, its-repeat (c .before .before) .there)
+  item-add-copy-on c = omega (arith, repeat-there (c .before .before))
 
   item-put-sequence-requires : item-lts.Need-put-sequence-requires (item-calls t) (item-start t) put-item.Post
   item-put-sequence-requires c κs =
-      let S = repeat-from (c .before .before) in
-      let q = its-repeat (c .before .before) in
-      (omega (arith, S .pre .0, q .there), (q .body, q .inside))
+      let r = c .before .before in
+      let S = repeat-from r in
+      (omega (arith, S .pre .0, repeat-there r), (_, repeat-inside (S .pre .1 .1) (r .if1 .taken)))
 
   item-sub-copy-on : item-lts.Need-sub-copy-on (item-calls t) (item-start t) put-item.Post
   item-sub-copy-on c =
       let p = c .before .before .before in
       let n = counted p in
-      repeat-some (repeat-from (n .before) .args .out .now) (its-repeat (n .before)) (n .operand .ensures .0)
+      let S = repeat-from (n .before) in
+      count-some (S .args .out .now) (S .pre .1 .1) (n .before .if1 .taken) (n .operand .ensures .0)
 
   item-copy-on-requires : item-lts.Need-copy-on-requires (item-calls t) (item-start t) put-item.Post
   item-copy-on-requires c κs =
       let p = c .before .before .before in
       let n = counted p in
-      repeat-room (repeat-from (n .before) .args .out .now) (its-repeat (n .before)) (n .operand .ensures .0) (p .put-sequence .ensures)
+      let S = repeat-from (n .before) in
+      repeat-room (S .args .out .now) (S .pre .1 .1) (n .before .if1 .taken) (n .operand .ensures .0) (p .put-sequence .ensures)
 
   item-add-t16 : item-lts.Need-add-t16 (item-calls t) (item-start t) put-item.Post
   item-add-t16 c =
       let p = copied (c .before .before .before) in
       let n = counted p in
-      omega (arith, repeat-next (repeat-from (n .before) .args .out .now) (its-repeat (n .before)) (n .operand .ensures .0) (p .put-sequence .ensures))
+      let S = repeat-from (n .before) in
+      omega (arith, repeat-next (S .args .out .now) (S .pre .1 .1) (n .before .if1 .taken) (n .operand .ensures .0) (p .put-sequence .ensures))
 
   item-same-length : item-lts.Need-same-length (item-calls t) (item-start t) put-item.Post
   item-same-length c =
@@ -132,7 +128,7 @@ module _ (t : ℕ) where
       let p = copied d in
       let n = counted p in
       let e = d .copy-on .ensures in
-      λ f i. repeat-put (repeat-from (n .before) .args .out .now) (item-repeat i (n .before .if1 .taken)) (n .operand .ensures .0) (p .put-sequence .ensures) (e .0) (e .1)
+      λ f i. repeat-put (repeat-from (n .before) .args .out .now) i (n .before .if1 .taken) (n .operand .ensures .0) (p .put-sequence .ensures) (e .0) (e .1)
 
   item-slice-write-out : item-lts.Need-slice-write-out (item-calls t) (item-start t) put-item.Post
   item-slice-write-out c = omega (arith, its-node c .1)
@@ -167,30 +163,30 @@ module _ (t : ℕ) where
 
   item-put-sequence-requires-2 : item-lts.Need-put-sequence-requires-2 (item-calls t) (item-start t) put-item.Post
   item-put-sequence-requires-2 c κs =
-      let S = node-from (no-step (c .before)) in
-      let q = its-group (c .before) in
-      (omega (arith, S .pre .0, q .there), (q .body, group-inside (S .args .out .now) q))
+      let n = no-step (c .before) in
+      let S = node-from n in
+      (omega (arith, S .pre .0, its-node n .0), (_, opened-inside (S .args .out .now) (S .pre .1 .1) (n .if1 .left) (c .before .if2 .left)))
 
   item-slice-write-out-3 : item-lts.Need-slice-write-out-3 (item-calls t) (item-start t) put-item.Post
   item-slice-write-out-3 c =
       let p = c .before .before in
       let g = grouped p in
       let S = node-from (no-step g) in
-      group-room (S .args .out .now) (its-group g) (p .put-sequence2 .ensures)
+      group-room (S .args .out .now) (S .pre .1 .1) (no-step g .if1 .left) (g .if2 .left) (p .put-sequence2 .ensures)
 
   item-add-t25-2 : item-lts.Need-add-t25-2 (item-calls t) (item-start t) put-item.Post
   item-add-t25-2 c =
       let p = c .before .before .before in
       let g = grouped p in
       let S = node-from (no-step g) in
-      omega (arith, group-next (S .args .out .now) (its-group g) (p .put-sequence2 .ensures))
+      omega (arith, group-next (S .args .out .now) (S .pre .1 .1) (no-step g .if1 .left) (g .if2 .left) (p .put-sequence2 .ensures))
 
   item-add-t23-2 : item-lts.Need-add-t23-2 (item-calls t) (item-start t) put-item.Post
   item-add-t23-2 c =
       let p = c .before .before .before in
       let g = grouped p in
       let S = node-from (no-step g) in
-      omega (arith, group-room (S .args .out .now) (its-group g) (p .put-sequence2 .ensures), p .put-sequence2 .kept .1 .0, opened-length (S .args .s .now) (S .args .out .now) (S .args .w))
+      omega (arith, group-room (S .args .out .now) (S .pre .1 .1) (no-step g .if1 .left) (g .if2 .left) (p .put-sequence2 .ensures), p .put-sequence2 .kept .1 .0, opened-length (S .args .s .now) (S .args .out .now) (S .args .w))
 
   item-same-length-3 : item-lts.Need-same-length-3 (item-calls t) (item-start t) put-item.Post
   item-same-length-3 c =
@@ -204,10 +200,10 @@ module _ (t : ℕ) where
       let p = c .before .before .before in
       let g = grouped p in
       let S = node-from (no-step g) in
-      λ f i. group-put (S .args .out .now) (item-group i (no-step g .if1 .left) (g .if2 .left)) (p .put-sequence2 .ensures)
+      λ f i. group-put (S .args .out .now) i (no-step g .if1 .left) (g .if2 .left) (p .put-sequence2 .ensures)
 
 abbrev Inv-loop : sequence-lts.InvT-loop
-Inv-loop s out₀ p₀ out p = (f : Forest) → SequenceAt s (length out₀) p₀ f → Along s out₀ out p₀ p f
+Inv-loop s out₀ p₀ out p = (f : Forest) → (z : SequenceFrom s (length out₀) p₀ f) → Writing s out₀ out p₀ p f (z .stands .rest)
 
 abbrev μ-loop : sequence-lts.MeasureT-loop
 μ-loop s out₀ p₀ out p = length s - p .at
@@ -225,55 +221,71 @@ module _ (t : ℕ) where
 
   -- How far the walk over the required sequence has come.
   so-far : (c : sequence-lts.At-loop (sequence-calls t) (sequence-start t) put-sequence.Post Inv-loop μ-loop)
-      → let S = loop-from c in Along (S .args .s .now) (S .args .out .now) (c .loop .out) (S .args .w) (c .loop .p) (S .pre .1 .0)
+      → let S = loop-from c in Writing (S .args .s .now) (S .args .out .now) (c .loop .out) (S .args .w) (c .loop .p) (S .pre .1 .0) (S .pre .1 .1 .stands .rest)
   so-far c = let S = loop-from c in c .loop .inv (S .pre .1 .0) (S .pre .1 .1)
 
   sequence-loop-holds : sequence-lts.Need-loop-holds (sequence-calls t) (sequence-start t) put-sequence.Post Inv-loop μ-loop
-  sequence-loop-holds c = let a = c .before .before .args in along-none (a .s .now) (a .out .now) (a .w)
+  sequence-loop-holds c = let a = c .before .before .args in λ f z. writing-none (a .out .now) z
 
   sequence-shared-slice-read-c : sequence-lts.Need-shared-slice-read-c (sequence-calls t) (sequence-start t) put-sequence.Post Inv-loop μ-loop
   sequence-shared-slice-read-c c = c .before .if1 .taken
 
   sequence-same-length : sequence-lts.Need-same-length (sequence-calls t) (sequence-start t) put-sequence.Post Inv-loop μ-loop
-  sequence-same-length c = along-length (so-far (looped (c .before .before)))
+  sequence-same-length c = writing-length (so-far (looped (c .before .before)))
 
   sequence-returns : sequence-lts.Need-returns (sequence-calls t) (sequence-start t) put-sequence.Post Inv-loop μ-loop
   sequence-returns c =
-      λ f i. along-ends (looped (c .before .before) .loop .inv f i) (λ _. omega (arith, c .if2 .taken))
+      λ f i. writing-ends (looped (c .before .before) .loop .inv f i) (λ _. omega (arith, c .if2 .taken))
 
   sequence-same-length-2 : sequence-lts.Need-same-length-2 (sequence-calls t) (sequence-start t) put-sequence.Post Inv-loop μ-loop
-  sequence-same-length-2 c = along-length (so-far (looped (more (c .before))))
+  sequence-same-length-2 c = writing-length (so-far (looped (more (c .before))))
 
   sequence-returns-2 : sequence-lts.Need-returns-2 (sequence-calls t) (sequence-start t) put-sequence.Post Inv-loop μ-loop
   sequence-returns-2 c =
-      λ f i. along-ends (looped (more (c .before)) .loop .inv f i) (λ _. omega (arith, c .if3 .taken))
+      λ f i. writing-ends (looped (more (c .before)) .loop .inv f i) (λ _. omega (arith, c .if3 .taken))
+
+  -- Where no close stands there is a next item of whatever sequence stands at the beginning.
+  module _ (c : sequence-lts.Else3 (sequence-calls t) (sequence-start t) put-sequence.Post Inv-loop μ-loop) where
+    abbrev at-loop : sequence-lts.At-loop (sequence-calls t) (sequence-start t) put-sequence.Post Inv-loop μ-loop
+    at-loop = looped (more (c .before))
+
+    abbrev start : sequence-lts.Start (sequence-calls t) (sequence-start t) put-sequence.Post Inv-loop μ-loop
+    start = loop-from at-loop
+
+    some-left : (f : Forest) (z : SequenceFrom (start .args .s .now) (length (start .args .out .now)) (start .args .w) f)
+        → at-loop .loop .inv f z .along .left ≢ end
+    some-left f z =
+        more-before-close (at-loop .loop .inv f z .along) (z .stands .ends) (more (c .before) .if1 .taken) (c .before .if2 .left) (c .if3 .left)
 
   sequence-put-item-requires : sequence-lts.Need-put-item-requires (sequence-calls t) (sequence-start t) put-sequence.Post Inv-loop μ-loop
   sequence-put-item-requires c κs =
-      let e = c .before .before in
-      let m = more e in
-      let a = so-far (looped m) in
-      (omega (arith, loop-from (looped m) .pre .0, a .put .passed, m .if1 .taken), along-item a (m .if1 .taken) (e .if2 .left) (c .before .if3 .left))
+      let e = c .before in
+      let S = start e in
+      let a = at-loop e .loop .inv (S .pre .1 .0) (S .pre .1 .1) in
+      (omega (arith, S .pre .0, a .put .passed, more (e .before) .if1 .taken), (_, writing-item a (some-left e (S .pre .1 .0) (S .pre .1 .1))))
 
   sequence-loop-less : sequence-lts.Need-loop-less (sequence-calls t) (sequence-start t) put-sequence.Post Inv-loop μ-loop
   sequence-loop-less c =
       let p = c .before .before in
-      let e = p .before .before .before in
-      let m = more e in
-      omega (arith, m .if1 .taken, along-further (so-far (looped m)) (m .if1 .taken) (e .if2 .left) (p .before .before .if3 .left) (p .put-item .ensures))
+      let e = p .before .before in
+      let S = start e in
+      let a = at-loop e .loop .inv (S .pre .1 .0) (S .pre .1 .1) in
+      let m = some-left e (S .pre .1 .0) (S .pre .1 .1) in
+      omega (arith, more (e .before) .if1 .taken, writing-further a m (p .put-item .ensures (item a m) (writing-item a m)))
 
   sequence-loop-again : sequence-lts.Need-loop-again (sequence-calls t) (sequence-start t) put-sequence.Post Inv-loop μ-loop
   sequence-loop-again c =
       let p = c .before .before in
-      let e = p .before .before .before in
-      let m = more e in
-      λ f i. along-more (looped m .loop .inv f i) (m .if1 .taken) (e .if2 .left) (p .before .before .if3 .left) (p .put-item .ensures)
+      let e = p .before .before in
+      λ f z. let a = at-loop e .loop .inv f z in
+      let m = some-left e f z in
+      writing-more a m (p .put-item .ensures (item a m) (writing-item a m))
 
   sequence-same-length-3 : sequence-lts.Need-same-length-3 (sequence-calls t) (sequence-start t) put-sequence.Post Inv-loop μ-loop
-  sequence-same-length-3 c = along-length (so-far (c .before .before))
+  sequence-same-length-3 c = writing-length (so-far (c .before .before))
 
   sequence-returns-3 : sequence-lts.Need-returns-3 (sequence-calls t) (sequence-start t) put-sequence.Post Inv-loop μ-loop
-  sequence-returns-3 c = λ f i. along-ends (c .before .before .loop .inv f i) (λ e. absurd (omega (arith, c .if1 .left)))
+  sequence-returns-3 c = λ f i. writing-ends (c .before .before .loop .inv f i) (λ e. absurd (omega (arith, c .if1 .left)))
 
 pub +put-item+put-sequence-spec : {M : Type 1} → statement M
 +put-item+put-sequence-spec =
