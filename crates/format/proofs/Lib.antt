@@ -7,6 +7,7 @@ pub mod Depth
 pub mod Short
 pub mod Standing
 pub mod Refusals
+pub mod Alone
 pub mod Heads
 pub mod More
 pub mod CloseAfterOpen

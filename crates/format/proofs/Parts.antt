@@ -68,29 +68,33 @@ stands-bytes f p n (behind-group l b g q m h) rest =
     let i = stands-bytes g q m h rest in
     (i .0, rw (append-assoc (bytes b) (0x12 ∷ bytes g) rest, drop-append-add (bytes b) (0x12 ∷ bytes g ++ rest) (suc q)) (i .1))
 
--- Behind a whole run the count of operand bytes starts anew.
-pub starts-behind : (f : Forest) → Plain f → (p : ℕ) (rest : List ℕ) → starts (length (bytes f) + p) 0 (bytes f ++ rest) ≡ starts p 0 rest
+-- Behind a whole sequence the count of operand bytes starts anew.
+pub starts-behind : (f : Forest) (p : ℕ) (rest : List ℕ) → starts (length (bytes f) + p) 0 (bytes f ++ rest) ≡ starts p 0 rest
 unfolding bytes starts
-starts-behind end a p rest = rw zero-add
-starts-behind (step l f) a p rest = rw (suc-add, suc-add) (starts-behind f a p rest)
-starts-behind (group l b f) a p rest =
+starts-behind end p rest = rw zero-add
+starts-behind (step l f) p rest = rw (suc-add, suc-add) (starts-behind f p rest)
+starts-behind (group l b f) p rest =
     let e : length (bytes (group l b f)) + p ≡ suc (suc (length (bytes b) + suc (length (bytes f) + p))) =
     omega (arith, length-append (bytes b) (0x12 ∷ bytes f)) in
     rw (e, append-assoc (bytes b) (0x12 ∷ bytes f) rest)
-    (starts-behind b (a .0) (suc (length (bytes f) + p)) (0x12 ∷ bytes f ++ rest) ∙ starts-behind f (a .1) p rest)
-starts-behind (repeat h w b f) a p rest = absurd a
+    (starts-behind b (suc (length (bytes f) + p)) (0x12 ∷ bytes f ++ rest) ∙ starts-behind f p rest)
+starts-behind (repeat h w b f) p rest =
+    let e : length (bytes (repeat h w b f)) + p ≡ suc (suc (suc (suc (suc (length (bytes b) + suc (length (bytes f) + p)))))) =
+    omega (arith, length-append (bytes b) (0x21 ∷ bytes f)) in
+    rw (e, append-assoc (bytes b) (0x21 ∷ bytes f) rest)
+    (starts-behind b (suc (length (bytes f) + p)) (0x21 ∷ bytes f ++ rest) ∙ starts-behind f p rest)
 
 -- A node starts at each offset where one stands.
-pub stands-starts : (f : Forest) (p : ℕ) (n : Forest) → Stands f p n → Plain f → (rest : List ℕ) → starts p 0 (bytes f ++ rest) ≡ true
+pub stands-starts : (f : Forest) (p : ℕ) (n : Forest) → Stands f p n → (rest : List ℕ) → starts p 0 (bytes f ++ rest) ≡ true
 unfolding bytes starts
-stands-starts f p n (first-step l g) a rest = refl
-stands-starts f p n (first-group l b g) a rest = refl
-stands-starts f p n (behind-step l g q m h) a rest = stands-starts g q m h a rest
-stands-starts f p n (inside-group l b g q m h) a rest =
-    rw (append-assoc (bytes b) (0x12 ∷ bytes g) rest) (stands-starts b q m h (a .0) (0x12 ∷ bytes g ++ rest))
-stands-starts f p n (behind-group l b g q m h) a rest =
+stands-starts f p n (first-step l g) rest = refl
+stands-starts f p n (first-group l b g) rest = refl
+stands-starts f p n (behind-step l g q m h) rest = stands-starts g q m h rest
+stands-starts f p n (inside-group l b g q m h) rest =
+    rw (append-assoc (bytes b) (0x12 ∷ bytes g) rest) (stands-starts b q m h (0x12 ∷ bytes g ++ rest))
+stands-starts f p n (behind-group l b g q m h) rest =
     rw (append-assoc (bytes b) (0x12 ∷ bytes g) rest)
-    (starts-behind b (a .0) (suc q) (0x12 ∷ bytes g ++ rest) ∙ stands-starts g q m h (a .1) rest)
+    (starts-behind b (suc q) (0x12 ∷ bytes g ++ rest) ∙ stands-starts g q m h rest)
 
 -- Where a node starts, one stands, or it starts behind the run.
 after-close : (q : ℕ) (x : List ℕ) → starts q 0 (0x12 ∷ x) ≡ true → (r : ℕ) × (q ≡ suc r) × (starts r 0 x ≡ true)
@@ -135,7 +139,7 @@ module _ (f : Forest) (plain : Plain f) (p : ℕ) where
   pub part-there : run-reading (bytes f) .refusal ≡ 0 → (n : Forest) → Stands f p n → part-of (bytes f) p ≡ bytes n
   unfolding part-of
   part-there good n h =
-      let s = rw (append-nil (bytes f)) at (stands-starts f p n h plain []) in
+      let s = rw (append-nil (bytes f)) at (stands-starts f p n h []) in
       let t = stands-bytes f p n h [] in
       let d = rw (append-nil (bytes f)) at (t .1) in
       rw (eq-eqb _ _ good, s, d) (part-of-node n (stands-node f p n h plain) (t .0))

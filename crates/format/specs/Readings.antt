@@ -89,6 +89,15 @@ fold-outcome h P s = headed limits h (read (fold-rules (h .limit) P) s)
 abbrev pub measured : List ℕ → (limit : ℕ) → Outcome
 measured s k = fold-outcome (limit-head k) free s
 
+-- The greatest number that an operand of two bytes says. As a width limit it bars nothing: no width operand is over it.
+abbrev pub greatest-operand : ℕ
+greatest-operand = 65535
+
+-- A fold at an entry point that takes neither limit nor costs: refusals 1, 3 to 6 and 8 to 10.
+unfoldable pub fold-alone : List ℕ → Outcome
+unfolding read
+fold-alone s = read (fold-rules greatest-operand free) s
+
 -- The fold reader.
 unfoldable pub fold-reading : List ℕ → (limit : ℕ) → Tariff → FoldReading
 unfolding fold-outcome

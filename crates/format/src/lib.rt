@@ -40,6 +40,8 @@ impl Format {
     pub const WIDTH: usize = 1024;
     // The entries of a cost table: one for each label.
     pub const LABELS: usize = 256;
+    // The greatest number that an operand of two bytes says.
+    pub const OPERAND: usize = 65535;
 
     // A step: its label follows.
     pub const STEP: u8 = 0x10;

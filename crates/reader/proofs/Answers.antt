@@ -11,7 +11,7 @@ use Rattle.format.specs.Machine.{Rules, none, read, first-of}
 use Rattle.format.specs.Head.{head-checks, full-head}
 use Rattle.format.specs.Order.{Bytes}
 use Rattle.format.specs.Meaning.{MeansAtCost}
-use Rattle.format.specs.Readings.{run-rules, run-numbers, fold-numbers, as-run-reading, run-outcome, run-reading, fold-rules, fold-outcome, fold-reading, as-fold-reading}
+use Rattle.format.specs.Readings.{free, run-rules, run-numbers, fold-numbers, as-run-reading, run-outcome, run-reading, fold-rules, fold-outcome, greatest-operand, fold-alone, fold-reading, as-fold-reading}
 use Rattle.format.specs.declared.Head.{Head}
 use Rattle.format.specs.declared.RunReading.{RunReading}
 use Rattle.format.specs.declared.Tally.{Tally}
@@ -38,6 +38,11 @@ answered R s w walked = by-test (eqb (w .refusal) 0) refl
     by-test : (b : Bool) → eqb (w .refusal) 0 ≡ b → as-fold-reading (outcome w) ≡ as-fold-reading (read R s)
     by-test true e = rw (e, walked .reads (eqb-true _ _ e) .1)
     by-test false e = rw (e, walked .refuses (eqb-false _ _ e))
+
+-- A fold by itself.
+pub alone-read : (s : List ℕ) (w : Walk) → Whole (fold-rules greatest-operand free) s w → as-fold-reading (outcome w) ≡ as-fold-reading (fold-alone s)
+unfolding fold-alone
+alone-read s w walked = answered (fold-rules greatest-operand free) s w walked
 
 -- The answers at an entry point: by the head's refusal, or by what follows.
 module _ (h : Head) (n : ℕ) (checked : n ≡ first-of (head-checks limits h)) where

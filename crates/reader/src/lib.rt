@@ -17,7 +17,7 @@ use walk::whole;
 ghost use mathlib.Core.Path.{_≡_};
 ghost use mathlib.Core.Bool.{true};
 ghost use Rattle.format.specs.Limits.{tariff, priced};
-ghost use Rattle.format.specs.Readings.{run-numbers, fold-numbers, as-run-reading, run-outcome, run-reading, fold-outcome, measured, fold-reading, as-fold-reading};
+ghost use Rattle.format.specs.Readings.{run-numbers, fold-numbers, as-run-reading, run-outcome, run-reading, fold-outcome, measured, fold-alone, fold-reading, as-fold-reading};
 ghost use Rattle.format.specs.Meaning.{MeansAtCost};
 ghost use Rattle.format.specs.Parts.{node-part, part-of};
 ghost use Rattle.walk.specs.Walk.{outcome};
@@ -165,6 +165,22 @@ pub fn measure(fold: &[u8], limit: usize) -> FoldReading
         limit,
     };
     read_headed(fold, head, &free, &free, 0, 0)
+}
+
+// A fold by itself, without limit and costs: refusals 1, 3 to 6 and 8 to 10, or the nodes, bytes, steps and depth of the run at
+// cost 0. The walk gets a width limit that no operand passes.
+pub fn read_alone(fold: &[u8]) -> FoldReading
+    ensures { λ r. ⌜ r ≡ as-fold-reading (fold-alone (now (fold .entry))) ⌝ }
+{
+    let free: [u16; 0] = [0; 0];
+    let a = Terms {
+        limits: Format::limits(),
+        folds: true,
+        widest: Format::OPERAND,
+        first: 0,
+        each: 0,
+    };
+    answer(whole(fold, &free, &free, a))
 }
 
 // The fold reader: refusals 11, 15, 12, 1 and 3 to 10, or the nodes, bytes, steps and depth of the run and the fold's cost.
