@@ -1,0 +1,58 @@
+-- The nodes that unrolling a fold writes, in the order of the run's bytes, each with the command of the fold that it comes from.
+use mathlib.Core.Path.{_≡_}
+use mathlib.Core.Bool.{true, cond}
+use mathlib.Core.List.{List, [], _∷_, _++_}
+use Prim.Native.Nat.{ℕ, zero, suc, _+_, _<_}
+use lib.ListN.{length, getD}
+use Rattle.format.specs.Forest.{Forest, end, step, group, repeat, bytes}
+use Rattle.format.specs.Machine.{is-node, operands, label-operand}
+use Rattle.format.specs.Parts.{starts}
+use Rattle.format.specs.Tree.{tree-of}
+
+-- A step or a group: its command, `10` or `11`, and its label.
+pub record Node : Type 0 where
+  pub command : ℕ
+  pub label : ℕ
+
+-- A node that unrolling writes, and the offset in the fold of the command that writes it.
+pub record Written : Type 0 where
+  pub node : Node
+  pub offset : ℕ
+
+abbrev pub written : (command label offset : ℕ) → Written
+written c l p = record { node = record { command = c; label = l }; offset = p }
+
+-- n copies of a list, end to end.
+unfoldable pub again : {A : Type 0} → ℕ → List A → List A
+again zero ws = []
+again (suc n) ws = ws ++ again n ws
+
+-- What unrolling writes of a sequence whose byte form stands at offset p: a step or a group writes its own node, a group then
+-- those that it holds, a repeat those of its body count times.
+unfoldable pub writes : (p : ℕ) → Forest → List Written
+unfolding again bytes
+writes p end = []
+writes p (step l f) = written 0x10 l p ∷ writes (p + 2) f
+writes p (group l b f) = written 0x11 l p ∷ writes (p + 2) b ++ writes (p + 3 + length (bytes b)) f
+writes p (repeat h w b f) = again h (writes (p + 5) b) ++ writes (p + 6 + length (bytes b)) f
+
+-- What unrolling the fold s writes.
+abbrev pub written-by : List ℕ → List Written
+written-by s = writes 0 (tree-of s)
+
+-- In the fold s a command starts at the offset, it is that one, and its label stands behind it.
+pub record StandsIn (s : List ℕ) (w : Written) : Type 0 where
+  pub starts-there : starts (w .offset) 0 s ≡ true
+  pub command-there : getD s (w .offset) 0 ≡ w .node .command
+  pub label-there : getD s (suc (w .offset)) 0 ≡ w .node .label
+  pub within : suc (w .offset) < length s
+
+-- The nodes of a run, in the order of its bytes, after `skip` operand bytes: each `10` and each `11` with its label.
+unfoldable pub nodes-from : (skip : ℕ) → List ℕ → List Node
+nodes-from k [] = []
+nodes-from zero (c ∷ s) =
+    cond (is-node c) (record { command = c; label = label-operand s } ∷ nodes-from (operands c) s) (nodes-from (operands c) s)
+nodes-from (suc k) (c ∷ s) = nodes-from k s
+
+abbrev pub nodes-of : List ℕ → List Node
+nodes-of run = nodes-from 0 run
