@@ -1,4 +1,4 @@
-/* The run folder for C and C++: run reader, part of a node, fold reader, unroller and folder.
+/* The run folder for C and C++: run reader, part of a node, fold reader, unroller, folder, index builder and finder.
  *
  * For C99 or C++11 and later. The functions are those of the crate `embed`, proved. scripts/library.sh builds
  * target/lib/librunfold.a (x86-64 Linux), and scripts/install.sh installs it with this header. Build a program with one of
@@ -20,28 +20,47 @@
  *
  * Memory. The caller lends all of it, so there is nothing to free: no function allocates or keeps anything, and the library
  * calls nothing but memset. Calls may run in several threads at once. RUNFOLD_WORK and RUNFOLD_ROOM say how much to lend to the
- * folder for as many nodes as the run reader counts, RUNFOLD_MAX_RUN how much to the unroller, RUNFOLD_STACK how much stack a
- * call takes.
+ * folder for as many nodes as the run reader counts, RUNFOLD_MAX_RUN how much to the unroller, RUNFOLD_MAX_NODES how many
+ * entries to the index builder, RUNFOLD_STACK how much stack a call takes.
  *
  * Slices. A slice passes as a pointer and a number of entries. One of 0 entries may have a null pointer, for nothing is read or
  * written there (tested by scripts/c.sh, not proved): an empty `answer` is answered with RUNFOLD_SHORT, else an empty `steps`
  * with refusal 11, else an empty `groups` with 15. Any other points to so many entries, aligned for their type. A slice that is
- * written (`out`, `costs`, `choices`, `answer`) overlaps no other slice of the call; `steps` and `groups` may be one table.
- * Nothing else is asked of a caller: every input has a defined answer.
+ * written (`out`, `costs`, `choices`, `answer`, and the index that runfold_index writes) overlaps no other slice of the call;
+ * `steps` and `groups` may be one table. Nothing else is asked of a caller: every input has a defined answer.
  *
  * Prices. `steps` prices the steps by their labels and `groups` the groups, 256 entries each; a repeat of count h costs
  * first + each * (h - 2). The cost of a fold is the sum over the commands that stand in it.
  *
- * Answers. `answer` has at least RUNFOLD_ENTRIES entries. The first seven are then written, 0 where a function has no such
- * value, and the others stay as they are:
+ * Index. `offsets` and `before` have an entry each for every outermost item of a fold, that is for each step, group and repeat
+ * that stands in nothing else: its byte offset in the fold, and the number of the run's nodes before it. Kept beside the fold,
+ * an index serves to find a node without unrolling the fold. A position counts the nodes of the unrolled run from 0, in the
+ * order of the run's bytes: a group comes right before what it holds.
+ *
+ * Answers. `answer` has at least RUNFOLD_ENTRIES entries. The first seven are then written, and the others stay as they are. The
+ * first two are always refusal and place, whichever function was called:
  *
  *     answer[RUNFOLD_REFUSAL]   refusal number, 0 for success
- *     answer[RUNFOLD_PLACE]     place of the refusal: a byte offset in the input, 0 for refusals 11 to 15 and on success
+ *     answer[RUNFOLD_PLACE]     place of the refusal: a byte offset in the input, 0 for refusals 11 to 17 and on success
+ *
+ * What the other five are depends on the function, so an entry can have several names; they are 0 where the function has no
+ * such value. Of readers, unroller and folder:
+ *
  *     answer[RUNFOLD_NODES]     nodes of the run (run reader, fold reader; the folder leaves 0, so ask the run reader first)
  *     answer[RUNFOLD_LENGTH]    bytes: of the run that the fold unrolls to (fold reader), or those written (unroller, folder)
  *     answer[RUNFOLD_COST]      cost of the fold (fold reader, folder)
  *     answer[RUNFOLD_STEPS]     nodes of the run that are steps (run reader, fold reader)
  *     answer[RUNFOLD_DEPTH]     the most groups of the run open together, 0 for a run without groups (run reader, fold reader)
+ *
+ * Of the index builder:
+ *
+ *     answer[RUNFOLD_INDEXED]   entries of the index
+ *
+ * Of the finder:
+ *
+ *     answer[RUNFOLD_LABEL]     label of the node
+ *     answer[RUNFOLD_COMMAND]   its command, 0x10 for a step or 0x11 for a group
+ *     answer[RUNFOLD_OFFSET]    byte offset of that command in the fold; all copies that a repeat makes of a node have the same
  *
  * After a refusal the last five are 0. The result of each call is the refusal number again, or RUNFOLD_SHORT where `answer`
  * has fewer entries: then nothing at all is written.
@@ -58,7 +77,7 @@ extern "C" {
 
 /* The version of the library, as numbers and as text. */
 #define RUNFOLD_VERSION_MAJOR 0
-#define RUNFOLD_VERSION_MINOR 3
+#define RUNFOLD_VERSION_MINOR 4
 #define RUNFOLD_VERSION_PATCH 0
 #define RUNFOLD_VERSION \
     RUNFOLD_QUOTE(RUNFOLD_VERSION_MAJOR) "." RUNFOLD_QUOTE(RUNFOLD_VERSION_MINOR) "." RUNFOLD_QUOTE(RUNFOLD_VERSION_PATCH)
@@ -91,16 +110,24 @@ extern "C" {
  * prints each function's own, and not proved. */
 #define RUNFOLD_STACK 98304
 
-/* The entries of an answer, and where each stands. */
+/* The entries of an answer, and where each stands: the first two for every function, then the others of readers, unroller and
+ * folder, that of the index builder, and those of the finder. */
 #define RUNFOLD_ENTRIES 7
 enum {
     RUNFOLD_REFUSAL = 0,
     RUNFOLD_PLACE = 1,
+
     RUNFOLD_NODES = 2,
     RUNFOLD_LENGTH = 3,
     RUNFOLD_COST = 4,
     RUNFOLD_STEPS = 5,
-    RUNFOLD_DEPTH = 6
+    RUNFOLD_DEPTH = 6,
+
+    RUNFOLD_INDEXED = 2,
+
+    RUNFOLD_LABEL = 2,
+    RUNFOLD_COMMAND = 3,
+    RUNFOLD_OFFSET = 4
 };
 
 /* What a call returns: success, a refusal, or that the answer slice is too short. */
@@ -119,8 +146,10 @@ enum {
     RUNFOLD_STEP_TABLE_SIZE = 11,   /* step cost table not of 256 entries */
     RUNFOLD_LIMIT_SIZE = 12,        /* width limit over 1,024 */
     RUNFOLD_WORK_SIZE = 13,         /* a work slice too short */
-    RUNFOLD_OUTPUT_SIZE = 14,       /* output shorter than the result */
+    RUNFOLD_OUTPUT_SIZE = 14,       /* output shorter than the result, or a slice of the index than its entries */
     RUNFOLD_GROUP_TABLE_SIZE = 15,  /* group cost table not of 256 entries; tested right after 11 */
+    RUNFOLD_PAST_END = 16,          /* position not below the node total; tested after 17 */
+    RUNFOLD_FALSE_INDEX = 17,       /* index not the one that the builder writes */
     RUNFOLD_SHORT = 255             /* the answer slice has fewer than RUNFOLD_ENTRIES entries */
 };
 
@@ -160,6 +189,10 @@ static inline const char *runfold_refusal_text(uint64_t number)
         return "output shorter than the result";
     case RUNFOLD_GROUP_TABLE_SIZE:
         return "group cost table not of 256 entries";
+    case RUNFOLD_PAST_END:
+        return "position not below the node total";
+    case RUNFOLD_FALSE_INDEX:
+        return "index not the one that the builder writes";
     case RUNFOLD_SHORT:
         return "answer slice too short";
     default:
@@ -196,6 +229,20 @@ uint8_t runfold_fold(const uint8_t *run, size_t run_len, size_t limit, const uin
                      const uint16_t *groups, size_t groups_len, uint16_t first, uint16_t each, uint32_t *costs,
                      size_t costs_len, uint32_t *choices, size_t choices_len, uint8_t *out, size_t out_len, uint64_t *answer,
                      size_t answer_len);
+
+/* The index builder: refusals 1, 3 to 6, 8 to 10 and 14, or the number of outermost items of the fold, which is the number of
+ * entries. It takes no limit: a fold that it does not refuse, the fold reader accepts at RUNFOLD_MAX_WIDTH. As many entries
+ * in each slice as the fold has nodes are always enough, so RUNFOLD_MAX_NODES are for any fold.
+ * On success the index stands in the first entries of `offsets` and `before`, that many of each, and the others stay as they
+ * are; after a refusal both slices stay as they are. */
+uint8_t runfold_index(const uint8_t *fold, size_t fold_len, uint32_t *offsets, size_t offsets_len, uint32_t *before,
+                      size_t before_len, uint64_t *answer, size_t answer_len);
+
+/* The finder: refusals 1, 3 to 6, 8 to 10, 17 and 16, or label, command and offset of the node at the position. `offsets` and
+ * `before` are the index of this fold, with the number of entries that runfold_index answered as the length of each: any other
+ * number or length is refusal 17. Writes `answer` alone. */
+uint8_t runfold_find(const uint8_t *fold, size_t fold_len, const uint32_t *offsets, size_t offsets_len, const uint32_t *before,
+                     size_t before_len, uint64_t position, uint64_t *answer, size_t answer_len);
 
 #ifdef __cplusplus
 }

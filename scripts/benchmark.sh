@@ -1,14 +1,23 @@
 #!/usr/bin/env bash
-# Measures the folder beside the report's method, prints the times and ratios and writes docs/BENCHMARK.md and
-# docs/benchmark.svg. CC names the C compiler.
+# Measures the folder beside the report's method, and finding beside unrolling, prints the times and ratios and writes
+# docs/BENCHMARK.md and docs/benchmark.svg. CC names the C compiler.
+# Usage: scripts/benchmark.sh [finding]   finding: only prints finding beside unrolling, in some seconds, and writes no page
 set -euo pipefail
 cd "$(dirname "$0")/.."
+if [ $# -gt 1 ] || [ "${1:-finding}" != finding ]; then
+    echo "usage: scripts/benchmark.sh [finding]" >&2
+    exit 2
+fi
 
 scripts/library.sh
 scripts/figure1.sh
 
 export CARGO_TARGET_DIR=$PWD/target/cargo
 (cd rust && cargo build --quiet --offline --locked --release --package compare --features benchmark --bin benchmark)
+
+if [ $# -eq 1 ]; then
+    exec target/cargo/release/benchmark finding
+fi
 
 # What the program cannot know: how each code was compiled, and how many of its instructions name a vector register of 16, 32
 # and 64 bytes.

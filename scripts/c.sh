@@ -21,6 +21,8 @@ fi
 flags+=(-O2 -Wall -Wextra -Wpedantic -Wconversion -Wsign-conversion -Wshadow -Werror)
 # What a program prints is compared with what it should.
 folded=$'nodes 3, steps 3, depth 0\ncost 2\nfold 2000030001100121'
+found=$'index of 3 entries\nnode 700: step 02 at offset 7\nnode 701: group 05 at offset 9\n'
+found+='node 902: refused 16: position not below the node total'
 texts=$version$'\n'$(sed -n 's/^| \([0-9]*\) | \([^|]*\) |.*/\1 \2/p' docs/REFUSALS.md | tr -d '`')
 
 out=target/c
@@ -40,15 +42,18 @@ all_with() { # CC CXX
     for std in c++11 c++17 c++20; do
         "$2" "-std=$std" "${flags[@]}" -Wold-style-cast -x c++ -c tests/c/header.c -o "$out/header.o"
     done
-    for name in texts null shape; do
+    for name in texts null shape find; do
         "$1" -std=c11 "${flags[@]}" "tests/c/$name.c" "${libs[@]}" -o "$out/$name"
     done
     "$1" -std=c99 "${flags[@]}" examples/c/fold_aaa.c "${libs[@]}" -o "$out/fold_aaa_c"
+    "$1" -std=c99 "${flags[@]}" examples/c/find_step.c "${libs[@]}" -o "$out/find_step"
     "$2" -std=c++17 "${flags[@]}" -Wold-style-cast examples/cpp/fold_aaa.cpp "${libs[@]}" -o "$out/fold_aaa_cpp"
     prints "" "$out/null"
     prints "" "$out/shape"
+    prints "" "$out/find"
     prints "$texts" "$out/texts"
     prints "$folded" "$out/fold_aaa_c"
+    prints "$found" "$out/find_step"
     prints "$folded" "$out/fold_aaa_cpp"
     used+=" $1 $2"
 }
@@ -57,4 +62,4 @@ all_with "${CC:-cc}" "${CXX:-c++}"
 if command -v clang >/dev/null && command -v clang++ >/dev/null; then
     all_with clang clang++
 fi
-echo "passed: the header by itself, its texts, null pointers, steps, depth and cost, the version $version and both examples, with$used"
+echo "passed: the header by itself, its texts, null pointers, steps, depth and cost, index and finding, the version $version and the examples, with$used"

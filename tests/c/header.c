@@ -17,11 +17,12 @@ HOLDS(longest, RUNFOLD_MAX_RUN == 3 * RUNFOLD_MAX_NODES);
 HOLDS(stack, RUNFOLD_STACK > 0 && RUNFOLD_STACK % 4096 == 0);
 HOLDS(entries, RUNFOLD_REFUSAL == 0 && RUNFOLD_PLACE == 1 && RUNFOLD_NODES == 2 && RUNFOLD_LENGTH == 3 &&
       RUNFOLD_COST == 4 && RUNFOLD_STEPS == 5 && RUNFOLD_DEPTH == 6 && RUNFOLD_ENTRIES == 7);
+HOLDS(found, RUNFOLD_INDEXED == 2 && RUNFOLD_LABEL == 2 && RUNFOLD_COMMAND == 3 && RUNFOLD_OFFSET == 4);
 HOLDS(refusals, RUNFOLD_OK == 0 && RUNFOLD_UNKNOWN_COMMAND == 1 && RUNFOLD_REPEAT_IN_RUN == 2 && RUNFOLD_UNFINISHED == 3 &&
       RUNFOLD_WRONG_CLOSE == 4 && RUNFOLD_EMPTY_BODY == 5 && RUNFOLD_SMALL_COUNT == 6 && RUNFOLD_WIDE == 7 &&
       RUNFOLD_DEEP == 8 && RUNFOLD_FALSE_WIDTH == 9 && RUNFOLD_MANY_NODES == 10 && RUNFOLD_STEP_TABLE_SIZE == 11 &&
       RUNFOLD_LIMIT_SIZE == 12 && RUNFOLD_WORK_SIZE == 13 && RUNFOLD_OUTPUT_SIZE == 14 && RUNFOLD_GROUP_TABLE_SIZE == 15 &&
-      RUNFOLD_SHORT == 255);
+      RUNFOLD_PAST_END == 16 && RUNFOLD_FALSE_INDEX == 17 && RUNFOLD_SHORT == 255);
 
 const char *fold_small(const uint8_t *run, size_t run_len, const uint16_t *steps, const uint16_t *groups);
 
@@ -37,4 +38,18 @@ const char *fold_small(const uint8_t *run, size_t run_len, const uint16_t *steps
     if (result == RUNFOLD_SHORT)
         return runfold_refusal_text(result);
     return runfold_refusal_text(answer[RUNFOLD_REFUSAL]);
+}
+
+uint64_t find_first(const uint8_t *fold, size_t fold_len);
+
+uint64_t find_first(const uint8_t *fold, size_t fold_len)
+{
+    uint32_t offsets[RUNFOLD_MAX_NODES], before[RUNFOLD_MAX_NODES];
+    uint64_t answer[RUNFOLD_ENTRIES];
+    size_t indexed;
+
+    runfold_index(fold, fold_len, offsets, RUNFOLD_MAX_NODES, before, RUNFOLD_MAX_NODES, answer, RUNFOLD_ENTRIES);
+    indexed = RUNFOLD_SIZE(answer[RUNFOLD_INDEXED]);
+    runfold_find(fold, fold_len, offsets, indexed, before, indexed, 0, answer, RUNFOLD_ENTRIES);
+    return answer[RUNFOLD_OFFSET];
 }

@@ -29,12 +29,12 @@ static void expect(const char *call, const char *where, unsigned result, unsigne
 
 #define EXPECT(wanted, call) expect(#call, where, call, wanted)
 
-/* All calls, with the empty slices of bytes, cost tables, work and answers at these pointers. */
+/* All calls, with the empty slices of bytes, cost tables, work or index, and answers at these pointers. */
 static void calls(const char *where, uint8_t *b, uint16_t *t, uint32_t *w, uint64_t *a)
 {
     const uint8_t step[] = {0x10, 0x07};
     uint16_t table[256] = {0};
-    uint32_t costs[1], choices[1];
+    uint32_t costs[1], choices[1], offsets[1] = {0}, before[1] = {0};
     uint8_t out[4];
 
     EXPECT(RUNFOLD_OK, runfold_read_run(b, 0, answer, ALL));
@@ -76,6 +76,23 @@ static void calls(const char *where, uint8_t *b, uint16_t *t, uint32_t *w, uint6
            runfold_fold(step, 2, LIMIT, table, 256, table, 256, 1, 0, costs, 1, choices, 1, b, 0, answer, ALL));
     EXPECT(RUNFOLD_SHORT, runfold_fold(step, 2, LIMIT, table, 256, table, 256, 1, 0, costs, 1, choices, 1, out, 4, a, 0));
     EXPECT(RUNFOLD_SHORT, runfold_fold(b, 0, LIMIT, t, 0, t, 0, 1, 0, w, 0, w, 0, b, 0, a, 0));
+
+    EXPECT(RUNFOLD_OK, runfold_index(b, 0, offsets, 1, before, 1, answer, ALL));
+    EXPECT(RUNFOLD_OK, runfold_index(b, 0, w, 0, w, 0, answer, ALL));
+    EXPECT(RUNFOLD_OUTPUT_SIZE, runfold_index(step, 2, w, 0, before, 1, answer, ALL));
+    EXPECT(RUNFOLD_OUTPUT_SIZE, runfold_index(step, 2, offsets, 1, w, 0, answer, ALL));
+    EXPECT(RUNFOLD_OUTPUT_SIZE, runfold_index(step, 2, w, 0, w, 0, answer, ALL));
+    EXPECT(RUNFOLD_SHORT, runfold_index(step, 2, offsets, 1, before, 1, a, 0));
+    EXPECT(RUNFOLD_SHORT, runfold_index(b, 0, w, 0, w, 0, a, 0));
+
+    EXPECT(RUNFOLD_PAST_END, runfold_find(b, 0, w, 0, w, 0, 0, answer, ALL));
+    EXPECT(RUNFOLD_FALSE_INDEX, runfold_find(b, 0, offsets, 1, w, 0, 0, answer, ALL));
+    EXPECT(RUNFOLD_FALSE_INDEX, runfold_find(b, 0, w, 0, before, 1, 0, answer, ALL));
+    EXPECT(RUNFOLD_FALSE_INDEX, runfold_find(step, 2, w, 0, before, 1, 0, answer, ALL));
+    EXPECT(RUNFOLD_FALSE_INDEX, runfold_find(step, 2, offsets, 1, w, 0, 0, answer, ALL));
+    EXPECT(RUNFOLD_FALSE_INDEX, runfold_find(step, 2, w, 0, w, 0, 0, answer, ALL));
+    EXPECT(RUNFOLD_SHORT, runfold_find(step, 2, offsets, 1, before, 1, 0, a, 0));
+    EXPECT(RUNFOLD_SHORT, runfold_find(b, 0, w, 0, w, 0, 0, a, 0));
 }
 
 int main(void)

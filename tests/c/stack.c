@@ -41,6 +41,10 @@ static size_t len;
 static uint16_t table[256];
 static uint32_t costs[RUNFOLD_WORK(RUNFOLD_MAX_NODES)], choices[RUNFOLD_WORK(RUNFOLD_MAX_NODES)];
 static uint8_t out[RUNFOLD_ROOM(RUNFOLD_MAX_NODES)];
+/* The index of the input as a fold, and the position of its last node, one of those that stand deepest. */
+static uint32_t offsets[RUNFOLD_MAX_NODES], before[RUNFOLD_MAX_NODES];
+static size_t indexed;
+static uint64_t last;
 static uint64_t answer[RUNFOLD_ENTRIES];
 static uint8_t result;
 
@@ -75,6 +79,16 @@ static void fold(void)
                           choices, RUNFOLD_WORK(RUNFOLD_MAX_NODES), out, sizeof out, answer, RUNFOLD_ENTRIES);
 }
 
+static void index_fold(void)
+{
+    result = runfold_index(bytes, len, offsets, RUNFOLD_MAX_NODES, before, RUNFOLD_MAX_NODES, answer, RUNFOLD_ENTRIES);
+}
+
+static void find(void)
+{
+    result = runfold_find(bytes, len, offsets, indexed, before, indexed, last, answer, RUNFOLD_ENTRIES);
+}
+
 static const struct function {
     const char *name;
     void (*call)(void);
@@ -85,6 +99,8 @@ static const struct function {
     {"runfold_read_fold", read_fold, 0},
     {"runfold_unroll", unroll, 0},
     {"runfold_fold", fold, 1},
+    {"runfold_index", index_fold, 0},
+    {"runfold_find", find, 0},
 };
 enum { FUNCTIONS = sizeof functions / sizeof functions[0] };
 
@@ -97,6 +113,7 @@ static void fail(const char *what)
 static void build(const struct input *in)
 {
     uint8_t *p = bytes;
+    int nodes = in->groups + (in->steps << in->repeats);
 
     for (int i = 0; i < in->groups; i++) {
         *p++ = 0x11;
@@ -119,6 +136,23 @@ static void build(const struct input *in)
     for (int i = 0; i < in->groups; i++)
         *p++ = 0x12;
     len = (size_t)(p - bytes);
+
+    /* One outermost item, or the steps themselves. */
+    indexed = in->groups + in->repeats > 0 ? 1 : (size_t)in->steps;
+    for (uint32_t i = 0; i < indexed; i++) {
+        offsets[i] = 2 * i;
+        before[i] = i;
+    }
+    last = nodes > 0 ? (uint64_t)nodes - 1 : 0;
+}
+
+/* The refusal that a function has to answer on an input. */
+static uint8_t wanted(const struct function *f, const struct input *in)
+{
+    /* There is no node to find. */
+    if (f->call == find && in->steps == 0)
+        return RUNFOLD_PAST_END;
+    return f->on_runs ? in->run_refusal : in->fold_refusal;
 }
 
 /* A stack of so many bytes above a page that nothing may touch. */
@@ -212,10 +246,9 @@ int main(void)
         build(&inputs[i]);
         printf("%-34s", inputs[i].name);
         for (int f = 0; f < FUNCTIONS; f++) {
-            uint8_t wanted = functions[f].on_runs ? inputs[i].run_refusal : inputs[i].fold_refusal;
             size_t bytes_used = used(functions[f].call) - own;
             printf("%19zu", bytes_used);
-            if (functions[f].call != part && result != wanted)
+            if (functions[f].call != part && result != wanted(&functions[f], &inputs[i]))
                 fail(": another answer than it should be");
             if (bytes_used > most[f]) {
                 most[f] = bytes_used;

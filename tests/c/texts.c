@@ -1,9 +1,11 @@
 /* The texts of the refusals: each number has its own, and any other number a text of none of them. Prints the version and the
- * texts of 1 to 15, which scripts/c.sh compares with those in runfold.pc and docs/REFUSALS.md. */
+ * texts of all refusals, which scripts/c.sh compares with those in runfold.pc and docs/REFUSALS.md. */
 #include "runfold.h"
 
 #include <stdio.h>
 #include <string.h>
+
+enum { LAST = RUNFOLD_FALSE_INDEX };
 
 int main(void)
 {
@@ -15,7 +17,7 @@ int main(void)
     texts[256] = runfold_refusal_text(UINT64_MAX);
     for (int i = 0; i <= 256; i++)
         for (int j = 0; j < i; j++) {
-            int both_none = (i > 15 && i != RUNFOLD_SHORT) && (j > 15 && j != RUNFOLD_SHORT);
+            int both_none = (i > LAST && i != RUNFOLD_SHORT) && (j > LAST && j != RUNFOLD_SHORT);
             if ((strcmp(texts[i], texts[j]) == 0) != both_none) {
                 printf("%d: %s, %d: %s\n", j, texts[j], i, texts[i]);
                 return 1;
@@ -28,7 +30,7 @@ int main(void)
         return 1;
     }
     puts(RUNFOLD_VERSION);
-    for (int i = 1; i <= 15; i++)
+    for (int i = 1; i <= LAST; i++)
         printf("%d %s\n", i, texts[i]);
     return 0;
 }

@@ -7,12 +7,11 @@ use Prim.Native.Nat.{ℕ, _<_, _≤_}
 use lib.ListN.{length, drop, set, getD}
 use lib.Seq.{sets-eq}
 use borrow.Author.Tests.{lt-ltb, le-ltb}
-use Rattle.format.specs.declared.FoldReading.{FoldReading}
-use Rattle.embed.specs.Answers.{entry-count, status, kept, numbers, entries}
+use Rattle.embed.specs.Answers.{Answer, entry-count, status, kept, numbers, entries}
 
 -- The stores, one after the other.
-pub all-set : (a : List ℕ) (r : FoldReading) → entry-count ≤ length a
-    → set (set (set (set (set (set (set a 0 (r .refusal)) 1 (r .place)) 2 (r .nodes)) 3 (r .length)) 4 (r .cost)) 5 (r .steps)) 6 (r .depth)
+pub all-set : (a : List ℕ) (r : Answer) → entry-count ≤ length a
+    → set (set (set (set (set (set (set a 0 (r .refusal)) 1 (r .place)) 2 (r .first)) 3 (r .second)) 4 (r .third)) 5 (r .fourth)) 6 (r .fifth)
     ≡ numbers r ++ drop entry-count a
 all-set a r h = sets-eq (numbers r) a 0 h
 
@@ -26,7 +25,7 @@ module _ (a : List ℕ) (short : length a < entry-count) where
   unfolding kept
   short-kept b d = sym (ap (λ (t : Bool). cond t b d) (lt-ltb (length a) entry-count short))
 
-  pub short-entries : (r : FoldReading) → a ≡ entries a r
+  pub short-entries : (r : Answer) → a ≡ entries a r
   unfolding entries
   short-entries r = short-kept a (numbers r ++ drop entry-count a)
 
@@ -41,15 +40,15 @@ module _ (a : List ℕ) (long : entry-count ≤ length a) where
   long-kept b d = sym (ap (λ (t : Bool). cond t b d) (le-ltb (length a) entry-count long))
 
   -- What a function inside answered, and the numbers that were stored of it.
-  pub stored : (b : List ℕ) (r q : FoldReading) → r ≡ q
+  pub stored : (b : List ℕ) (r q : Answer) → r ≡ q
       → b ≡ numbers r ++ drop entry-count a
       → (r .refusal ≡ status a (q .refusal)) × (b ≡ entries a q)
   unfolding entries
   stored b r q e all =
-      subst (λ (x : FoldReading). (r .refusal ≡ status a (x .refusal)) × (b ≡ entries a x)) e
+      subst (λ (x : Answer). (r .refusal ≡ status a (x .refusal)) × (b ≡ entries a x)) e
       (long-status (r .refusal), all ∙ long-kept a (numbers r ++ drop entry-count a))
 
--- What holds of an answer's length and cost holds of the numbers that were stored: entries 3 and 4.
-pub of-stored : (Q : (length cost : ℕ) → Type 0) (b : List ℕ) (r : FoldReading) (rest : List ℕ)
-    → b ≡ numbers r ++ rest → Q (r .length) (r .cost) → Q (getD b 3 0) (getD b 4 0)
+-- What holds of an answer's length and cost holds of the numbers that were stored: entries 3 and 4, the second value and the third.
+pub of-stored : (Q : (length cost : ℕ) → Type 0) (b : List ℕ) (r : Answer) (rest : List ℕ)
+    → b ≡ numbers r ++ rest → Q (r .second) (r .third) → Q (getD b 3 0) (getD b 4 0)
 of-stored Q b r rest all = subst (λ (x : List ℕ). Q (getD x 3 0) (getD x 4 0)) (sym all)

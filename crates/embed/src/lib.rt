@@ -1,9 +1,10 @@
-// The static library's boundary for C and Rust: the readers, the unroller and the folder over numbers and lent slices. Every
-// answer is seven numbers in a lent slice: refusal, place, nodes, length, cost, steps and depth, 0 where the function gives no
-// such value.
+// The static library's boundary for C and Rust: the readers, the unroller, the folder, the index and the finder over numbers and
+// lent slices. Every answer is seven numbers in a lent slice: refusal, place and five values, which readers, unroller and folder
+// use for nodes, length, cost, steps and depth; 0 where the function gives no such value.
 use folder::fold;
-use format::FoldReading;
 use format::wide;
+use index::build_index;
+use index::find;
 use reader::part;
 use reader::read_fold;
 use reader::read_run;
@@ -13,56 +14,69 @@ ghost use mathlib.Core.List.{_++_};
 ghost use Prim.Native.Nat.{_≤_};
 ghost use lib.ListN.{length, getD, take, drop};
 ghost use Rattle.format.specs.Limits.{tariff, priced};
-ghost use Rattle.format.specs.Readings.{format-rules, run-reading, measured, fold-reading};
+ghost use Rattle.format.specs.Readings.{format-rules, run-reading, measured, fold-alone, fold-reading};
 ghost use Rattle.format.specs.Meaning.{Means, MeansAtCost};
 ghost use Rattle.format.specs.Parts.{part-of};
 ghost use Rattle.optimum.specs.Demands.{CheapestWithin, CheapestOver, MinimumTree};
 ghost use Rattle.unroller.specs.Unrolling.{unroll-answer, unroll-output};
+ghost use Rattle.index.specs.Index.{index-of, index-answer, index-output};
+ghost use Rattle.index.specs.Finding.{find-answer, AtPosition};
 ghost use Rattle.folder.specs.Folding.{folding, fold-answer, fold-output, fold-work};
-ghost use Rattle.embed.specs.Answers.{entry-count, status, kept, numbers, entries, from-run-reading, from-unrolled, from-folded};
+ghost use Rattle.embed.specs.Answers.{entry-count, status, kept, numbers, entries, of-run, of-fold, of-unrolled, of-folded, of-indexed, of-found, found-in};
 
 // The entries of an answer.
 const ENTRIES: usize = 7;
 // The status where the lent answer is shorter: nothing was read or written. No refusal has this number.
 const SHORT: u8 = 255;
 
+// The numbers of an answer. What the values are, each function says.
+struct Answer {
+    refusal: u8,
+    place: usize,
+    first: u64,
+    second: u64,
+    third: u64,
+    fourth: u64,
+    fifth: u64,
+}
+
 // Puts an answer into the first entries.
-fn store(answer: &mut [u64], a: FoldReading)
+fn store(answer: &mut [u64], a: Answer)
     requires { ⌜ entry-count ≤ length (now answer) ⌝ }
     ensures { λ _. ⌜ now (answer .exit) ≡ numbers a ++ drop entry-count (now (answer .entry)) ⌝ }
 {
     answer[0] = wide(a.refusal) as u64;
     answer[1] = a.place as u64;
-    answer[2] = a.nodes as u64;
-    answer[3] = a.length as u64;
-    answer[4] = a.cost;
-    answer[5] = a.steps as u64;
-    answer[6] = a.depth as u64;
+    answer[2] = a.first;
+    answer[3] = a.second;
+    answer[4] = a.third;
+    answer[5] = a.fourth;
+    answer[6] = a.fifth;
 }
 
 // The run reader: the number of nodes, how many of them are steps, and the most groups open together.
 #[no_mangle]
 pub extern "C" fn runfold_read_run(run: &[u8], answer: &mut [u64]) -> u8
     ensures returned { λ r. ⌜ r ≡ status (now (answer .entry)) (run-reading (now (run .entry)) .refusal) ⌝ }
-    ensures answered { λ _. ⌜ now (answer .exit) ≡ entries (now (answer .entry)) (from-run-reading (run-reading (now (run .entry)))) ⌝ }
+    ensures answered { λ _. ⌜ now (answer .exit) ≡ entries (now (answer .entry)) (of-run (run-reading (now (run .entry)))) ⌝ }
 {
     if answer.len() < ENTRIES {
         return SHORT;
     }
-    let r = read_run(run);
+    let read = read_run(run);
     store(
         answer,
-        FoldReading {
-            refusal: r.refusal,
-            place: r.place,
-            nodes: r.nodes,
-            length: 0,
-            cost: 0,
-            steps: r.steps,
-            depth: r.depth,
+        Answer {
+            refusal: read.refusal,
+            place: read.place,
+            first: read.nodes as u64,
+            second: 0,
+            third: 0,
+            fourth: read.steps as u64,
+            fifth: read.depth as u64,
         },
     );
-    r.refusal
+    read.refusal
 }
 
 // The part of a node: how many bytes from the offset on are the step or group that starts there, with all it holds; 0 where
@@ -88,14 +102,25 @@ pub extern "C" fn runfold_read_fold(
     answer: &mut [u64],
 ) -> u8
     ensures returned { λ r. ⌜ r ≡ status (now (answer .entry)) (fold-reading (now (fold .entry)) limit (tariff (now (steps .entry)) (now (groups .entry)) first each) .refusal) ⌝ }
-    ensures answered { λ _. ⌜ now (answer .exit) ≡ entries (now (answer .entry)) (fold-reading (now (fold .entry)) limit (tariff (now (steps .entry)) (now (groups .entry)) first each)) ⌝ }
+    ensures answered { λ _. ⌜ now (answer .exit) ≡ entries (now (answer .entry)) (of-fold (fold-reading (now (fold .entry)) limit (tariff (now (steps .entry)) (now (groups .entry)) first each))) ⌝ }
     ensures meant { λ r. ⌜ (r ≡ 0 → MeansAtCost limit (priced (tariff (now (steps .entry)) (now (groups .entry)) first each)) (now (fold .entry)) (getD (now (answer .exit)) 3 0) (getD (now (answer .exit)) 4 0)) ⌝ }
 {
     if answer.len() < ENTRIES {
         return SHORT;
     }
     let r = read_fold(fold, limit, steps, groups, first, each);
-    store(answer, r);
+    store(
+        answer,
+        Answer {
+            refusal: r.refusal,
+            place: r.place,
+            first: r.nodes as u64,
+            second: r.length as u64,
+            third: r.cost,
+            fourth: r.steps as u64,
+            fifth: r.depth as u64,
+        },
+    );
     r.refusal
 }
 
@@ -108,27 +133,27 @@ pub extern "C" fn runfold_unroll(
     answer: &mut [u64],
 ) -> u8
     ensures returned { λ r. ⌜ r ≡ status (now (answer .entry)) (unroll-answer (measured (now (fold .entry)) limit) (length (now (out .entry))) .refusal) ⌝ }
-    ensures answered { λ _. ⌜ now (answer .exit) ≡ entries (now (answer .entry)) (from-unrolled (unroll-answer (measured (now (fold .entry)) limit) (length (now (out .entry))))) ⌝ }
+    ensures answered { λ _. ⌜ now (answer .exit) ≡ entries (now (answer .entry)) (of-unrolled (unroll-answer (measured (now (fold .entry)) limit) (length (now (out .entry))))) ⌝ }
     ensures written { λ _. ⌜ now (out .exit) ≡ kept (now (answer .entry)) (now (out .entry)) (unroll-output (measured (now (fold .entry)) limit) (now (out .entry))) ⌝ }
     ensures meant { λ r. ⌜ (r ≡ 0 → Means limit (now (fold .entry)) (take (getD (now (answer .exit)) 3 0) (now (out .exit)))) ⌝ }
 {
     if answer.len() < ENTRIES {
         return SHORT;
     }
-    let r = unroll(fold, limit, out);
+    let unrolled = unroll(fold, limit, out);
     store(
         answer,
-        FoldReading {
-            refusal: r.refusal,
-            place: r.place,
-            nodes: 0,
-            length: r.length,
-            cost: 0,
-            steps: 0,
-            depth: 0,
+        Answer {
+            refusal: unrolled.refusal,
+            place: unrolled.place,
+            first: 0,
+            second: unrolled.length as u64,
+            third: 0,
+            fourth: 0,
+            fifth: 0,
         },
     );
-    r.refusal
+    unrolled.refusal
 }
 
 // The folder at a width limit and the same costs, over two lent work slices: the length written and the fold's cost.
@@ -146,7 +171,7 @@ pub extern "C" fn runfold_fold(
     answer: &mut [u64],
 ) -> u8
     ensures returned { λ r. ⌜ r ≡ status (now (answer .entry)) (fold-answer (folding (now (run .entry)) limit (tariff (now (steps .entry)) (now (groups .entry)) first each)) (length (now (costs .entry))) (length (now (choices .entry))) (length (now (out .entry))) .refusal) ⌝ }
-    ensures answered { λ _. ⌜ now (answer .exit) ≡ entries (now (answer .entry)) (from-folded (fold-answer (folding (now (run .entry)) limit (tariff (now (steps .entry)) (now (groups .entry)) first each)) (length (now (costs .entry))) (length (now (choices .entry))) (length (now (out .entry))))) ⌝ }
+    ensures answered { λ _. ⌜ now (answer .exit) ≡ entries (now (answer .entry)) (of-folded (fold-answer (folding (now (run .entry)) limit (tariff (now (steps .entry)) (now (groups .entry)) first each)) (length (now (costs .entry))) (length (now (choices .entry))) (length (now (out .entry))))) ⌝ }
     ensures written { λ _. ⌜ now (out .exit) ≡ kept (now (answer .entry)) (now (out .entry)) (fold-output (folding (now (run .entry)) limit (tariff (now (steps .entry)) (now (groups .entry)) first each)) (length (now (costs .entry))) (length (now (choices .entry))) (now (out .entry))) ⌝ }
     ensures costs_cleared { λ _. ⌜ now (costs .exit) ≡ kept (now (answer .entry)) (now (costs .entry)) (fold-work (folding (now (run .entry)) limit (tariff (now (steps .entry)) (now (groups .entry)) first each)) (length (now (costs .entry))) (length (now (choices .entry))) (now (costs .entry))) ⌝ }
     ensures choices_cleared { λ _. ⌜ now (choices .exit) ≡ kept (now (answer .entry)) (now (choices .entry)) (fold-work (folding (now (run .entry)) limit (tariff (now (steps .entry)) (now (groups .entry)) first each)) (length (now (costs .entry))) (length (now (choices .entry))) (now (choices .entry))) ⌝ }
@@ -157,18 +182,83 @@ pub extern "C" fn runfold_fold(
     if answer.len() < ENTRIES {
         return SHORT;
     }
-    let r = fold(run, limit, steps, groups, first, each, costs, choices, out);
+    let folded = fold(run, limit, steps, groups, first, each, costs, choices, out);
     store(
         answer,
-        FoldReading {
-            refusal: r.refusal,
-            place: r.place,
-            nodes: 0,
-            length: r.length,
-            cost: r.cost,
-            steps: 0,
-            depth: 0,
+        Answer {
+            refusal: folded.refusal,
+            place: folded.place,
+            first: 0,
+            second: folded.length as u64,
+            third: folded.cost,
+            fourth: 0,
+            fifth: 0,
         },
     );
-    r.refusal
+    folded.refusal
+}
+
+// The builder of a fold's index, into two lent slices: the number of entries.
+#[no_mangle]
+pub extern "C" fn runfold_index(
+    fold: &[u8],
+    offsets: &mut [u32],
+    before: &mut [u32],
+    answer: &mut [u64],
+) -> u8
+    ensures returned { λ r. ⌜ r ≡ status (now (answer .entry)) (index-answer (fold-alone (now (fold .entry))) (index-of (now (fold .entry))) (length (now (offsets .entry))) (length (now (before .entry))) .refusal) ⌝ }
+    ensures answered { λ _. ⌜ now (answer .exit) ≡ entries (now (answer .entry)) (of-indexed (index-answer (fold-alone (now (fold .entry))) (index-of (now (fold .entry))) (length (now (offsets .entry))) (length (now (before .entry))))) ⌝ }
+    ensures offsets_written { λ _. ⌜ now (offsets .exit) ≡ kept (now (answer .entry)) (now (offsets .entry)) (index-output (fold-alone (now (fold .entry))) (index-of (now (fold .entry))) (length (now (offsets .entry))) (length (now (before .entry))) (index-of (now (fold .entry)) .offsets) (now (offsets .entry))) ⌝ }
+    ensures before_written { λ _. ⌜ now (before .exit) ≡ kept (now (answer .entry)) (now (before .entry)) (index-output (fold-alone (now (fold .entry))) (index-of (now (fold .entry))) (length (now (offsets .entry))) (length (now (before .entry))) (index-of (now (fold .entry)) .before) (now (before .entry))) ⌝ }
+{
+    if answer.len() < ENTRIES {
+        return SHORT;
+    }
+    let indexed = build_index(fold, offsets, before);
+    store(
+        answer,
+        Answer {
+            refusal: indexed.refusal,
+            place: indexed.place,
+            first: indexed.entries as u64,
+            second: 0,
+            third: 0,
+            fourth: 0,
+            fifth: 0,
+        },
+    );
+    indexed.refusal
+}
+
+// The finder, with the fold's index and a position in its run: the node's label and command, and that command's offset in the
+// fold.
+#[no_mangle]
+pub extern "C" fn runfold_find(
+    fold: &[u8],
+    offsets: &[u32],
+    before: &[u32],
+    position: u64,
+    answer: &mut [u64],
+) -> u8
+    ensures returned { λ r. ⌜ r ≡ status (now (answer .entry)) (find-answer (now (fold .entry)) (now (offsets .entry)) (now (before .entry)) position .refusal) ⌝ }
+    ensures answered { λ _. ⌜ now (answer .exit) ≡ entries (now (answer .entry)) (of-found (find-answer (now (fold .entry)) (now (offsets .entry)) (now (before .entry)) position)) ⌝ }
+    ensures right { λ r. ⌜ (r ≡ 0 → AtPosition (now (fold .entry)) position (found-in (now (answer .exit)))) ⌝ }
+{
+    if answer.len() < ENTRIES {
+        return SHORT;
+    }
+    let found = find(fold, offsets, before, position);
+    store(
+        answer,
+        Answer {
+            refusal: found.refusal,
+            place: found.place,
+            first: wide(found.label) as u64,
+            second: wide(found.command) as u64,
+            third: found.offset as u64,
+            fourth: 0,
+            fifth: 0,
+        },
+    );
+    found.refusal
 }

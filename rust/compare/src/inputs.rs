@@ -109,6 +109,22 @@ pub fn random_fold(r: &mut Random, budget: usize, labels: usize, groups: usize, 
     items
 }
 
+/// A fold of exactly `nodes` nodes when unrolled, of many outermost items.
+pub fn wide_fold(r: &mut Random, nodes: usize, labels: usize, groups: usize, repeats: usize) -> Vec<Item> {
+    let (mut items, mut left) = (Vec::new(), nodes);
+    while left > 0 {
+        let size = 1 + r.below(left.min(20));
+        for item in random_fold(r, size, labels, groups, repeats) {
+            let nodes = count_nodes(std::slice::from_ref(&item));
+            if nodes <= left {
+                left -= nodes;
+                items.push(item);
+            }
+        }
+    }
+    items
+}
+
 /// The siblings that a sequence unrolls to.
 pub fn siblings(items: &[Item]) -> usize {
     items

@@ -3,6 +3,8 @@
 
 #[cfg(feature = "benchmark")]
 pub mod figure1;
+#[cfg(feature = "benchmark")]
+pub mod finding;
 pub mod inputs;
 pub mod letters;
 pub mod machine;

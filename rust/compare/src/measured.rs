@@ -1,4 +1,5 @@
-//! What the benchmark measured: the times of each family of runs at each size and prices, and what page and plot ask of them.
+//! What the benchmark measured: the times of each family of runs at each size and prices, and what page and plot ask of them; and
+//! the times of finding beside unrolling.
 
 use crate::inputs::families::{Family, FOUND};
 use runfold::MAX_NODES;
@@ -47,4 +48,29 @@ pub fn is_found(family: &Family) -> bool {
 pub fn power(rows: &[Row], family: &Family, from: usize, to: usize) -> f64 {
     let [short, long] = [from, to].map(|nodes| slowest(rows, family, nodes).times[0]);
     (long / short).ln() / (to as f64 / from as f64).ln()
+}
+
+/// Finding beside unrolling on one fold of 1,024 nodes. Times are in seconds.
+pub struct Finding {
+    /// What the fold is.
+    pub fold: String,
+    pub bytes: usize,
+    /// Its outermost items, which are the entries of its index.
+    pub items: usize,
+    pub unrolling: f64,
+    /// The mean over all positions.
+    pub finding: f64,
+    /// The same at the position where it takes longest.
+    pub slowest: f64,
+    /// The fold reader.
+    pub reading: f64,
+    /// The index builder.
+    pub building: f64,
+}
+
+impl Finding {
+    /// The parts of unrolling's time that finding takes, in the mean and at the slowest position.
+    pub fn parts(&self) -> [f64; 2] {
+        [self.finding, self.slowest].map(|time| time / self.unrolling)
+    }
 }

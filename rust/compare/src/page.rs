@@ -1,7 +1,7 @@
 //! The page of the benchmark: its tables, and in words what they show. All of it follows from what was measured.
 
 use crate::inputs::families::{self, Kind, SEARCHED};
-use crate::measured::{highest, is_found, power, slowest, Row, SIZES};
+use crate::measured::{highest, is_found, power, slowest, Finding, Row, SIZES};
 use runfold::MAX_NODES;
 use std::fmt::Write;
 
@@ -34,6 +34,7 @@ pub struct Results<'a> {
     pub machine: &'a str,
     pub codes: &'a [Code],
     pub rows: &'a [Row],
+    pub findings: &'a [Finding],
     /// How many folds were read back and unrolled.
     pub checked: u64,
     /// The seconds that clearing both work slices takes.
@@ -244,12 +245,51 @@ fn steepest(rows: &[Row]) -> String {
     ))
 }
 
+/// Finding beside unrolling, in microseconds.
+pub fn finding_table(findings: &[Finding]) -> String {
+    let mut table = String::from(
+        "| fold of 1,024 nodes | bytes | outermost items | unrolling, µs | finding, µs | at its slowest, µs | finding of unrolling | at its slowest | reading, µs | reading of finding | building the index, µs |\n|---|---:|---:|---:|---:|---:|---:|---:|---:|---:|---:|\n",
+    );
+    for row in findings {
+        let [unrolling, finding, slowest, reading, building] =
+            [row.unrolling, row.finding, row.slowest, row.reading, row.building]
+                .map(|time| format!("{:.2}", time * 1e6));
+        let [mean_part, slowest_part] = row.parts();
+        let _ = writeln!(
+            table,
+            "| {} | {} | {} | {unrolling} | {finding} | {slowest} | {mean_part:.2} | {slowest_part:.2} | {reading} | {:.2} | {building} |",
+            row.fold,
+            thousands(row.bytes as u64),
+            thousands(row.items as u64),
+            row.reading / row.finding
+        );
+    }
+    table
+}
+
+/// The folds on which finding takes as long as unrolling, or longer.
+pub fn finding_losses(findings: &[Finding]) -> String {
+    let [mean, slowest] = [0, 1].map(|which| {
+        let lost = findings.iter().filter(|row| row.parts()[which] >= 1.0);
+        let lost: Vec<String> = lost.map(|row| format!("{} ({:.2})", row.fold, row.parts()[which])).collect();
+        match lost.len() {
+            0 => "none".to_string(),
+            n => format!("{n}: {}", lost.join("; ")),
+        }
+    });
+    wrapped(&format!(
+        "Of these {} folds, finding takes as long as unrolling, or longer, in the mean on {mean}. At the slowest position it does \
+         on {slowest}.",
+        findings.len()
+    ))
+}
+
 /// The page.
 pub fn page_text(results: &Results) -> String {
-    let &Results { date, machine, codes, rows, checked, clearing } = results;
+    let &Results { date, machine, codes, rows, findings, checked, clearing } = results;
     let (seconds, tried) = SEARCHED;
     format!(
-        "<!-- How fast the folder is beside the report's method. Written by scripts/benchmark.sh. -->
+        "<!-- How fast the folder is beside the report's method, and finding beside unrolling. Written by scripts/benchmark.sh. -->
 # The folder beside the report's method
 
 Measured on {date} in one run, on one processor. `scripts/benchmark.sh` measures again and writes this page.
@@ -328,6 +368,18 @@ again, and keeps a change where the folder then takes more of *blocked*'s time. 
 {seconds} seconds, a quarter of them at each price, and tried {tried} runs of 1,024 steps. The slowest at each price is
 listed; at the smaller sizes it is cut.
 
+## Finding beside unrolling
+
+One call of `runfold_find` beside one of `runfold_unroll`, on folds of 1,024 nodes. Both read and check the whole fold first, and
+the finder the whole index with it. *Reading*, the fold reader on the same bytes, is a measure of that part. Microseconds of
+processor time, the lowest of nine rounds, each with as many calls at once as the clock needs; in a round every function is timed
+once, and finding once at each of the 1,024 positions. Every answer of the finder is compared with the independent
+implementation's. A fold named *cheapest* is that of the first run of a family above, at unit prices.
+`scripts/benchmark.sh finding` measures this alone.
+
+{finding_table}
+{finding_losses}
+
 ## All times at 1,024 nodes
 
 The folder's part of each method's time, lowest to highest over the prices:
@@ -354,6 +406,8 @@ Each by itself:
         families = families_table(),
         seconds = thousands(seconds),
         tried = thousands(tried),
+        finding_table = finding_table(findings),
+        finding_losses = finding_losses(findings),
         summary = summary_table(rows),
         full = full_table(rows),
     )
@@ -442,6 +496,25 @@ It is ahead of *plain* in every case.\n";
         }
         let powers = "2.33 from 128 to 1,024 nodes (one label) and 3.00 from 512 to 1,024 nodes (one label)";
         assert!(steepest(&rows).replace('\n', " ").contains(powers));
+    }
+
+    fn finding(fold: &str, finding: f64, slowest: f64) -> Finding {
+        let [unrolling, reading, building] = [20e-6, 4e-6, 5e-6];
+        Finding { fold: fold.into(), bytes: 2048, items: 8, unrolling, finding, slowest, reading, building }
+    }
+
+    #[test]
+    fn finding_is_given_as_part_of_unrolling() {
+        let rows = [finding("some", 8e-6, 16e-6), finding("others", 25e-6, 30e-6), finding("more", 19.9e-6, 20e-6)];
+        let line = "| some | 2,048 | 8 | 20.00 | 8.00 | 16.00 | 0.40 | 0.80 | 4.00 | 0.50 | 5.00 |";
+        assert_eq!(finding_table(&rows).lines().nth(2), Some(line));
+        let text = |rows: &[Finding]| finding_losses(rows).replace('\n', " ");
+        let start =
+            "Of these 3 folds, finding takes as long as unrolling, or longer, in the mean on 1: others (1.25). ";
+        let end = "At the slowest position it does on 2: others (1.50); more (1.00).";
+        assert_eq!(text(&rows), format!("{start}{end}"));
+        let start = "Of these 1 folds, finding takes as long as unrolling, or longer, in the mean on none. ";
+        assert_eq!(text(&rows[..1]), format!("{start}At the slowest position it does on none."));
     }
 
     #[test]

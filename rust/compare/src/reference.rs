@@ -1,6 +1,7 @@
-//! An independent implementation, to compare the library with: readers, unroller and folder, written from the rules of
-//! docs/FORMAT.md and from the report, and not from the Rattle code. It is plain and slow. The folder is the report's dynamic
-//! programme over the intervals of each sequence; ties are settled by comparing the bytes of whole folds.
+//! An independent implementation, to compare the library with: readers, unroller, folder, index builder and finder, written
+//! from the rules of docs/FORMAT.md and from the report, and not from the Rattle code. It is plain and slow. The folder is the
+//! report's dynamic programme over the intervals of each sequence; ties are settled by comparing the bytes of whole folds. The
+//! finder writes out all nodes of the run.
 
 use std::cmp::Ordering;
 
@@ -338,6 +339,85 @@ pub fn unroll(fold: &[u8], limit: usize, room: usize) -> (Answer, Vec<u8>) {
         return (Answer::refuse(14, 0), Vec::new());
     }
     (Answer { length: run.len(), ..Answer::default() }, run)
+}
+
+/// A node of the run that a fold unrolls to, and where the command that it comes from stands in the fold.
+#[derive(Clone, Copy, Debug, PartialEq, Eq)]
+pub struct Node {
+    pub command: u8,
+    pub label: u8,
+    pub offset: usize,
+}
+
+/// All nodes of the run that a fold unrolls to, in the run's order, and the fold's index: for each outermost item its offset and
+/// the nodes before it.
+#[derive(Clone, Debug, Default, PartialEq, Eq)]
+pub struct Listed {
+    pub nodes: Vec<Node>,
+    pub offsets: Vec<u32>,
+    pub before: Vec<u32>,
+}
+
+/// Lists a fold, for index builder and finder.
+pub fn list(fold: &[u8]) -> Result<Listed, Answer> {
+    // They take no limit: this is the highest width operand that there is.
+    read(fold, Some(65_535), None)?;
+    let mut listed = Listed::default();
+    let mut at = 0;
+    for item in decode(fold) {
+        listed.offsets.push(at as u32);
+        listed.before.push(listed.nodes.len() as u32);
+        at = list_items(&[item], at, &mut listed.nodes);
+    }
+    Ok(listed)
+}
+
+/// Appends the nodes of items that begin at an offset, every repeat written out, and answers the offset behind them.
+fn list_items(items: &[Item], mut at: usize, nodes: &mut Vec<Node>) -> usize {
+    for item in items {
+        at = match item {
+            Item::Step(label) => {
+                nodes.push(Node { command: 0x10, label: *label, offset: at });
+                at + 2
+            }
+            Item::Group(label, body) => {
+                nodes.push(Node { command: 0x11, label: *label, offset: at });
+                list_items(body, at + 2, nodes) + 1
+            }
+            Item::Repeat(count, _, body) => {
+                let mut once = Vec::new();
+                let end = list_items(body, at + 5, &mut once);
+                for _ in 0..*count {
+                    nodes.extend(&once);
+                }
+                end + 1
+            }
+        };
+    }
+    at
+}
+
+impl Listed {
+    /// The index builder's answer where the slices have so many entries.
+    pub fn indexed(&self, offsets: usize, before: usize) -> [u64; 7] {
+        let entries = self.offsets.len();
+        if offsets < entries || before < entries {
+            return Answer::refuse(14, 0).numbers();
+        }
+        [0, 0, entries as u64, 0, 0, 0, 0]
+    }
+
+    /// The finder's answer by any index.
+    pub fn found(&self, offsets: &[u32], before: &[u32], position: u64) -> [u64; 7] {
+        if offsets != self.offsets || before != self.before {
+            return Answer::refuse(17, 0).numbers();
+        }
+        if position >= self.nodes.len() as u64 {
+            return Answer::refuse(16, 0).numbers();
+        }
+        let Node { command, label, offset } = self.nodes[position as usize];
+        [0, 0, label as u64, command as u64, offset as u64, 0, 0]
+    }
 }
 
 /// The part of a run that is the node at an offset, as bytes; empty where the run is refused or no node starts there.

@@ -57,6 +57,10 @@ fn limits_and_entries_are_as_in_the_header() {
         ("RUNFOLD_COST", raw::COST),
         ("RUNFOLD_STEPS", raw::STEPS),
         ("RUNFOLD_DEPTH", raw::DEPTH),
+        ("RUNFOLD_INDEXED", raw::INDEXED),
+        ("RUNFOLD_LABEL", raw::LABEL),
+        ("RUNFOLD_COMMAND", raw::COMMAND),
+        ("RUNFOLD_OFFSET", raw::OFFSET),
     ] {
         assert_eq!(in_header(name), Some(value as u64), "{name}");
     }

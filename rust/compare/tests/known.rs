@@ -3,7 +3,8 @@
 
 use compare::reference;
 use runfold::Refusal::*;
-use runfold::{fold, folded, part, read_fold, read_run, unroll, work_entries, FoldReading, Prices, RunReading};
+use runfold::{find, fold, folded, index, part, read_fold, read_run, unroll, work_entries};
+use runfold::{FoldReading, Found, Node, Prices, Refusal, RunReading};
 
 const UNIT: [u16; 256] = [1; 256];
 
@@ -206,4 +207,92 @@ fn parts() {
     assert_eq!(part(&run, 12), bytes("1001"));
     assert_eq!(part(&run, 14), []);
     assert_eq!(part(&run, usize::MAX), []);
+}
+
+/// A fold has this index and these nodes: command, label and offset of each.
+fn check_found(fold: &[u8], offsets: &[u32], before: &[u32], nodes: &[(u8, u8, usize)]) {
+    let (mut lent_offsets, mut lent_before) = (vec![9; offsets.len() + 1], vec![9; before.len() + 2]);
+    assert_eq!(index(fold, &mut lent_offsets, &mut lent_before), Ok(offsets.len()));
+    assert_eq!((&lent_offsets[..], &lent_before[..]), (&[offsets, &[9]].concat()[..], &[before, &[9, 9]].concat()[..]));
+    let listed = reference::list(fold).unwrap();
+    assert_eq!((&listed.offsets[..], &listed.before[..]), (offsets, before));
+    assert_eq!(listed.nodes.len(), nodes.len());
+    for (position, &(command, label, offset)) in nodes.iter().enumerate() {
+        let node = if command == 0x10 { Node::Step } else { Node::Group };
+        assert_eq!(find(fold, offsets, before, position as u64), Ok(Found { node, label, offset }));
+        assert_eq!(listed.nodes[position], reference::Node { command, label, offset });
+    }
+    for past in [nodes.len() as u64, 1 << 32, u64::MAX] {
+        assert_eq!(find(fold, offsets, before, past), Err(PastEnd));
+        assert_eq!(listed.found(offsets, before, past), [16, 0, 0, 0, 0, 0, 0]);
+    }
+}
+
+#[test]
+fn nodes_by_their_positions() {
+    check_found(&[], &[], &[], &[]);
+    // The worked run: a step 01, a step 02, and twice a group 05 with three steps 03.
+    let (group, step) = ((0x11, 5, 9), (0x10, 3, 16));
+    let twice = [group, step, step, step, group, step, step, step];
+    let worked = bytes("1001 1002 20 0002 0001 1105 20 0003 0001 1003 21 12 21");
+    check_found(&worked, &[0, 2, 4], &[0, 1, 2], &[&[(0x10, 1, 0), (0x10, 2, 2)], &twice[..]].concat());
+    // Groups in a group between repeats, with labels that look like commands.
+    let fold = bytes("20 0002 0001 1021 21 1112 1110 1011 12 20 0003 0001 1020 21 12 1012");
+    let (first, inner) = ((0x10, 0x21, 5), (0x10, 0x20, 20));
+    let group = [(0x11, 0x12, 8), (0x11, 0x10, 10), (0x10, 0x11, 12), inner, inner, inner];
+    check_found(&fold, &[0, 8, 24], &[0, 2, 8], &[&[first, first], &group[..], &[(0x10, 0x12, 24)]].concat());
+    // Ten repeats of count 2 inside each other: 1,024 times the step at offset 50.
+    let powers: Vec<u8> = (0..10).rev().flat_map(|k| [0x20, 0, 2, (1u16 << k >> 8) as u8, (1u16 << k) as u8]).collect();
+    check_found(&[powers, word("a"), vec![0x21; 10]].concat(), &[0], &[0], &[(0x10, 1, 50); 1024]);
+}
+
+/// Index builder and finder refuse a fold, whatever slices and position they are given.
+fn check_refused(fold: &[u8], refusal: Refusal) {
+    assert_eq!(index(fold, &mut [], &mut [7]), Err(refusal));
+    assert_eq!(find(fold, &[7], &[], u64::MAX), Err(refusal));
+    let numbers = reference::list(fold).unwrap_err().numbers();
+    assert_eq!(numbers, [refusal.number() as u64, refusal.place() as u64, 0, 0, 0, 0, 0]);
+}
+
+#[test]
+fn refusals_of_index_and_position() {
+    check_refused(&bytes("13"), UnknownCommand { place: 0 });
+    check_refused(&bytes("1105"), Unfinished { place: 2 });
+    check_refused(&bytes("21"), WrongClose { place: 0 });
+    check_refused(&bytes("1105 12"), EmptyBody { place: 2 });
+    check_refused(&bytes("20 0001 0001 1007 21"), SmallCount { place: 0 });
+    check_refused(&bytes("1101").repeat(9), Deep { place: 16 });
+    check_refused(&bytes("20 0002 0002 1007 21"), FalseWidth { place: 7 });
+    check_refused(&bytes("20 0401 0001 1007 21"), ManyNodes { place: 7 });
+    // No width limit stops the reading at the 20.
+    let wide = bytes("20 0002 0401 1007 21");
+    check_refused(&wide, FalseWidth { place: 7 });
+    assert_eq!(read_fold(&wide, 1024, prices(1, 0)), Err(Wide { place: 0 }));
+
+    let fold = bytes("1001 20 0003 0001 1002 21");
+    let listed = reference::list(&fold).unwrap();
+    for (a, b) in [(0, 2), (1, 2), (2, 1), (1, 9), (9, 1), (0, 0)] {
+        let (mut offsets, mut before) = (vec![9; a], vec![9; b]);
+        assert_eq!(index(&fold, &mut offsets, &mut before), Err(OutputSize));
+        assert_eq!((offsets, before), (vec![9; a], vec![9; b]));
+        assert_eq!(listed.indexed(a, b), [14, 0, 0, 0, 0, 0, 0]);
+    }
+    // The index is [0, 2] and [0, 1]. 17 goes before 16.
+    for (offsets, before) in [
+        (&[0][..], &[0, 1][..]),
+        (&[0, 2], &[0]),
+        (&[0, 2, 10], &[0, 1]),
+        (&[0, 2], &[0, 1, 4]),
+        (&[1, 2], &[0, 1]),
+        (&[0, 3], &[0, 1]),
+        (&[0, 2], &[1, 1]),
+        (&[0, 2], &[0, 0]),
+        (&[0, 1], &[0, 2]),
+        (&[], &[]),
+    ] {
+        for position in [0, 3, 4, u64::MAX] {
+            assert_eq!(find(&fold, offsets, before, position), Err(FalseIndex));
+            assert_eq!(listed.found(offsets, before, position), [17, 0, 0, 0, 0, 0, 0]);
+        }
+    }
 }

@@ -46,4 +46,25 @@ extern "C" {
         answer: *mut u64,
         answer_len: usize,
     ) -> u8;
+    pub fn runfold_index(
+        fold: *const u8,
+        fold_len: usize,
+        offsets: *mut u32,
+        offsets_len: usize,
+        before: *mut u32,
+        before_len: usize,
+        answer: *mut u64,
+        answer_len: usize,
+    ) -> u8;
+    pub fn runfold_find(
+        fold: *const u8,
+        fold_len: usize,
+        offsets: *const u32,
+        offsets_len: usize,
+        before: *const u32,
+        before_len: usize,
+        position: u64,
+        answer: *mut u64,
+        answer_len: usize,
+    ) -> u8;
 }

@@ -1,6 +1,7 @@
 //! The run folder. A *run* is a record of steps and nested groups of steps, as bytes. A *fold* is the same run with nested
 //! repeats, priced by the costs of steps, of groups and of repeats. The folder gives the cheapest fold of a run, the fold
-//! reader reads a fold and gives its cost, the unroller gives the run back. `docs/FORMAT.md` has the bytes of both.
+//! reader reads a fold and gives its cost, the unroller gives the run back, and the finder a single node of it, by an index that
+//! is kept beside the fold. `docs/FORMAT.md` has the bytes of both.
 //!
 //! ```
 //! use runfold::{folded, unroll, Prices, MAX_WIDTH, RUN_ROOM};
@@ -28,8 +29,8 @@
 //! The functions behind this crate are compiled from proved Rattle code. Their contracts stand in `crates/embed/src/lib.rt`,
 //! their proofs in `crates/embed/proofs` and the crates below it, and `docs/CERTIFICATE.md` lists what they promise: every
 //! input has an answer, the one that the definitions give; a fold that the folder writes is a fold of its run, and no other
-//! within the width limit is cheaper; of several cheapest it is the one whose bytes come first; no function reads or writes
-//! outside the slices that it is lent.
+//! within the width limit is cheaper; of several cheapest it is the one whose bytes come first; the finder gives the node that
+//! unrolling writes at the position; no function reads or writes outside the slices that it is lent.
 //!
 //! The library asks one thing of a caller: a slice that is written overlaps no other. That follows from the types here, so
 //! every function is safe to call with any arguments. None keeps state, and they may run in several threads at once. With the
@@ -40,8 +41,9 @@
 //!
 //! # Memory
 //!
-//! Only [`folded`] allocates; the crate is `no_std`. [`fold`] is lent its work and its output, [`unroll`] its output, and the
-//! readers need none. A call takes up to [`STACK`] bytes of stack; `docs/CERTIFICATE.md` has each function's own.
+//! Only [`folded`] allocates; the crate is `no_std`. [`fold`] is lent its work and its output, [`unroll`] its output, [`index`]
+//! the slices that it fills, and the others need none. A call takes up to [`STACK`] bytes of stack; `docs/CERTIFICATE.md` has
+//! each function's own.
 //!
 //! # Linking
 //!
@@ -133,6 +135,26 @@ pub struct Folding {
     pub length: usize,
     /// The fold's cost.
     pub cost: u64,
+}
+
+/// A node is a step or a group.
+#[derive(Clone, Copy, Debug, PartialEq, Eq, Hash)]
+pub enum Node {
+    /// A step, command `10`.
+    Step,
+    /// A group, command `11`.
+    Group,
+}
+
+/// What the finder gives.
+#[derive(Clone, Copy, Debug, PartialEq, Eq, Hash)]
+pub struct Found {
+    /// Whether it is a step or a group.
+    pub node: Node,
+    /// Its label.
+    pub label: u8,
+    /// The offset of its command in the fold. All copies that a repeat makes of a node have the same one.
+    pub offset: usize,
 }
 
 /// The refusal that a function answered, if any.
@@ -258,4 +280,52 @@ pub fn folded(run: &[u8], limit: usize, prices: Prices) -> Result<(Vec<u8>, u64)
     let folding = fold(run, limit, prices, &mut costs, &mut choices, &mut out)?;
     out.truncate(folding.length);
     Ok((out, folding.cost))
+}
+
+/// Indexes a fold: writes for each of its outermost items, that is for each step, group and repeat that stands in nothing else,
+/// its offset in the fold and the number of the run's nodes before it, and gives the number of these entries.
+///
+/// The index then stands at the front of `offsets` and `before`, and what is behind it stays as it was; after a refusal all of
+/// both does. [`MAX_NODES`] entries in each are always enough. Kept beside the fold, it serves [`find`].
+///
+/// There is no width limit: what is not refused here, [`read_fold`] accepts at [`MAX_WIDTH`].
+///
+/// Refusals 1, 3 to 6, 8 to 10 and 14.
+pub fn index(fold: &[u8], offsets: &mut [u32], before: &mut [u32]) -> Result<usize, Refusal> {
+    let mut answer = [0; raw::ENTRIES];
+    answered(raw::index(fold, offsets, before, &mut answer), &answer)?;
+    Ok(answer[raw::INDEXED] as usize)
+}
+
+/// Finds a node of the run that a fold unrolls to, without unrolling it, by the index that [`index`] wrote for this fold: both
+/// slices have the entries that it gave, and no others.
+///
+/// `position` counts the nodes of the run from 0, in the order of its bytes: a group comes right before what it holds.
+///
+/// Refusals 1, 3 to 6, 8 to 10, then 17, then 16.
+///
+/// ```
+/// use runfold::{find, index, Found, Node, Refusal, MAX_NODES};
+///
+/// // A step 01, then 300 times a step 02 and a group 05 that holds a step 03: 901 nodes.
+/// let fold = [0x10, 0x01, 0x20, 0x01, 0x2C, 0x00, 0x02, 0x10, 0x02, 0x11, 0x05, 0x10, 0x03, 0x12, 0x21];
+/// let (mut offsets, mut before) = ([0; MAX_NODES], [0; MAX_NODES]);
+/// let entries = index(&fold, &mut offsets, &mut before)?;
+/// let (offsets, before) = (&offsets[..entries], &before[..entries]);
+/// assert_eq!((offsets, before), (&[0, 2][..], &[0, 1][..]));
+///
+/// assert_eq!(find(&fold, offsets, before, 700)?, Found { node: Node::Step, label: 0x02, offset: 7 });
+/// assert_eq!(find(&fold, offsets, before, 701)?, Found { node: Node::Group, label: 0x05, offset: 9 });
+/// assert_eq!(find(&fold, offsets, before, 901), Err(Refusal::PastEnd));
+/// assert_eq!(find(&fold, offsets, &before[1..], 700), Err(Refusal::FalseIndex));
+/// # Ok::<(), Refusal>(())
+/// ```
+pub fn find(fold: &[u8], offsets: &[u32], before: &[u32], position: u64) -> Result<Found, Refusal> {
+    let mut answer = [0; raw::ENTRIES];
+    answered(raw::find(fold, offsets, before, position, &mut answer), &answer)?;
+    Ok(Found {
+        node: if answer[raw::COMMAND] == 0x10 { Node::Step } else { Node::Group },
+        label: answer[raw::LABEL] as u8,
+        offset: answer[raw::OFFSET] as usize,
+    })
 }

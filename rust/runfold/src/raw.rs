@@ -1,9 +1,10 @@
 //! The library's functions as they are, over slices: each leaves seven numbers in `answer` and returns the refusal number, 0
 //! for success. They are for callers who want these numbers themselves; the functions of the crate's root say the same in types.
 //!
-//! `answer` has at least [`ENTRIES`] entries. The first seven are then written, 0 where a function has no such value and after a
-//! refusal (but for its number and place), and the others stay as they are. Where `answer` has fewer entries the function
-//! returns [`SHORT`], and nothing is written anywhere.
+//! `answer` has at least [`ENTRIES`] entries. The first seven are then written, and the others stay as they are. The first two
+//! are always [`REFUSAL`] and [`PLACE`]. What the other five are depends on the function, so an entry can have several names;
+//! they are 0 where the function has no such value, and after a refusal. Where `answer` has fewer entries the function returns
+//! [`SHORT`], and nothing is written anywhere.
 
 use crate::declared;
 
@@ -11,7 +12,7 @@ use crate::declared;
 pub const ENTRIES: usize = 7;
 /// Where the refusal number stands in an answer, 0 for success.
 pub const REFUSAL: usize = 0;
-/// Where the place of a refusal stands: an offset in the input, 0 for refusals 11 to 15 and on success.
+/// Where the place of a refusal stands: an offset in the input, 0 for refusals 11 to 17 and on success.
 pub const PLACE: usize = 1;
 /// Where the nodes of the run stand (run reader, fold reader).
 pub const NODES: usize = 2;
@@ -23,6 +24,14 @@ pub const COST: usize = 4;
 pub const STEPS: usize = 5;
 /// Where the most groups of the run that are open together stand, 0 for a run without groups (run reader, fold reader).
 pub const DEPTH: usize = 6;
+/// Where the number of an index's entries stands (index builder).
+pub const INDEXED: usize = 2;
+/// Where the label of a node stands (finder).
+pub const LABEL: usize = 2;
+/// Where the command of a node stands, 0x10 for a step or 0x11 for a group (finder).
+pub const COMMAND: usize = 3;
+/// Where the offset of that command in the fold stands (finder).
+pub const OFFSET: usize = 4;
 
 /// What a function returns where `answer` has fewer than [`ENTRIES`] entries. No refusal has this number.
 pub const SHORT: u8 = 255;
@@ -121,6 +130,41 @@ pub fn fold(
             choices.len(),
             out.as_mut_ptr(),
             out.len(),
+            answer.as_mut_ptr(),
+            answer.len(),
+        )
+    }
+}
+
+/// The index builder: as [`index`](crate::index), with [`INDEXED`] in the answer.
+pub fn index(fold: &[u8], offsets: &mut [u32], before: &mut [u32], answer: &mut [u64]) -> u8 {
+    // SAFETY: see above.
+    unsafe {
+        declared::runfold_index(
+            fold.as_ptr(),
+            fold.len(),
+            offsets.as_mut_ptr(),
+            offsets.len(),
+            before.as_mut_ptr(),
+            before.len(),
+            answer.as_mut_ptr(),
+            answer.len(),
+        )
+    }
+}
+
+/// The finder: as [`find`](crate::find), with [`LABEL`], [`COMMAND`] and [`OFFSET`] in the answer.
+pub fn find(fold: &[u8], offsets: &[u32], before: &[u32], position: u64, answer: &mut [u64]) -> u8 {
+    // SAFETY: see above.
+    unsafe {
+        declared::runfold_find(
+            fold.as_ptr(),
+            fold.len(),
+            offsets.as_ptr(),
+            offsets.len(),
+            before.as_ptr(),
+            before.len(),
+            position,
             answer.as_mut_ptr(),
             answer.len(),
         )

@@ -6,7 +6,7 @@ use core::fmt;
 /// Why an input was refused: one variant for each number of `docs/REFUSALS.md`, which has an example of each and the order in
 /// which they are looked for.
 ///
-/// The place is an offset in the input: that of the command that is refused, or for 3 the input's size. Refusals 11 to 15 have
+/// The place is an offset in the input: that of the command that is refused, or for 3 the input's size. Refusals 11 to 17 have
 /// none, which counts as 0. `{}` shows number, place and condition; `?` out of `main` shows the variant.
 ///
 /// ```
@@ -77,17 +77,21 @@ pub enum Refusal {
     LimitSize,
     /// 13: a work slice is too short.
     WorkSize,
-    /// 14: the output is shorter than the result.
+    /// 14: the output is shorter than the result, or a slice of the index shorter than its entries.
     OutputSize,
     /// 15: the costs of groups are not 256 entries.
     GroupTableSize,
+    /// 16: the position is not below the node total.
+    PastEnd,
+    /// 17: the index is not the one that the builder writes for this fold.
+    FalseIndex,
 }
 
 use Refusal::*;
 
 impl Refusal {
     /// The refusal of a number and a place, as the functions of [`raw`](crate::raw) answer them; none for 0 and for numbers
-    /// that this version does not know. 11 to 15 have no place.
+    /// that this version does not know. 11 to 17 have no place.
     pub const fn numbered(number: u8, place: usize) -> Option<Refusal> {
         Some(match number {
             1 => UnknownCommand { place },
@@ -105,11 +109,13 @@ impl Refusal {
             13 => WorkSize,
             14 => OutputSize,
             15 => GroupTableSize,
+            16 => PastEnd,
+            17 => FalseIndex,
             _ => return None,
         })
     }
 
-    /// Its number, 1 to 15.
+    /// Its number, 1 to 17.
     pub const fn number(self) -> u8 {
         match self {
             UnknownCommand { .. } => 1,
@@ -127,6 +133,8 @@ impl Refusal {
             WorkSize => 13,
             OutputSize => 14,
             GroupTableSize => 15,
+            PastEnd => 16,
+            FalseIndex => 17,
         }
     }
 
@@ -143,7 +151,7 @@ impl Refusal {
             | Deep { place }
             | FalseWidth { place }
             | ManyNodes { place } => place,
-            StepTableSize | LimitSize | WorkSize | OutputSize | GroupTableSize => 0,
+            StepTableSize | LimitSize | WorkSize | OutputSize | GroupTableSize | PastEnd | FalseIndex => 0,
         }
     }
 
@@ -165,6 +173,8 @@ impl Refusal {
             WorkSize => "a work slice too short",
             OutputSize => "output shorter than the result",
             GroupTableSize => "group cost table not of 256 entries",
+            PastEnd => "position not below the node total",
+            FalseIndex => "index not the one that the builder writes",
         }
     }
 }
@@ -184,12 +194,12 @@ mod tests {
 
     #[test]
     fn numbers_and_places_come_back() {
-        for number in 1..=15 {
+        for number in 1..=17 {
             let refusal = Refusal::numbered(number, 7).expect("a refusal");
             assert_eq!(refusal.number(), number);
             assert_eq!(refusal.place(), if number <= 10 { 7 } else { 0 });
         }
-        for other in [0, 16, crate::raw::SHORT] {
+        for other in [0, 18, crate::raw::SHORT] {
             assert_eq!(Refusal::numbered(other, 0), None);
         }
     }

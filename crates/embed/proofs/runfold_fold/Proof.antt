@@ -8,7 +8,7 @@ use lib.ListN.{take}
 use Rattle.format.specs.Limits.{Prices, tariff, priced}
 use Rattle.format.specs.Readings.{format-rules}
 use Rattle.optimum.specs.Demands.{CheapestWithin, MinimumTree}
-use Rattle.embed.specs.Answers.{from-folded}
+use Rattle.embed.specs.Answers.{of-folded}
 use Rattle.embed.proofs.Entries.{short-status, short-kept, short-entries, long-kept, stored, of-stored}
 use Rattle.embed.proofs.runfold_fold.Statement.{statement}
 use Rattle.embed.proofs.runfold_fold.Tie as tie
@@ -61,8 +61,8 @@ returns-2 c =
     let long = entry .if1 .left in
     let said = done .fold .ensures in
     let put = after .store .ensures in
-    let answer = from-folded (done .fold .result) in
-    let numbers = stored a long _ answer _ (ap from-folded (said .0)) put in
+    let answer = of-folded (done .fold .result) in
+    let numbers = stored a long _ answer _ (ap of-folded (said .0)) put in
     let P : Prices = priced (tariff (args .steps .now) (args .groups .now) (args .first) (args .each)) in
     let demand = said .1 .1 .1 .1 in
     let out = done .fold .last .1 .1 .1 .1 .1 .1 .1 .1 .0 in

@@ -1,8 +1,10 @@
 -- `embed::runfold_read_fold` meets its contract: the fold reader's answer, stored as numbers.
 use borrow.Author.Needs.{needs}
+use mathlib.Core.Path.{ap}
 use native.Mathlib.Omega.{arith}
 use Rattle.format.specs.Limits.{tariff, priced}
 use Rattle.format.specs.Meaning.{MeansAtCost}
+use Rattle.embed.specs.Answers.{of-fold}
 use Rattle.embed.proofs.Entries.{short-status, short-entries, stored, of-stored}
 use Rattle.embed.proofs.runfold_read_fold.Statement.{statement}
 use Rattle.embed.proofs.runfold_read_fold.Tie as tie
@@ -27,9 +29,9 @@ returns-2 c =
     let a = done .before .before .before .before .before .before .args in
     let said = done .read-fold .ensures in
     let put = c .before .before .store .ensures in
-    let numbers = stored (a .answer .now) (done .before .if1 .left) _ (done .read-fold .result) _ (said .0) put in
+    let numbers = stored (a .answer .now) (done .before .if1 .left) _ (of-fold (done .read-fold .result)) _ (ap of-fold (said .0)) put in
     let Q = MeansAtCost (a .limit) (priced (tariff (a .steps .now) (a .groups .now) (a .first) (a .each))) (a .fold .now) in
-    (numbers .0, (numbers .1, λ z. of-stored Q _ (done .read-fold .result) _ put (said .1 z)))
+    (numbers .0, (numbers .1, λ z. of-stored Q _ (of-fold (done .read-fold .result)) _ put (said .1 z)))
 
 pub runfold-read-fold-spec : {M : Type 1} → statement M
 runfold-read-fold-spec =

@@ -1,7 +1,7 @@
 -- `embed::runfold_read_run` meets its contract: the run reader's answer, stored as numbers.
 use borrow.Author.Needs.{needs}
 use mathlib.Core.Path.{ap}
-use Rattle.embed.specs.Answers.{from-run-reading}
+use Rattle.embed.specs.Answers.{of-run}
 use Rattle.embed.proofs.Entries.{short-status, short-entries, stored}
 use Rattle.embed.proofs.runfold_read_run.Statement.{statement}
 use Rattle.embed.proofs.runfold_read_run.Tie as tie
@@ -23,8 +23,8 @@ same-length c = search needs
 returns-2 : tie.Need-returns-2
 returns-2 c =
     let done = c .before .before .before .before in
-    stored (done .before .before .before .before .args .answer .now) (done .before .if1 .left) _ (from-run-reading (done .read-run .result)) _
-    (ap from-run-reading (done .read-run .ensures)) (c .before .before .store .ensures)
+    stored (done .before .before .before .before .args .answer .now) (done .before .if1 .left) _ (of-run (done .read-run .result)) _
+    (ap of-run (done .read-run .ensures)) (c .before .before .store .ensures)
 
 pub runfold-read-run-spec : {M : Type 1} → statement M
 runfold-read-run-spec =

@@ -5,7 +5,7 @@ use Prim.Native.Nat.{ℕ}
 use native.Mathlib.Omega.{arith}
 use lib.ListN.{take}
 use Rattle.format.specs.Meaning.{Means}
-use Rattle.embed.specs.Answers.{from-unrolled}
+use Rattle.embed.specs.Answers.{of-unrolled}
 use Rattle.embed.proofs.Entries.{short-status, short-kept, short-entries, long-kept, stored, of-stored}
 use Rattle.embed.proofs.runfold_unroll.Statement.{statement}
 use Rattle.embed.proofs.runfold_unroll.Tie as tie
@@ -37,8 +37,8 @@ returns-2 c =
     let long = entry .if1 .left in
     let said = done .unroll .ensures in
     let put = c .before .before .store .ensures in
-    let answer = from-unrolled (done .unroll .result) in
-    let numbers = stored a long _ answer _ (ap from-unrolled (said .0)) put in
+    let answer = of-unrolled (done .unroll .result) in
+    let numbers = stored a long _ answer _ (ap of-unrolled (said .0)) put in
     let Q : ℕ → ℕ → Type 0 = λ n m. Means (args .limit) (args .fold .now) (take n (done .unroll .last .1 .1 .0)) in
     (numbers .0, (numbers .1, (said .1 .0 ∙ long-kept a long _ _, λ z. of-stored Q _ answer _ put (said .1 .1 z))))
 

@@ -1,14 +1,17 @@
 //! The folder beside the report's method, in one run on the same inputs: Figure 1 as it stands, with a transposed copy, and in
-//! blocks. Every cost is compared, and every fold is read back and unrolled. Prints the times and writes a page and a plot.
+//! blocks. Every cost is compared, and every fold is read back and unrolled. Then finding beside unrolling. Prints the times and
+//! writes a page and a plot.
 //!
 //! Usage: `benchmark PAGE PLOT DATE CODES`, where CODES is a file with a line for each code that is measured: name, compiler,
-//! flags, and how many of its instructions name a vector register of 16, 32 and 64 bytes, between bars.
+//! flags, and how many of its instructions name a vector register of 16, 32 and 64 bytes, between bars. `benchmark finding`
+//! prints finding beside unrolling alone.
 
+use compare::finding;
 use compare::inputs::bytes_of;
 use compare::inputs::families::{self, Kind};
 use compare::machine::machine;
-use compare::measured::{Row, Times, SIZES};
-use compare::page::{page_text, summary_table, Code, Results};
+use compare::measured::{Finding, Row, Times, SIZES};
+use compare::page::{finding_losses, finding_table, page_text, summary_table, Code, Results};
 use compare::plot::plot_text;
 use compare::reference::Prices;
 use compare::timing::{price_sets, Bench};
@@ -30,9 +33,22 @@ fn measure(bench: &mut Bench, which: usize, nodes: usize, prices: &Prices) -> Ti
     mean
 }
 
+/// Measures finding beside unrolling, and prints it.
+fn findings() -> Vec<Finding> {
+    let findings = finding::measure_all();
+    println!("{}\n{}", finding_table(&findings), finding_losses(&findings));
+    findings
+}
+
 fn main() {
     let args: Vec<String> = std::env::args().skip(1).collect();
-    let [page, plot, date, codes] = &args[..] else { panic!("usage: benchmark PAGE PLOT DATE CODES") };
+    if args == ["finding"] {
+        findings();
+        return;
+    }
+    let [page, plot, date, codes] = &args[..] else {
+        panic!("usage: benchmark PAGE PLOT DATE CODES, or benchmark finding")
+    };
     let codes = std::fs::read_to_string(codes).expect("the file of codes is read");
     let codes: Vec<Code> = codes.lines().map(|line| Code::new(line).expect("a line of the file of codes")).collect();
     let mut bench = Bench::default();
@@ -55,9 +71,11 @@ fn main() {
     let clearing = bench.clearing(&bytes_of(&families::run(groups, MAX_NODES, 0)), &price_sets()[0].1);
     println!("\n{}", summary_table(&rows));
     println!("{} folds read back, all costs agree", bench.checked);
-    println!("clearing both work slices takes {:.3} ms", clearing * 1e3);
+    println!("clearing both work slices takes {:.3} ms\n", clearing * 1e3);
+    let findings = &findings();
     let machine = &machine();
-    let results = Results { date, machine, codes: &codes, rows: &rows, checked: bench.checked as u64, clearing };
+    let checked = bench.checked as u64;
+    let results = Results { date, machine, codes: &codes, rows: &rows, findings, checked, clearing };
     std::fs::write(page, page_text(&results)).expect("the page is written");
     std::fs::write(plot, plot_text(&rows)).expect("the plot is written");
 }

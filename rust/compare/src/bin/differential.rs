@@ -1,12 +1,12 @@
 //! Compares the library with the independent implementation on many inputs, short and long, sound and damaged. Every answer,
-//! every byte of the lent output and every entry of the lent work is compared, also those that a call must leave alone.
+//! every byte of the lent output and every entry of the lent work and index is compared, also those that a call must leave alone.
 //!
 //! Usage: `differential [SEED [SCALE]]`. One seed and scale give one run. The first difference ends it and prints its input.
 
 use compare::inputs::{self, depth, Random};
-use compare::reference::{self, Answer, Item, Prices, Solved};
+use compare::reference::{self, Answer, Item, Listed, Prices, Solved};
 use runfold::raw::{self, ENTRIES, SHORT};
-use runfold::work_entries;
+use runfold::{work_entries, MAX_NODES, MAX_WIDTH, RUN_ROOM};
 use std::fmt::Write;
 use std::process::exit;
 use std::time::Instant;
@@ -19,24 +19,68 @@ enum Entry {
     Fold,
     Unroll,
     Folder,
+    Index,
+    Find,
 }
 
-const ENTRY_NAMES: [&str; 5] = ["run reader", "part of a node", "fold reader", "unroller", "folder"];
+const ENTRY_NAMES: [&str; 7] =
+    ["run reader", "part of a node", "fold reader", "unroller", "folder", "index builder", "finder"];
+
+/// One more than the highest refusal.
+const NUMBERS: usize = 18;
 
 /// The refusals that each entry point can give.
-const POSSIBLE: [&[u8]; 5] = [
+const POSSIBLE: [&[u8]; 7] = [
     &[1, 2, 3, 4, 5, 8, 10],
     &[],
     &[1, 3, 4, 5, 6, 7, 8, 9, 10, 11, 12, 15],
     &[1, 3, 4, 5, 6, 7, 8, 9, 10, 12, 14],
     &[1, 2, 3, 4, 5, 8, 10, 11, 12, 13, 14, 15],
+    &[1, 3, 4, 5, 6, 8, 9, 10, 14],
+    &[1, 3, 4, 5, 6, 8, 9, 10, 16, 17],
+];
+
+/// What index builder and finder have to be compared on: a case that never came up is a failure.
+const CASES: [&str; 31] = [
+    "index written to slices just long enough",
+    "index written to longer slices",
+    "index of 1,024 entries written",
+    "14 by the offsets alone",
+    "14 by the numbers before alone",
+    "14 by both",
+    "a step found",
+    "a group found",
+    "a node found in a later copy of a repeat",
+    "a node found at position 1,023",
+    "16 at the total",
+    "16 past the total",
+    "16 where the position's low 32 bits are below the total",
+    "16 in the empty fold",
+    "17 by offsets one short",
+    "17 by numbers before one short",
+    "17 by both one short",
+    "17 by offsets one long",
+    "17 by numbers before one long",
+    "17 by both one long",
+    "17 by an offset",
+    "17 by a number before",
+    "17 by slices swapped",
+    "17 by another fold's index",
+    "17 by another fold's index of as many entries",
+    "17 by slices of no entries",
+    "17 where the position is not below the total either",
+    "17 in a damaged fold",
+    "a node found in a damaged fold",
+    "9 of the index builder where the fold reader has 7",
+    "9 of the finder where the fold reader has 7",
 ];
 
 struct Compare {
     seed: u64,
     random: Random,
-    calls: [u64; 5],
-    refusals: [[u64; 16]; 5],
+    calls: [u64; ENTRY_NAMES.len()],
+    refusals: [[u64; NUMBERS]; ENTRY_NAMES.len()],
+    cases: [u64; CASES.len()],
     short_answers: u64,
     against_trial: u64,
     written: u64,
@@ -44,6 +88,8 @@ struct Compare {
     against_cost: u64,
     longest: usize,
     deepest: usize,
+    /// The fold before, whose index is another one.
+    last: Listed,
 }
 
 fn hex(bytes: &[u8]) -> String {
@@ -62,6 +108,21 @@ fn shown(prices: &Prices) -> String {
     let Prices { steps, groups, first, each } = prices;
     let [a, b] = [steps, groups].map(|costs| format!("{} costs {}", costs.len(), table(costs)));
     format!("steps: {a}, groups: {b}, first {first}, each {each}")
+}
+
+/// The commands and labels of the nodes of a run, in their order.
+fn nodes_of(run: &[u8]) -> Vec<[u8; 2]> {
+    let mut nodes = Vec::new();
+    let mut at = 0;
+    while at < run.len() {
+        if run[at] == 0x12 {
+            at += 1;
+        } else {
+            nodes.push([run[at], run[at + 1]]);
+            at += 2;
+        }
+    }
+    nodes
 }
 
 /// Entries that no call writes by chance: each says where it stands.
@@ -112,21 +173,22 @@ impl Compare {
         call: &dyn Fn() -> String,
         status: u8,
         answer: &[u64],
-        expected: Answer,
+        expected: [u64; ENTRIES],
     ) -> bool {
         self.calls[entry as usize] += 1;
         let mut after = marked_answer(answer.len());
         let enough = after.len() >= ENTRIES;
+        let refusal = expected[raw::REFUSAL] as u8;
         if enough {
-            after[..ENTRIES].copy_from_slice(&expected.numbers());
-            self.refusals[entry as usize][expected.refusal as usize] += 1;
+            after[..ENTRIES].copy_from_slice(&expected);
+            self.refusals[entry as usize][refusal as usize] += 1;
         } else {
             self.short_answers += 1;
         }
         if answer != after {
             self.differ(entry, input, call, "answer", &format!("{answer:?}"), &format!("{after:?}"));
         }
-        let returned = if enough { expected.refusal } else { SHORT };
+        let returned = if enough { refusal } else { SHORT };
         if status != returned {
             self.differ(entry, input, call, "status", &status.to_string(), &returned.to_string());
         }
@@ -152,7 +214,8 @@ impl Compare {
     fn run_reader(&mut self, run: &[u8]) {
         let mut answer = self.answer_slice();
         let status = raw::read_run(run, &mut answer);
-        self.check_answer(Entry::Run, run, &String::new, status, &answer, reference::read_run(run));
+        let expected = reference::read_run(run).numbers();
+        self.check_answer(Entry::Run, run, &String::new, status, &answer, expected);
     }
 
     fn part(&mut self, run: &[u8], at: usize) {
@@ -176,7 +239,7 @@ impl Compare {
         let mut answer = self.answer_slice();
         let Prices { steps, groups, first, each } = prices;
         let status = raw::read_fold(fold, limit, steps, groups, *first, *each, &mut answer);
-        let expected = reference::read_fold(fold, limit, prices);
+        let expected = reference::read_fold(fold, limit, prices).numbers();
         self.check_answer(Entry::Fold, fold, &call, status, &answer, expected);
     }
 
@@ -193,7 +256,7 @@ impl Compare {
         let mut answer = self.answer_slice();
         let mut out = marked_bytes(room);
         let status = raw::unroll(fold, limit, &mut out, &mut answer);
-        let enough = self.check_answer(Entry::Unroll, fold, &call, status, &answer, expected);
+        let enough = self.check_answer(Entry::Unroll, fold, &call, status, &answer, expected.numbers());
         let mut after = marked_bytes(room);
         if enough {
             after[..run.len()].copy_from_slice(&run);
@@ -201,18 +264,20 @@ impl Compare {
         self.check_slice(Entry::Unroll, fold, &call, "output", &out, &after);
     }
 
+    /// How many entries to lend where so many are needed: mostly enough.
+    fn lent(&mut self, needed: usize) -> usize {
+        match self.random.below(12) {
+            0 if needed > 0 => needed - 1 - self.random.below(needed),
+            1 => needed,
+            _ => needed + self.random.below(30),
+        }
+    }
+
     /// The folder, held to the solution that the independent implementation found.
     fn folder(&mut self, run: &[u8], limit: usize, prices: &Prices, solved: &Result<Solved, Answer>) {
         let (nodes, length) = solved.as_ref().map_or((2, 9), |s| (s.nodes, s.bytes.len()));
         let needed = work_entries(nodes);
-        let lent = |r: &mut Random, needed: usize| match r.below(12) {
-            0 if needed > 0 => needed - 1 - r.below(needed),
-            1 => needed,
-            _ => needed + r.below(30),
-        };
-        let a = lent(&mut self.random, needed);
-        let b = lent(&mut self.random, needed);
-        let room = lent(&mut self.random, length);
+        let (a, b, room) = (self.lent(needed), self.lent(needed), self.lent(length));
         let (expected, bytes) = match solved {
             Ok(solved) => reference::lend(solved, a, b, room),
             Err(refused) => (*refused, Vec::new()),
@@ -232,7 +297,7 @@ impl Compare {
             &mut out,
             &mut answer,
         );
-        let enough = self.check_answer(Entry::Folder, run, &call, status, &answer, expected);
+        let enough = self.check_answer(Entry::Folder, run, &call, status, &answer, expected.numbers());
         let mut after = marked_bytes(room);
         let (mut costs_after, mut choices_after) = (marked_words(a), marked_words(b));
         if enough {
@@ -316,6 +381,7 @@ impl Compare {
             self.deepest = self.deepest.max(depth(items));
             self.fold_reader(&solved.bytes, limit, prices);
             self.unroller(&solved.bytes, limit);
+            self.index_and_find(&solved.bytes);
         }
     }
 
@@ -360,6 +426,7 @@ impl Compare {
         self.deepest = self.deepest.max(depth(items));
         self.fold_reader(&bytes, limit, prices);
         self.unroller(&bytes, limit);
+        self.every_position(&bytes);
     }
 
     /// Bytes of any kind, through every entry point.
@@ -370,12 +437,241 @@ impl Compare {
         self.part(bytes, at);
         self.fold_reader(bytes, limit, &prices);
         self.unroller(bytes, limit);
+        self.index_and_find(bytes);
         // A long sequence is left to the other comparisons: the independent folder is slow.
         if bytes.len() <= 120 || reference::read_run(bytes).refusal != 0 {
             let solved = reference::solve(bytes, limit, &prices);
             self.folder(bytes, limit, &prices, &solved);
         }
     }
+}
+
+/// A fold as the independent implementation lists it, or its refusal.
+type Listing<'a> = Result<&'a Listed, &'a Answer>;
+
+/// Index builder and finder.
+impl Compare {
+    fn reached(&mut self, case: &str) {
+        let at = CASES.iter().position(|&name| name == case).expect("a case of the list");
+        self.cases[at] += 1;
+    }
+
+    /// The index builder with slices of so many entries, held to the independent listing.
+    fn index_builder(&mut self, fold: &[u8], listed: Listing, a: usize, b: usize) {
+        let expected = listed.map_or_else(|refused| refused.numbers(), |listed| listed.indexed(a, b));
+        let call = || format!("slices of {a} and {b} entries");
+        let mut answer = self.answer_slice();
+        let (mut offsets, mut before) = (marked_words(a), marked_words(b));
+        let status = raw::index(fold, &mut offsets, &mut before, &mut answer);
+        self.check_answer(Entry::Index, fold, &call, status, &answer, expected);
+        let (mut offsets_after, mut before_after) = (marked_words(a), marked_words(b));
+        let entries = listed.map_or(0, |listed| listed.offsets.len());
+        if let (0, Ok(listed)) = (status, listed) {
+            offsets_after[..entries].copy_from_slice(&listed.offsets);
+            before_after[..entries].copy_from_slice(&listed.before);
+            if entries == MAX_NODES {
+                self.reached("index of 1,024 entries written");
+            }
+        }
+        self.check_slice(Entry::Index, fold, &call, "offsets", &offsets, &offsets_after);
+        self.check_slice(Entry::Index, fold, &call, "numbers before", &before, &before_after);
+        match status {
+            0 if a == entries && b == entries => self.reached("index written to slices just long enough"),
+            0 => self.reached("index written to longer slices"),
+            14 if b >= entries => self.reached("14 by the offsets alone"),
+            14 if a >= entries => self.reached("14 by the numbers before alone"),
+            14 => self.reached("14 by both"),
+            9 if over_the_limit(fold) => self.reached("9 of the index builder where the fold reader has 7"),
+            _ => {}
+        }
+    }
+
+    /// The finder by any index, held to the independent listing. Gives the answer where the lent slice is long enough.
+    fn finder(
+        &mut self,
+        fold: &[u8],
+        listed: Listing,
+        (offsets, before): (&[u32], &[u32]),
+        position: u64,
+    ) -> Option<[u64; ENTRIES]> {
+        let found = |listed: &Listed| listed.found(offsets, before, position);
+        let expected = listed.map_or_else(|refused| refused.numbers(), found);
+        let call = || format!("position {position}, offsets {offsets:?}, numbers before {before:?}");
+        let mut answer = self.answer_slice();
+        let status = raw::find(fold, offsets, before, position, &mut answer);
+        self.check_answer(Entry::Find, fold, &call, status, &answer, expected);
+        let total = listed.map_or(0, |listed| listed.nodes.len() as u64);
+        match status {
+            16 if total == 0 => self.reached("16 in the empty fold"),
+            16 if position == total => self.reached("16 at the total"),
+            16 if position % (1 << 32) < total => {
+                self.reached("16 where the position's low 32 bits are below the total")
+            }
+            16 => self.reached("16 past the total"),
+            17 if position >= total => self.reached("17 where the position is not below the total either"),
+            9 if over_the_limit(fold) => self.reached("9 of the finder where the fold reader has 7"),
+            _ => {}
+        }
+        answer.first_chunk().copied()
+    }
+
+    /// The same, until the lent answer is long enough.
+    fn find(&mut self, fold: &[u8], listed: Listing, index: (&[u32], &[u32]), position: u64) -> [u64; ENTRIES] {
+        loop {
+            if let Some(answer) = self.finder(fold, listed, index, position) {
+                return answer;
+            }
+        }
+    }
+
+    /// Any bytes, mostly with slices that are long enough, and by their index.
+    fn index_and_find(&mut self, fold: &[u8]) {
+        let listed = reference::list(fold);
+        let listed = listed.as_ref();
+        let (entries, nodes) = listed.map_or((1, 1), |listed| (listed.offsets.len(), listed.nodes.len()));
+        let (a, b) = (self.lent(entries), self.lent(entries));
+        self.index_builder(fold, listed, a, b);
+        let position = self.random.below(nodes + nodes / 16 + 2) as u64;
+        let any = [0; 2].map(|_| (0..self.random.below(3)).map(|_| self.random.below(3) as u32).collect::<Vec<_>>());
+        let index = match listed {
+            Ok(listed) if !self.random.once_in(8) => (&listed.offsets[..], &listed.before[..]),
+            _ => (&any[0][..], &any[1][..]),
+        };
+        self.finder(fold, listed, index, position);
+    }
+
+    /// A sound fold by its own index: the node at every position, against the run that the library's unroller writes and the
+    /// fold's own bytes, and positions that it does not have.
+    fn positions(&mut self, fold: &[u8], listed: &Listed) {
+        let index = (&listed.offsets[..], &listed.before[..]);
+        let mut run = [0; RUN_ROOM];
+        let length = runfold::unroll(fold, MAX_WIDTH, &mut run).expect("the fold is sound");
+        let nodes = nodes_of(&run[..length]);
+        let mut met = vec![false; fold.len()];
+        for (position, &[command, label]) in nodes.iter().enumerate() {
+            let [_, _, found @ ..] = self.find(fold, Ok(listed), index, position as u64);
+            let offset = found[2] as usize;
+            if found[..2] != [label as u64, command as u64] || fold[offset..][..2] != [command, label] {
+                let call = || format!("position {position}");
+                let expected = format!("label {label}, command {command} in the run, and the same in the fold");
+                self.differ(Entry::Find, fold, &call, "label, command, offset", &format!("{found:?}"), &expected);
+            }
+            self.reached(if command == 0x10 { "a step found" } else { "a group found" });
+            if met[offset] {
+                self.reached("a node found in a later copy of a repeat");
+            }
+            if position == MAX_NODES - 1 {
+                self.reached("a node found at position 1,023");
+            }
+            met[offset] = true;
+        }
+        let total = nodes.len() as u64;
+        let low = self.random.below(nodes.len().max(1)) as u64;
+        for position in [total, total + 1, 1 << 16, 1 << 32, (1 << 32) + low, (1 << 63) + low, u64::MAX] {
+            self.find(fold, Ok(listed), index, position);
+        }
+    }
+
+    /// Slices just long enough, longer, and one too short.
+    fn lengths(&mut self, fold: &[u8], listed: &Listed) {
+        let entries = listed.offsets.len();
+        let (less, more) = (entries.saturating_sub(1), entries + 1 + self.random.below(9));
+        for (a, b) in [
+            (entries, entries),
+            (entries, more),
+            (more, entries),
+            (more, more),
+            (less, entries),
+            (entries, less),
+            (less, more),
+            (more, less),
+            (less, less),
+            (0, more),
+            (more, 0),
+        ] {
+            self.index_builder(fold, Ok(listed), a, b);
+        }
+    }
+
+    /// Indexes other than the fold's own, with a position that it has and one that it has not.
+    fn other_indexes(&mut self, fold: &[u8], listed: &Listed) {
+        let Listed { nodes, offsets, before } = listed;
+        let shorter = |numbers: &[u32]| numbers[..numbers.len().saturating_sub(1)].to_vec();
+        // What would be the next entry.
+        let longer = [(offsets, fold.len()), (before, nodes.len())].map(|(a, next)| [&a[..], &[next as u32]].concat());
+        let [more_offsets, more_before] = longer;
+        let entries = offsets.len();
+        let another = match self.last.offsets.len() == entries {
+            true => "17 by another fold's index of as many entries",
+            false => "17 by another fold's index",
+        };
+        let mut indexes = vec![
+            ("17 by offsets one short", shorter(offsets), before.clone()),
+            ("17 by numbers before one short", offsets.clone(), shorter(before)),
+            ("17 by both one short", shorter(offsets), shorter(before)),
+            ("17 by offsets one long", more_offsets.clone(), before.clone()),
+            ("17 by numbers before one long", offsets.clone(), more_before.clone()),
+            ("17 by both one long", more_offsets, more_before),
+            ("17 by slices swapped", before.clone(), offsets.clone()),
+            (another, self.last.offsets.clone(), self.last.before.clone()),
+            ("17 by slices of no entries", Vec::new(), Vec::new()),
+        ];
+        // Every entry of a short index, some of a long one: one more, one less, and off by a power of two.
+        for k in 0..entries.min(12) {
+            let at = if entries <= 12 { k } else { self.random.below(entries) };
+            for by in [1, u32::MAX, 1 << self.random.below(32)] {
+                let off = |numbers: &[u32]| {
+                    let mut numbers = numbers.to_vec();
+                    numbers[at] = numbers[at].wrapping_add(by);
+                    numbers
+                };
+                indexes.push(("17 by an offset", off(offsets), before.clone()));
+                indexes.push(("17 by a number before", offsets.clone(), off(before)));
+            }
+        }
+        for (case, offsets, before) in &indexes {
+            let within = self.random.below(nodes.len().max(1));
+            let past = nodes.len() + self.random.below(3);
+            for position in [within, past] {
+                let answer = self.find(fold, Ok(listed), (offsets, before), position as u64);
+                // Some are the fold's own after all: two indexes of one entry are equal.
+                if answer[raw::REFUSAL] == 17 {
+                    self.reached(case);
+                }
+            }
+        }
+    }
+
+    /// A damaged fold, by the index of the sound one.
+    fn damaged(&mut self, fold: &[u8], sound: &Listed) {
+        let bytes = inputs::damaged(&mut self.random, fold);
+        let listed = reference::list(&bytes);
+        let (a, b) = (self.lent(sound.offsets.len()), self.lent(sound.before.len()));
+        self.index_builder(&bytes, listed.as_ref(), a, b);
+        let position = self.random.below(sound.nodes.len() + 1) as u64;
+        match self.find(&bytes, listed.as_ref(), (&sound.offsets, &sound.before), position)[raw::REFUSAL] {
+            17 => self.reached("17 in a damaged fold"),
+            0 => self.reached("a node found in a damaged fold"),
+            _ => {}
+        }
+    }
+
+    /// A fold through index builder and finder: every position, and many a slice and index.
+    fn every_position(&mut self, fold: &[u8]) {
+        let Ok(listed) = reference::list(fold) else { return self.index_and_find(fold) };
+        self.positions(fold, &listed);
+        self.lengths(fold, &listed);
+        self.other_indexes(fold, &listed);
+        for _ in 0..4 {
+            self.damaged(fold, &listed);
+        }
+        self.last = listed;
+    }
+}
+
+/// Whether a fold is refused by its first width over the highest limit, which index builder and finder do not look for.
+fn over_the_limit(fold: &[u8]) -> bool {
+    reference::unroll(fold, MAX_WIDTH, 0).0.refusal == 7
 }
 
 fn unit() -> Prices {
@@ -425,6 +721,9 @@ fn edges() -> Vec<Vec<u8>> {
         vec![0x20, 4, 0, 0, 1, 0x10, 7, 0x21],
         vec![0x20, 0xFF, 0xFF, 0, 1, 0x10, 7, 0x21],
         vec![0x20, 0xFF, 0xFF, 0xFF, 0xFF, 0x10, 7, 0x21],
+        vec![0x20, 0, 2, 4, 0, 0x10, 7, 0x21],
+        vec![0x20, 0, 2, 4, 1, 0x10, 7, 0x21],
+        vec![0x20, 0, 2, 0xFF, 0xFF, 0x10, 7, 0x21],
         vec![0x10, 1, 0x10, 1],
         vec![0x10],
         vec![0x10, 1, 0x11],
@@ -457,8 +756,9 @@ fn main() {
     let mut c = Compare {
         seed,
         random: Random::new(seed),
-        calls: [0; 5],
-        refusals: [[0; 16]; 5],
+        calls: [0; ENTRY_NAMES.len()],
+        refusals: [[0; NUMBERS]; ENTRY_NAMES.len()],
+        cases: [0; CASES.len()],
         unlike_tables: 0,
         short_answers: 0,
         against_trial: 0,
@@ -466,6 +766,7 @@ fn main() {
         against_cost: 0,
         longest: 0,
         deepest: 0,
+        last: Listed::default(),
     };
     let done = |what: &str| println!("{:6.1} s  {what}", began.elapsed().as_secs_f64());
 
@@ -477,6 +778,7 @@ fn main() {
         }
         c.run_reader(&input);
         c.parts(&input);
+        c.every_position(&input);
         for _ in 0..scale {
             c.any_bytes(&input);
         }
@@ -562,6 +864,19 @@ fn main() {
     }
     done("long runs, by cost");
 
+    for k in 0..200 * scale {
+        let nodes = match k {
+            _ if k % 200 < 2 => 1024,
+            _ if k % 10 < 2 => 1 + c.random.below(300),
+            _ => 1 + c.random.below(40),
+        };
+        let (labels, groups, repeats) = (1 + c.random.below(4), c.random.below(9), c.random.below(11));
+        let make = if k % 2 == 0 { inputs::random_fold } else { inputs::wide_fold };
+        let fold = inputs::bytes_of(&make(&mut c.random, nodes, labels, groups, repeats));
+        c.every_position(&fold);
+    }
+    done("every position of folds");
+
     for _ in 0..8000 * scale {
         let size = 1 + c.random.below(40);
         let (labels, depth) = (1 + c.random.below(3), c.random.below(9));
@@ -578,14 +893,25 @@ fn main() {
     }
     done("random commands");
 
+    for k in 0..2000 * scale {
+        // Any bytes at all, or those that commands are made of.
+        let few = [0x10, 0x11, 0x12, 0x20, 0x21, 0, 1, 2];
+        let byte = |r: &mut Random| if k % 2 == 0 { r.byte() } else { *r.pick(&few) };
+        let bytes: Vec<u8> = (0..c.random.below(20)).map(|_| byte(&mut c.random)).collect();
+        c.any_bytes(&bytes);
+    }
+    done("random bytes");
+
     let mut missing = Vec::new();
     println!("\nrefusals seen, by number (0: accepted)");
-    for entry in 0..5 {
+    for entry in 0..ENTRY_NAMES.len() {
         if entry == Entry::Part as usize {
             continue;
         }
-        let seen: Vec<String> =
-            (0..16).filter(|&n| c.refusals[entry][n] > 0).map(|n| format!("{n}: {}", c.refusals[entry][n])).collect();
+        let seen: Vec<String> = (0..NUMBERS)
+            .filter(|&n| c.refusals[entry][n] > 0)
+            .map(|n| format!("{n}: {}", c.refusals[entry][n]))
+            .collect();
         println!("  {:15} {}", ENTRY_NAMES[entry], seen.join("  "));
         for &number in POSSIBLE[entry] {
             if c.refusals[entry][number as usize] == 0 {
@@ -600,6 +926,15 @@ fn main() {
     }
     if c.unlike_tables == 0 {
         println!("NO FOLD WITH GROUPS PRICED UNLIKE STEPS");
+        exit(1);
+    }
+    println!("\nindexes and positions");
+    for (case, count) in CASES.iter().zip(c.cases) {
+        println!("  {case:55} {count:8}");
+    }
+    let missing: Vec<&str> = CASES.into_iter().zip(c.cases).filter(|case| case.1 == 0).map(|case| case.0).collect();
+    if !missing.is_empty() {
+        println!("CASES NEVER SEEN: {}", missing.join(", "));
         exit(1);
     }
     println!("\ncompared calls");
