@@ -1,6 +1,7 @@
 -- What the inner functions promise: they walk over the byte form of a tree and count its nodes, and search the index.
 use mathlib.Core.Path.{_≡_}
 use mathlib.Core.List.{List}
+use mathlib.Core.Logic.{_≢_}
 use Prim.Native.Nat.{ℕ, suc, _+_, _≤_, _<_}
 use lib.ListN.{length, getD}
 use Rattle.format.specs.Limits.{limits}
@@ -18,6 +19,11 @@ pub record SequenceFrom (s : List ℕ) (w : Spot) (f : Forest) : Type 0 where
 pub record ItemFrom (s : List ℕ) (w : Spot) (f : Forest) : Type 0 where
   pub stands : ItemAt s (w .at) f
   pub few : w .nodes + nodes f ≤ limits .nodes
+
+-- The item at a spot is a group or a repeat.
+pub record HolderFrom (s : List ℕ) (w : Spot) (f : Forest) : Type 0 where
+  pub item : ItemFrom s w f
+  pub no-step : getD s (w .at) 0 ≢ 0x10
 
 -- At offset p stands the item f, and its run has a node at the position.
 pub record NodeIn (s : List ℕ) (p position : ℕ) (f : Forest) : Type 0 where
