@@ -11,7 +11,7 @@ use Rattle.embed.specs.Answers.{Answer, entry-count, status, kept, numbe
 
 -- The stores, one after the other.
 pub all-set : (a : List ℕ) (r : Answer) → entry-count ≤ length a
-    → set (set (set (set (set (set (set a 0 (r .refusal)) 1 (r .place)) 2 (r .first)) 3 (r .second)) 4 (r .third)) 5 (r .fourth)) 6 (r .fifth)
+    → set (set (set (set (set (set (set a 0 (r .refusal)) 1 (r .place)) 2 (r .one)) 3 (r .two)) 4 (r .three)) 5 (r .four)) 6 (r .five)
     ≡ numbers r ++ drop entry-count a
 all-set a r h = sets-eq (numbers r) a 0 h
 
@@ -48,7 +48,8 @@ module _ (a : List ℕ) (long : entry-count ≤ length a) where
       subst (λ (x : Answer). (r .refusal ≡ status a (x .refusal)) × (b ≡ entries a x)) e
       (long-status (r .refusal), all ∙ long-kept a (numbers r ++ drop entry-count a))
 
--- What holds of an answer's length and cost holds of the numbers that were stored: entries 3 and 4, the second value and the third.
+-- What holds of an answer's length and cost, the second and the third value, holds of the numbers that were stored: entries 3
+-- and 4.
 pub of-stored : (Q : (length cost : ℕ) → Type 0) (b : List ℕ) (r : Answer) (rest : List ℕ)
-    → b ≡ numbers r ++ rest → Q (r .second) (r .third) → Q (getD b 3 0) (getD b 4 0)
+    → b ≡ numbers r ++ rest → Q (r .two) (r .three) → Q (getD b 3 0) (getD b 4 0)
 of-stored Q b r rest all = subst (λ (x : List ℕ). Q (getD x 3 0) (getD x 4 0)) (sym all)

@@ -27,7 +27,7 @@ kept a before after = cond (ltb (length a) entry-count) before after
 
 -- The numbers of an answer.
 abbrev pub numbers : Answer → List ℕ
-numbers r = r .refusal ∷ r .place ∷ r .first ∷ r .second ∷ r .third ∷ r .fourth ∷ r .fifth ∷ []
+numbers r = r .refusal ∷ r .place ∷ r .one ∷ r .two ∷ r .three ∷ r .four ∷ r .five ∷ []
 
 -- The answer slice afterwards: these numbers in front and the rest as it was.
 unfoldable pub entries : (answer : List ℕ) → Answer → List ℕ
@@ -35,8 +35,8 @@ unfolding kept
 entries a r = kept a a (numbers r ++ drop entry-count a)
 
 -- A refusal and its place, and these values.
-abbrev pub with-values : (refusal place first second third fourth fifth : ℕ) → Answer
-with-values n p a b c d e = record { refusal = n; place = p; first = a; second = b; third = c; fourth = d; fifth = e }
+abbrev pub with-values : (refusal place one two three four five : ℕ) → Answer
+with-values n p a b c d e = record { refusal = n; place = p; one = a; two = b; three = c; four = d; five = e }
 
 -- The values of readers, unroller and folder are nodes, length, cost, steps and depth. The run reader gives nodes, steps and
 -- depth, the fold reader all of them, the unroller the length written, the folder that and the cost.

@@ -33,11 +33,11 @@ const SHORT: u8 = 255;
 struct Answer {
     refusal: u8,
     place: usize,
-    first: u64,
-    second: u64,
-    third: u64,
-    fourth: u64,
-    fifth: u64,
+    one: u64,
+    two: u64,
+    three: u64,
+    four: u64,
+    five: u64,
 }
 
 // Puts an answer into the first entries.
@@ -47,11 +47,11 @@ fn store(answer: &mut [u64], a: Answer)
 {
     answer[0] = wide(a.refusal) as u64;
     answer[1] = a.place as u64;
-    answer[2] = a.first;
-    answer[3] = a.second;
-    answer[4] = a.third;
-    answer[5] = a.fourth;
-    answer[6] = a.fifth;
+    answer[2] = a.one;
+    answer[3] = a.two;
+    answer[4] = a.three;
+    answer[5] = a.four;
+    answer[6] = a.five;
 }
 
 // The run reader: the number of nodes, how many of them are steps, and the most groups open together.
@@ -69,11 +69,11 @@ pub extern "C" fn runfold_read_run(run: &[u8], answer: &mut [u64]) -> u8
         Answer {
             refusal: read.refusal,
             place: read.place,
-            first: read.nodes as u64,
-            second: 0,
-            third: 0,
-            fourth: read.steps as u64,
-            fifth: read.depth as u64,
+            one: read.nodes as u64,
+            two: 0,
+            three: 0,
+            four: read.steps as u64,
+            five: read.depth as u64,
         },
     );
     read.refusal
@@ -114,11 +114,11 @@ pub extern "C" fn runfold_read_fold(
         Answer {
             refusal: r.refusal,
             place: r.place,
-            first: r.nodes as u64,
-            second: r.length as u64,
-            third: r.cost,
-            fourth: r.steps as u64,
-            fifth: r.depth as u64,
+            one: r.nodes as u64,
+            two: r.length as u64,
+            three: r.cost,
+            four: r.steps as u64,
+            five: r.depth as u64,
         },
     );
     r.refusal
@@ -146,11 +146,11 @@ pub extern "C" fn runfold_unroll(
         Answer {
             refusal: unrolled.refusal,
             place: unrolled.place,
-            first: 0,
-            second: unrolled.length as u64,
-            third: 0,
-            fourth: 0,
-            fifth: 0,
+            one: 0,
+            two: unrolled.length as u64,
+            three: 0,
+            four: 0,
+            five: 0,
         },
     );
     unrolled.refusal
@@ -188,11 +188,11 @@ pub extern "C" fn runfold_fold(
         Answer {
             refusal: folded.refusal,
             place: folded.place,
-            first: 0,
-            second: folded.length as u64,
-            third: folded.cost,
-            fourth: 0,
-            fifth: 0,
+            one: 0,
+            two: folded.length as u64,
+            three: folded.cost,
+            four: 0,
+            five: 0,
         },
     );
     folded.refusal
@@ -220,11 +220,11 @@ pub extern "C" fn runfold_index(
         Answer {
             refusal: indexed.refusal,
             place: indexed.place,
-            first: indexed.entries as u64,
-            second: 0,
-            third: 0,
-            fourth: 0,
-            fifth: 0,
+            one: indexed.entries as u64,
+            two: 0,
+            three: 0,
+            four: 0,
+            five: 0,
         },
     );
     indexed.refusal
@@ -253,11 +253,11 @@ pub extern "C" fn runfold_find(
         Answer {
             refusal: found.refusal,
             place: found.place,
-            first: wide(found.label) as u64,
-            second: wide(found.command) as u64,
-            third: found.offset as u64,
-            fourth: 0,
-            fifth: 0,
+            one: wide(found.label) as u64,
+            two: wide(found.command) as u64,
+            three: found.offset as u64,
+            four: 0,
+            five: 0,
         },
     );
     found.refusal

@@ -3,7 +3,7 @@ use mathlib.Core.Path.{_≡_, refl, sym, _∙_}
 use mathlib.Core.Bool.{Bool, true, false, true≢false, cond, _&&_}
 use mathlib.Core.List.{List, [], _∷_}
 use mathlib.Core.Logic.{_≢_, _⊎_, inl, inr, _↔_}
-use Prim.Native.Nat.{ℕ, zero, suc, _+_, _*_, _≤_, _<_}
+use Prim.Native.Nat.{ℕ, zero, suc, _+_, _*_, _≤_}
 use native.Mathlib.Nat.{mul-le-mul}
 use native.Mathlib.Omega.{arith}
 use lib.Dec.{ltb, eqb}
@@ -109,7 +109,7 @@ spared k some [] z e = some (sym e)
 spared k some (n when true ∷ rs) z e = true≢false (z .0 e)
 spared k some (n when false ∷ rs) z e = spared k some rs (z .1) e
 
--- Without one it never is.
+-- Without a limit 7 is never the refusal.
 pub alone-never-seven : (s : List ℕ) → Bytes s → (n e : ℕ) → fold-alone s ≡ refused n e → n ≢ 7
 unfolding fold-alone refusal checks
 alone-never-seven s small n e r seven = because (refused-exactly (fold-rules greatest-operand free) s n e .0 r)

@@ -65,7 +65,7 @@ one-pass zero n some = absurd (omega arith)
 one-pass (suc h) n some = omega arith
 
 -- Copies of a list: their length, and one more of them in front.
-pub length-times : (h : ℕ) (s : List ℕ) → length (times h s) ≡ h * length s
+pub length-times : {A : Type 0} (h : ℕ) (s : List A) → length (times h s) ≡ h * length s
 unfolding times
 length-times zero s = omega arith
 length-times (suc h) s = omega (arith, length-append s (times h s), length-times h s)

@@ -6,8 +6,9 @@ use mathlib.Core.List.{List, [], _∷_, _++_, map}
 use Prim.Native.Nat.{ℕ, _/_, _%_}
 use Rattle.format.specs.Limits.{Tariff, tariff}
 use Rattle.format.specs.Machine.{times}
-use Rattle.format.specs.Readings.{run-reading, from-run-reading, fold-reading}
+use Rattle.format.specs.Readings.{run-reading, fold-reading}
 use Rattle.format.specs.Parts.{part-of}
+use Rattle.format.specs.declared.RunReading.{RunReading}
 use Rattle.format.specs.declared.FoldReading.{FoldReading}
 
 -- What a reader is asked: a run; or a fold at a width limit and what is lent to price it.
@@ -50,6 +51,19 @@ pub data Case : Type 0 where
   _gives_ : Asked → FoldReading → Case
 
 infix 68 _gives_
+-- A run's answer in the form of a fold's, without length and cost.
+abbrev pub from-run-reading : RunReading → FoldReading
+from-run-reading r =
+    record {
+      refusal = r .refusal;
+      place = r .place;
+      nodes = r .nodes;
+      length = 0;
+      cost = 0;
+      steps = r .steps;
+      depth = r .depth;
+    }
+
 unfoldable pub answer : Asked → FoldReading
 unfolding run-reading fold-reading
 answer (run s) = from-run-reading (run-reading s)

@@ -8,6 +8,7 @@ pub mod Short
 pub mod Standing
 pub mod Refusals
 pub mod Alone
+pub mod Answered
 pub mod Heads
 pub mod More
 pub mod CloseAfterOpen

@@ -1,16 +1,16 @@
 -- What stands at a place: what a tree's byte form there says of the bytes, item by item; and how a walk over a sequence goes on
 -- from one item to the next.
 use mathlib.Core.Path.{_≡_, refl, sym, ap, _∙_}
-use mathlib.Core.List.{List, [], _∷_, _++_, append-assoc}
+use mathlib.Core.List.{List, [], _∷_, _++_, append-assoc, append-nil}
 use mathlib.Core.Logic.{inl, inr, _≢_}
 use Prim.Native.Nat.{ℕ, _+_, _*_, _-_, _≤_, _<_}
 use native.Mathlib.Omega.{arith}
 use lib.ListN.{length, length-append, length-drop, getD, drop}
 use lib.Seq.{getD-drop, drop-drop, drop-append-seam, getD-append-seam}
-use Rattle.format.specs.Forest.{Forest, end, step, group, repeat, join, bytes}
+use Rattle.format.specs.Forest.{Forest, end, step, group, repeat, join, nodes, bytes, Allowed, Sound}
 use Rattle.format.specs.inner.Standing.{Ends, One, one-step, one-group, one-repeat, FormAt, SequenceAt, ItemAt}
 use Rattle.format.proofs.Bridge.{word-again}
-use Rattle.format.proofs.Forests.{join-end, join-assoc, bytes-join, sound-parts}
+use Rattle.format.proofs.Forests.{join-end, join-assoc, bytes-join, nodes-join, sound-parts}
 
 -- The byte form of an item is not empty.
 pub one-some : {f : Forest} → One f → 0 < length (bytes f)
@@ -30,11 +30,15 @@ module _ {s : List ℕ} {p : ℕ} {f : Forest} {rest : List ℕ} (z : FormAt s p
   form-from : (k q : ℕ) → p + k ≡ q → drop q s ≡ drop k (bytes f ++ rest)
   form-from k q e = rw (← e) (sym (drop-drop k p s) ∙ rw (z .form))
 
-  pub remain : length s - p ≡ length (bytes f) + length rest
+  remain : length s - p ≡ length (bytes f) + length rest
   remain = sym (length-drop p s) ∙ ap length (z .form) ∙ length-append (bytes f) rest
 
   pub behind : (q : ℕ) → q ≡ p + length (bytes f) → drop q s ≡ rest
   behind q e = form-from (length (bytes f)) q (sym e) ∙ drop-append-seam (bytes f) rest
+
+-- Bytes that are the form of a tree stand at their own start.
+pub whole-form : {s : List ℕ} {f : Forest} (A : Allowed) → Sound A f → bytes f ≡ s → FormAt s 0 f []
+whole-form {s} {f} A sound form = record { form = sym form ∙ sym (append-nil (bytes f)); allowed = A; sound = sound }
 
 -- The byte behind a tree's form, and what stands behind that.
 module _ {s : List ℕ} {p c : ℕ} {f : Forest} {rest : List ℕ} (z : FormAt s p f (c ∷ rest)) where
@@ -231,7 +235,7 @@ some-left [] n z e g h none = omega (arith, remain (rw none at z))
 some-left (c ∷ rest) (inl n) z e g h none = g (first-byte (rw none at z) ∙ n)
 some-left (c ∷ rest) (inr n) z e g h none = h (first-byte (rw none at z) ∙ n)
 
--- Where no item begins, it is.
+-- Where no item begins, a sequence is empty.
 abbrev pub NoItem : List ℕ → ℕ → Type 0
 NoItem s p = p < length s → (getD s p 0 ≢ 0x10) × (getD s p 0 ≢ 0x11) × (getD s p 0 ≢ 0x20)
 
@@ -240,6 +244,19 @@ none-left end z e = refl
 none-left (step l f) z e = absurd (e (omega (arith, step-there z)) .0 (step-byte z))
 none-left (group l b f) z e = absurd (e (omega (arith, group-there z)) .1 (group-byte z))
 none-left (repeat h w b f) z e = absurd (e (omega (arith, repeat-there z)) .2 (repeat-byte z))
+
+-- A measure of which one sequence behind another has the sum.
+pub record Adds (m : Forest → ℕ) : Type 0 where
+  pub none : m end ≡ 0
+  pub joined : (f g : Forest) → m (join f g) ≡ m f + m g
+
+pub bytes-adds : Adds (λ (f : Forest). length (bytes f))
+unfolding bytes
+bytes-adds = record { none = refl; joined = λ f g. ap length (bytes-join f g) ∙ length-append (bytes f) (bytes g) }
+
+pub nodes-adds : Adds nodes
+unfolding nodes
+nodes-adds = record { none = refl; joined = nodes-join }
 
 -- A walk over the sequence f came from p to q: its first items are passed, and the others stand at q.
 pub record Along (s : List ℕ) (p q : ℕ) (f : Forest) (rest : List ℕ) : Type 0 where
@@ -285,6 +302,14 @@ module _ {s : List ℕ} {p q : ℕ} {f : Forest} {rest : List ℕ} (a : Along s 
     pub next-item : ItemAt s q (next .front)
     next-item =
         record { rest = bytes (next .back) ++ rest; stands = front-stands (next .front) (next .back) next-stands; one = next .one }
+
+    -- By such a measure the whole is what is done, the item, and what is behind it.
+    pub along-total : (m : Forest → ℕ) → Adds m → m f ≡ m (a .done) + (m (next .front) + m (next .back))
+    along-total m adds =
+        ap m (sym (a .split))
+        ∙ adds .joined (a .done) (a .left)
+        ∙ ap (λ (g : Forest). m (a .done) + m g) (sym (next .split))
+        ∙ ap (λ (n : ℕ). m (a .done) + n) (adds .joined (next .front) (next .back))
 
     -- The walk behind it.
     abbrev pub along-more : (r : ℕ) → r ≡ q + length (bytes (next .front)) → Along s p r f rest

@@ -1,4 +1,5 @@
--- The definitions that a reader must believe, in the order in which they build on each other.
+-- The definitions that a reader must believe, in the order in which they build on each other; in inner, what the walks over a
+-- fold promise one another.
 pub mod Limits
 pub mod Order
 pub mod Forest

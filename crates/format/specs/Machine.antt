@@ -155,7 +155,7 @@ after-repeat h before pass =
     }
 
 -- n copies of a list, end to end.
-unfoldable pub times : ℕ → List ℕ → List ℕ
+unfoldable pub times : {A : Type 0} → ℕ → List A → List A
 times zero s = []
 times (suc n) s = s ++ times n s
 

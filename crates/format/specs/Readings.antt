@@ -67,19 +67,6 @@ abbrev pub as-fold-reading : Outcome → FoldReading
 as-fold-reading (refused n p) = fold-numbers n p none
 as-fold-reading (accepted t x) = fold-numbers 0 0 t
 
--- A run's answer in the form of a fold's, without length and cost.
-abbrev pub from-run-reading : RunReading → FoldReading
-from-run-reading r =
-    record {
-      refusal = r .refusal;
-      place = r .place;
-      nodes = r .nodes;
-      length = 0;
-      cost = 0;
-      steps = r .steps;
-      depth = r .depth;
-    }
-
 -- A fold at an entry point with this head: the checks of the head, then the commands at its limit.
 unfoldable pub fold-outcome : Head → Prices → List ℕ → Outcome
 unfolding headed read

@@ -41,7 +41,7 @@ impl Format {
     // The entries of a cost table: one for each label.
     pub const LABELS: usize = 256;
     // The greatest number that an operand of two bytes says.
-    pub const OPERAND: usize = 65535;
+    pub const GREATEST_OPERAND: usize = 65535;
 
     // A step: its label follows.
     pub const STEP: u8 = 0x10;

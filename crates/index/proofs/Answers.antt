@@ -1,109 +1,44 @@
--- The answers of the builder and the finder, as their contracts have them; and the theorems about any fold that is accepted.
+-- The answers of index builder and finder, as their contracts have them.
 use mathlib.Core.Path.{_≡_, refl, sym, ap, _∙_}
-use mathlib.Core.Bool.{Bool, true, false, false≢true, _&&_, _||_}
-use mathlib.Core.List.{List, [], _∷_, _++_, map}
-use mathlib.Core.Logic.{_≢_, _↔_}
-use mathlib.Core.Option.{Option, none, some, Option·map, Option·none-ne-some, Option·some-injective}
-use Prim.Native.Nat.{ℕ, zero, suc, _+_, _-_, _≤_, _<_}
-use native.Mathlib.Decide.{decLe}
+use mathlib.Core.Bool.{Bool, true, false, false≢true, cond, _&&_}
+use mathlib.Core.List.{List, [], _++_}
+use mathlib.Core.Option.{Option, none, some, Option·map, Option·some-injective}
+use Prim.Native.Nat.{ℕ, suc, _+_, _-_, _≤_, _<_}
 use native.Mathlib.Omega.{arith}
-use lib.Dec.{ltb}
 use lib.ListN.{length, getD, drop, getElem?}
 use borrow.Author.Tests.{lt-ltb, le-ltb}
 use Rattle.format.specs.Limits.{limits}
-use Rattle.format.specs.Forest.{Forest, end, step, group, repeat, join, unroll, nodes, bytes}
+use Rattle.format.specs.Forest.{Forest, end, step, group, repeat, join, nodes, bytes}
 use Rattle.format.specs.Tree.{tree-of}
-use Rattle.format.specs.Machine.{Outcome, refused, accepted, read}
+use Rattle.format.specs.Machine.{Outcome, refused, accepted}
 use Rattle.format.specs.Order.{Bytes}
-use Rattle.format.specs.Readings.{free, fold-rules, format-rules, greatest-operand, as-fold-reading, fold-alone}
-use Rattle.format.specs.Shape.{Reads, tally-of}
-use Rattle.format.specs.inner.Standing.{FormAt, ItemAt}
-use Rattle.format.specs.declared.FoldReading.{FoldReading}
+use Rattle.format.specs.Readings.{free, fold-alone}
+use Rattle.format.specs.inner.Standing.{FormAt}
 use Rattle.format.specs.declared.Tally.{Tally}
 use Rattle.format.proofs.Alone.{alone-well-formed, alone-some}
-use Rattle.format.proofs.Bridge.{parses}
 use Rattle.format.proofs.Forests.{nodes-join}
 use Rattle.format.proofs.Report.{accepted-means}
 use Rattle.format.proofs.Standing.{front-stands, back-stands}
-use Rattle.format.proofs.Tree.{tree-of-bytes}
-use Rattle.index.specs.Nodes.{Node, Written, written, StandsIn, writes, written-by, nodes-of}
-use Rattle.index.specs.Index.{sums, size, same, Index, index-of, is-index, too-short, indexed, index-answer, index-output}
+use Rattle.index.specs.Nodes.{Written, StandsIn, writes, written-by}
+use Rattle.index.specs.Index.{sums, byte-length, same, Index, index-of, is-index, too-short, indexed, index-answer, index-output}
 use Rattle.index.specs.Finding.{not-found, finding, find-answer, AtPosition}
-use Rattle.index.specs.inner.Passing.{WasRead, NodeIn, LastUpTo}
+use Rattle.index.specs.inner.Passing.{NodeIn, LastUpTo}
 use Rattle.index.specs.declared.Indexed.{Indexed}
 use Rattle.index.specs.declared.Found.{Found}
-use Rattle.index.proofs.Lists.{nth-front, nth-back, nth-there, nth-past, nth-map}
-use Rattle.index.proofs.Nodes.{length-writes, writes-join, writes-run, writes-stand}
-use Rattle.index.proofs.Sums.{outermost, length-sums, ItemOf, last-holds, same-equal}
-use Rattle.index.proofs.Outermost.{whole-form}
+use Rattle.index.proofs.Lists.{nth-front, nth-back, nth-there, nth-past, nth-map, same-equal}
+use Rattle.index.proofs.Nodes.{length-writes, writes-join}
+use Rattle.index.proofs.Sums.{length-sums, Split, ItemOf, last-holds}
+use Rattle.index.proofs.Outermost.{whole-stands}
+use Rattle.index.proofs.Accepted.{accepted-fold, written-run, written-stands, written-total}
 use Rattle.index.proofs.Descending.{offsets-in}
-
--- A fold that is accepted: it is the byte form of its tree, and the text is what that unrolls to.
-pub record Taken (s : List ℕ) (t : Tally) (x : List ℕ) : Type 0 where
-  pub was-read : WasRead s
-  pub total : t .nodes ≡ nodes (tree-of s)
-  pub text : bytes (unroll (tree-of s)) ≡ x
-
-pub taken : (s : List ℕ) → Bytes s → (t : Tally) (x : List ℕ) → fold-alone s ≡ accepted t x → Taken s t x
-unfolding fold-alone tally-of
-taken s small t x e =
-    let a = parses (fold-rules greatest-operand free) s small t x e in
-    let same : a .tree ≡ tree-of s = sym (tree-of-bytes (a .tree)) ∙ ap tree-of (a .form) in
-    record {
-      was-read = record {
-        form = rw (← same) (a .form);
-        allowed = _;
-        sound = rw same at (a .shape .sound);
-        few = rw same at (a .shape .total);
-      };
-      total = sym (ap (λ (u : Tally). u .nodes) (a .counts)) ∙ ap nodes same;
-      text = rw (← same) (a .text);
-    }
-
--- Theorems about any fold that is accepted.
-module _ (s : List ℕ) (small : Bytes s) (t : Tally) (x : List ℕ) (e : fold-alone s ≡ accepted t x) where
-  z : Taken s t x
-  z = taken s small t x e
-
-  -- Without the offsets the list is the nodes of the unrolled run.
-  pub written-run : map (λ (w : Written). w .node) (written-by s) ≡ nodes-of x
-  written-run = writes-run 0 (tree-of s) ∙ ap nodes-of (z .text)
-
-  -- At each offset of the list the fold has that command with that label.
-  pub written-stands : (n : ℕ) (w : Written) → getElem? (written-by s) n ≡ some w → StandsIn s w
-  written-stands = writes-stand (tree-of s) s (whole-form (z .was-read))
-
-  -- The list has an entry exactly at the positions below the node total.
-  pub written-total : length (written-by s) ≡ t .nodes
-  written-total = length-writes 0 (tree-of s) ∙ sym (z .total)
-
--- What the reader said of the fold.
-module _ (s : List ℕ) (m : FoldReading) (reads : m ≡ as-fold-reading (fold-alone s)) where
-  pub was-refused : m .refusal ≢ 0 → fold-alone s ≡ refused (m .refusal) (m .place)
-  was-refused e = go (fold-alone s) refl
-    where
-      go : (o : Outcome) → fold-alone s ≡ o → o ≡ refused (m .refusal) (m .place)
-      go (refused n p) q =
-          let same : m ≡ as-fold-reading (refused n p) = reads ∙ ap as-fold-reading q in
-          rw same
-      go (accepted t x) q =
-          let same : m ≡ as-fold-reading (accepted t x) = reads ∙ ap as-fold-reading q in
-          absurd (e (rw same))
-
-  pub was-accepted : m .refusal ≡ 0 → (t : Tally) × (x : List ℕ) × (fold-alone s ≡ accepted t x) × (m .nodes ≡ t .nodes)
-  was-accepted e = go (fold-alone s) refl
-    where
-      go : (o : Outcome) → fold-alone s ≡ o → (t : Tally) × (x : List ℕ) × (fold-alone s ≡ accepted t x) × (m .nodes ≡ t .nodes)
-      go (refused n p) q =
-          let same : m ≡ as-fold-reading (refused n p) = reads ∙ ap as-fold-reading q in
-          absurd (alone-some s n p q (rw same at e))
-      go (accepted t x) q =
-          let same : m ≡ as-fold-reading (accepted t x) = reads ∙ ap as-fold-reading q in
-          (t, x, q, rw same)
 
 -- Both lists of the index have as many entries.
 pub same-number : (s : List ℕ) → length (index-of s .before) ≡ length (index-of s .offsets)
-same-number s = length-sums nodes 0 (tree-of s) ∙ sym (length-sums size 0 (tree-of s))
+same-number s = length-sums nodes 0 (tree-of s) ∙ sym (length-sums byte-length 0 (tree-of s))
+
+-- Where a test holds, the first of two lists is left.
+kept-where : (b : Bool) (x y : List ℕ) → b ≡ true → x ≡ cond b x y
+kept-where b x y e = rw e
 
 -- The builder's promise, for what it answers and leaves in both slices.
 module _ (s offsets before : List ℕ) where
@@ -118,7 +53,11 @@ module _ (s offsets before : List ℕ) where
 
   module _ (t : Tally) (x : List ℕ) (e : fold-alone s ≡ accepted t x) where
     fourteen : too-short (index-of s) (length offsets) (length before) ≡ true → Promised (indexed 14 0 0) offsets before
-    fourteen short = (rw (e, short), (rw (e, short), rw (e, short)))
+    fourteen short =
+        let test = too-short (index-of s) (length offsets) (length before) in
+        let kept : (entries lent : List ℕ) → lent ≡ cond test lent (entries ++ drop (length entries) lent) =
+        λ entries lent. kept-where test lent (entries ++ drop (length entries) lent) short in
+        (rw (e, short), (rw e (kept (index-of s .offsets) offsets), rw e (kept (index-of s .before) before)))
 
     pub offsets-too-short : length offsets < length (index-of s .offsets) → Promised (indexed 14 0 0) offsets before
     offsets-too-short f = fourteen (rw (lt-ltb (length offsets) (length (index-of s .offsets)) f))
@@ -145,7 +84,7 @@ index-equal i offsets before f = go (same offsets (i .offsets)) refl f
     go false g h = absurd (false≢true h)
 
 -- The item of an entry has no more nodes than the whole.
-item-few : {f : Forest} {n i : ℕ} (k : ItemOf f n i) → nodes (k .item) ≤ nodes f
+item-few : {f : Forest} {i : ℕ} (k : Split f i) → nodes (k .item) ≤ nodes f
 item-few k =
     omega (arith, ap nodes (sym (k .whole)), nodes-join (k .done) (join (k .item) (k .back)), nodes-join (k .item) (k .back))
 
@@ -178,7 +117,7 @@ module _ (s : List ℕ) (small : Bytes s) (offsets before : List ℕ) (n : ℕ) 
             stands = written-stands s small t x q n w v;
           })
 
-  pub rightly : (r : Found) → r ≡ find-answer s offsets before n → Found-rightly r
+  rightly : (r : Found) → r ≡ find-answer s offsets before n → Found-rightly r
   rightly r e = (e, answer-right r e)
 
   pub find-refused : (k p : ℕ) → fold-alone s ≡ refused k p → Found-rightly (not-found k p)
@@ -201,7 +140,7 @@ module _ (s : List ℕ) (small : Bytes s) (offsets before : List ℕ) (n : ℕ) 
         f₀ = tree-of s
 
         in-run : n < nodes f₀
-        in-run = omega (arith, below, taken s small t x e .total)
+        in-run = omega (arith, below, accepted-fold s small t x e .total)
 
         -- The index has an entry, and the first one is 0.
         pub some-entry : (0 < length before) × (getD before 0 0 ≤ n)
@@ -214,29 +153,29 @@ module _ (s : List ℕ) (small : Bytes s) (offsets before : List ℕ) (n : ℕ) 
           pub holds : ItemOf f₀ n i
           holds = last-holds f₀ n i in-run (rw (both-are .1) at last)
 
-          before-is : getD before i 0 ≡ nodes (holds .done)
+          before-is : getD before i 0 ≡ nodes (holds .split .done)
           before-is = ap (λ (l : List ℕ). getD l i 0) (both-are .1) ∙ holds .before
 
-          offset-is : getD offsets i 0 ≡ length (bytes (holds .done))
+          offset-is : getD offsets i 0 ≡ length (bytes (holds .split .done))
           offset-is = ap (λ (l : List ℕ). getD l i 0) (both-are .0) ∙ holds .offset
 
           -- The item of the entry, from whose offset the way goes down.
-          pub node-in : NodeIn s (getD offsets i 0) (n - getD before i 0) (holds .item)
+          pub node-in : NodeIn s (getD offsets i 0) (n - getD before i 0) (holds .split .item)
           node-in =
-              let k = holds in
-              let whole : FormAt s 0 (join (k .done) (join (k .item) (k .back))) [] = rw (k .whole) (whole-form (taken s small t x e .was-read)) in
+              let k = holds .split in
+              let whole : FormAt s 0 (join (k .done) (join (k .item) (k .back))) [] = rw (k .whole) (whole-stands (accepted-fold s small t x e .was-read)) in
               let here : FormAt s (getD offsets i 0) (join (k .item) (k .back)) [] =
               back-stands (k .done) (join (k .item) (k .back)) whole (getD offsets i 0) (offset-is ∙ omega arith) in
               record {
                 stands = record { rest = _; stands = front-stands (k .item) (k .back) here; one = k .one };
-                below = omega (arith, k .reached, k .below, before-is);
-                few = omega (arith, taken s small t x e .was-read .few, item-few k);
+                below = omega (arith, holds .reached, holds .below, before-is);
+                few = omega (arith, accepted-fold s small t x e .was-read .few, item-few k);
               }
 
           -- What unrolling writes at the position is what it writes of that item, so many nodes further on.
-          at-item : getElem? (written-by s) n ≡ getElem? (writes (getD offsets i 0) (holds .item)) (n - getD before i 0)
+          at-item : getElem? (written-by s) n ≡ getElem? (writes (getD offsets i 0) (holds .split .item)) (n - getD before i 0)
           at-item =
-              let k = holds in
+              let k = holds .split in
               let q = getD offsets i 0 in
               let m = n - getD before i 0 in
               let parts : writes 0 f₀ ≡ writes 0 (k .done) ++ (writes q (k .item) ++ writes (q + length (bytes (k .item))) (k .back)) =
@@ -245,19 +184,19 @@ module _ (s : List ℕ) (small : Bytes s) (offsets before : List ℕ) (n : ℕ) 
               ∙ ap (λ (ws : List Written). writes 0 (k .done) ++ ws) (writes-join q (k .item) (k .back) (q + length (bytes (k .item))) refl) in
               ap (λ (ws : List Written). getElem? ws n) parts
               ∙ nth-back (writes 0 (k .done)) (writes q (k .item) ++ writes (q + length (bytes (k .item))) (k .back)) m n
-              (omega (arith, length-writes 0 (k .done), before-is, k .reached))
+              (omega (arith, length-writes 0 (k .done), before-is, holds .reached))
               ∙ nth-front (writes q (k .item)) (writes (q + length (bytes (k .item))) (k .back)) m
-              (omega (arith, length-writes q (k .item), before-is, k .reached, k .below))
+              (omega (arith, length-writes q (k .item), before-is, holds .reached, holds .below))
 
           module _ {r : ℕ} (down : (f : Forest) → NodeIn s (getD offsets i 0) (n - getD before i 0) f → getElem? (offsets-in (getD offsets i 0) f) (n - getD before i 0) ≡ some r) where
             -- The node that unrolling writes there.
             there : (w : Written) × (getElem? (written-by s) n ≡ some w) × (w .offset ≡ r)
             there =
-                let ws = writes (getD offsets i 0) (holds .item) in
+                let ws = writes (getD offsets i 0) (holds .split .item) in
                 let m = n - getD before i 0 in
-                let v = nth-there ws m (omega (arith, length-writes (getD offsets i 0) (holds .item), before-is, holds .reached, holds .below)) in
+                let v = nth-there ws m (omega (arith, length-writes (getD offsets i 0) (holds .split .item), before-is, holds .reached, holds .below)) in
                 let from : Option·map (λ (w : Written). w .offset) (some (v .0)) ≡ some r =
-                ap (Option·map (λ (w : Written). w .offset)) (sym (v .1)) ∙ sym (nth-map (λ (w : Written). w .offset) ws m) ∙ down (holds .item) node-in in
+                ap (Option·map (λ (w : Written). w .offset)) (sym (v .1)) ∙ sym (nth-map (λ (w : Written). w .offset) ws m) ∙ down (holds .split .item) node-in in
                 (v .0, at-item ∙ v .1, Option·some-injective (v .0 .offset) r from)
 
             stands : StandsIn s (there .0)

@@ -12,10 +12,12 @@ use Rattle.format.specs.Limits.{limits}
 use Rattle.format.specs.Forest.{Forest, end, step, group, repeat, nodes, bytes}
 use Rattle.format.specs.inner.Standing.{FormAt, SequenceAt}
 use Rattle.format.proofs.Standing.{step-there, step-byte, step-behind, group-there, group-byte, group-inside, group-close, group-behind, repeat-there, repeat-byte, repeat-count, repeat-inside, repeat-behind}
-use Rattle.index.specs.Nodes.{Written, again, writes}
+use Rattle.format.specs.Machine.{times}
+use Rattle.format.proofs.Bridge.{length-times}
+use Rattle.index.specs.Nodes.{Written, writes}
 use Rattle.index.specs.inner.Passing.{SequenceFrom, NodeIn, PassedOver}
 use Rattle.index.specs.declared.pass.Spot.{Spot}
-use Rattle.index.proofs.Lists.{nth-front, nth-back, length-again, nth-again, map-again}
+use Rattle.index.proofs.Lists.{nth-front, nth-back, nth-times, map-times}
 use Rattle.index.proofs.Nodes.{length-writes}
 use Rattle.index.proofs.Passing.{body-of}
 
@@ -23,7 +25,7 @@ use Rattle.index.proofs.Passing.{body-of}
 abbrev pub offsets-in : ℕ → Forest → List ℕ
 offsets-in p f = map (λ (w : Written). w .offset) (writes p f)
 
-pub length-offsets : (p : ℕ) (f : Forest) → length (offsets-in p f) ≡ nodes f
+length-offsets : (p : ℕ) (f : Forest) → length (offsets-in p f) ≡ nodes f
 length-offsets p f = length-map (writes p f) (λ (w : Written). w .offset) ∙ length-writes p f
 
 offsets-end : (p : ℕ) → offsets-in p end ≡ []
@@ -41,11 +43,11 @@ offsets-group p l b f =
     ap (λ (os : List ℕ). p ∷ os) (map-append (λ (w : Written). w .offset) (writes (p + 2) b) (writes (p + 3 + length (bytes b)) f))
 
 offsets-repeat : (p h w : ℕ) (b f : Forest)
-    → offsets-in p (repeat h w b f) ≡ again h (offsets-in (p + 5) b) ++ offsets-in (p + 6 + length (bytes b)) f
+    → offsets-in p (repeat h w b f) ≡ times h (offsets-in (p + 5) b) ++ offsets-in (p + 6 + length (bytes b)) f
 unfolding writes
 offsets-repeat p h w b f =
-    map-append (λ (w : Written). w .offset) (again h (writes (p + 5) b)) (writes (p + 6 + length (bytes b)) f)
-    ∙ rw (map-again (λ (w : Written). w .offset) h (writes (p + 5) b))
+    map-append (λ (w : Written). w .offset) (times h (writes (p + 5) b)) (writes (p + 6 + length (bytes b)) f)
+    ∙ rw (map-times (λ (w : Written). w .offset) h (writes (p + 5) b))
 
 -- A repeat that the way down meets: its body stands behind the operands, and its nodes pass no limit.
 pub record Body (s : List ℕ) (p h : ℕ) (b : Forest) : Type 0 where
@@ -62,7 +64,7 @@ pub data Ahead (s : List ℕ) : ℕ → List ℕ → Type 0 where
   node-next : (p : ℕ) (os : List ℕ) → p + 2 ≤ length s → getD s p 0 ≢ 0x12 → getD s p 0 ≢ 0x20 → Ahead s (p + 2) os → Ahead s p (p ∷ os)
   close-next : (p : ℕ) (os : List ℕ) → p < length s → getD s p 0 ≡ 0x12 → Ahead s (p + 1) os → Ahead s p os
   repeat-next : (p h : ℕ) (b : Forest) (os : List ℕ) → getD s p 0 ≡ 0x20 → Body s p h b → Ahead s (p + 6 + length (bytes b)) os
-      → Ahead s p (again h (offsets-in (p + 5) b) ++ os)
+      → Ahead s p (times h (offsets-in (p + 5) b) ++ os)
 
 module _ {s : List ℕ} where
   -- Those of a sequence that stands at p, and then those behind it.
@@ -98,7 +100,7 @@ module _ {s : List ℕ} where
         stands = record { rest = 0x21 ∷ bytes f ++ rest; stands = repeat-inside z; ends = inr refl };
         few = omega arith;
       } in
-      rw (offsets-repeat p h w b f, append-assoc (again h (offsets-in (p + 5) b)) (offsets-in d f) os)
+      rw (offsets-repeat p h w b f, append-assoc (times h (offsets-in (p + 5) b)) (offsets-in d f) os)
       (repeat-next p h b (offsets-in d f ++ os) (repeat-byte z) body behind)
 
   -- Those of a sequence and no more.
@@ -113,10 +115,10 @@ pub record Heading (s : List ℕ) (p n : ℕ) (from : Option ℕ) : Type 0 where
   pub below : n < length offsets
   pub written-from : getElem? offsets n ≡ from
 
-abbrev pub goal : ℕ → (position : ℕ) → Forest → Option ℕ
-goal p n f = getElem? (offsets-in p f) n
+abbrev pub offset-at : ℕ → (position : ℕ) → Forest → Option ℕ
+offset-at p n f = getElem? (offsets-in p f) n
 
-pub heading-in : {s : List ℕ} {p n : ℕ} {f : Forest} → NodeIn s p n f → Heading s p n (goal p n f)
+pub heading-in : {s : List ℕ} {p n : ℕ} {f : Forest} → NodeIn s p n f → Heading s p n (offset-at p n f)
 heading-in {s} {p} {n} {f} z =
     record {
       offsets = offsets-in p f;
@@ -138,7 +140,7 @@ pub record AtRepeat (s : List ℕ) (p : ℕ) (os : List ℕ) : Type 0 where
   pub body : Forest
   pub stands : Body s p count body
   pub others : List ℕ
-  pub are : os ≡ again count (offsets-in (p + 5) body) ++ others
+  pub are : os ≡ times count (offsets-in (p + 5) body) ++ others
   pub ahead : Ahead s (p + 6 + length (bytes body)) others
 
 -- What stands at the place, by its byte.
@@ -198,43 +200,43 @@ module _ {s : List ℕ} {p n : ℕ} {from : Option ℕ} (h : Heading s p n from)
         }
 
   module _ (e : getD s p 0 ≡ 0x20) where
-    pub of : AtRepeat s p (h .offsets)
-    of = ahead-repeat (h .ahead) (h .below) e
+    pub its-repeat : AtRepeat s p (h .offsets)
+    its-repeat = ahead-repeat (h .ahead) (h .below) e
 
     abbrev one : List ℕ
-    one = offsets-in (p + 5) (of .body)
+    one = offsets-in (p + 5) (its-repeat .body)
 
-    all : length (again (of .count) one) ≡ of .count * nodes (of .body)
-    all = length-again (of .count) one ∙ ap (λ (m : ℕ). of .count * m) (length-offsets (p + 5) (of .body))
+    all : length (times (its-repeat .count) one) ≡ its-repeat .count * nodes (its-repeat .body)
+    all = length-times (its-repeat .count) one ∙ ap (λ (m : ℕ). its-repeat .count * m) (length-offsets (p + 5) (its-repeat .body))
 
-    pub body-few : of .count * nodes (of .body) ≤ limits .nodes
-    body-few = of .stands .few
+    body-few : its-repeat .count * nodes (its-repeat .body) ≤ limits .nodes
+    body-few = its-repeat .stands .few
 
     pub operands-there : p + 5 < length s
-    operands-there = omega (arith, of .stands .there)
+    operands-there = omega (arith, its-repeat .stands .there)
 
-    pub body-from : SequenceFrom s (body-of p) (of .body)
+    pub body-from : SequenceFrom s (body-of p) (its-repeat .body)
     body-from =
-        let one-pass : 1 * nodes (of .body) ≤ of .count * nodes (of .body) = mul-le-mul (omega (arith, of .stands .twice)) (omega arith) in
-        record { stands = of .stands .stands; few = omega (arith, body-few) }
+        let one-pass : 1 * nodes (its-repeat .body) ≤ its-repeat .count * nodes (its-repeat .body) = mul-le-mul (omega (arith, its-repeat .stands .twice)) (omega arith) in
+        record { stands = its-repeat .stands .stands; few = omega (arith, body-few) }
 
     -- What the walk over one pass of the body found, and the count that was read.
     module _ {r : Spot} (pass : (b : Forest) → SequenceFrom s (body-of p) b → PassedOver (body-of p) b r)
         {count : ℕ} (read : count ≡ getD s (p + 1) 0 * 256 + getD s (p + 1 + 1) 0) where
-      one-pass : r .nodes ≡ nodes (of .body)
-      one-pass = pass (of .body) body-from .counted ∙ omega arith
+      one-pass : r .nodes ≡ nodes (its-repeat .body)
+      one-pass = pass (its-repeat .body) body-from .counted ∙ omega arith
 
-      pub passes : count * r .nodes ≡ of .count * nodes (of .body)
-      passes = rw (one-pass, read ∙ of .stands .operand)
+      passes : count * r .nodes ≡ its-repeat .count * nodes (its-repeat .body)
+      passes = rw (one-pass, read ∙ its-repeat .stands .operand)
 
       pub passes-few : count * r .nodes ≤ limits .nodes
       passes-few = omega (arith, passes, body-few)
 
       pub behind-there : r .at + 1 ≤ length s
-      behind-there = omega (arith, pass (of .body) body-from .passed, of .stands .there)
+      behind-there = omega (arith, pass (its-repeat .body) body-from .passed, its-repeat .stands .there)
 
       pub behind-further : p < r .at + 1
-      behind-further = omega (arith, pass (of .body) body-from .passed)
+      behind-further = omega (arith, pass (its-repeat .body) body-from .passed)
 
       pub pass-some : n < count * r .nodes → 0 < r .nodes
       pass-some f = go (r .nodes) f
@@ -246,29 +248,29 @@ module _ {s : List ℕ} {p n : ℕ} {from : Option ℕ} (h : Heading s p n from)
       -- The position is in the repeat: it is entered with the position in one pass.
       pub repeat-entered : n < count * r .nodes → Heading s (p + 5) (n % r .nodes) from
       repeat-entered f =
-          let inside : n < of .count * length one = rw (length-offsets (p + 5) (of .body)) (omega (arith, f, passes)) in
+          let inside : n < its-repeat .count * length one = rw (length-offsets (p + 5) (its-repeat .body)) (omega (arith, f, passes)) in
           record {
             offsets = one;
-            ahead = ahead-in (of .body) (p + 5) (of .stands .stands .rest) (of .stands .stands .stands) (omega (arith, body-from .few));
-            below = rw (length-offsets (p + 5) (of .body), ← one-pass) (mod-lt n (pass-some f));
+            ahead = ahead-in (its-repeat .body) (p + 5) (its-repeat .stands .stands .rest) (its-repeat .stands .stands .stands) (omega (arith, body-from .few));
+            below = rw (length-offsets (p + 5) (its-repeat .body), ← one-pass) (mod-lt n (pass-some f));
             written-from =
-                ap (λ (m : ℕ). getElem? one (n % m)) (one-pass ∙ sym (length-offsets (p + 5) (of .body)))
-                ∙ sym (nth-again (of .count) one n inside)
-                ∙ sym (nth-front (again (of .count) one) (of .others) n (omega (arith, f, passes, all)))
-                ∙ ap (λ (l : List ℕ). getElem? l n) (sym (of .are))
+                ap (λ (m : ℕ). getElem? one (n % m)) (one-pass ∙ sym (length-offsets (p + 5) (its-repeat .body)))
+                ∙ sym (nth-times (its-repeat .count) one n inside)
+                ∙ sym (nth-front (times (its-repeat .count) one) (its-repeat .others) n (omega (arith, f, passes, all)))
+                ∙ ap (λ (l : List ℕ). getElem? l n) (sym (its-repeat .are))
                 ∙ h .written-from;
           }
 
       -- The position is behind the repeat.
       pub repeat-passed : count * r .nodes ≤ n → Heading s (r .at + 1) (n - count * r .nodes) from
       repeat-passed f =
-          let there : r .at + 1 ≡ p + 6 + length (bytes (of .body)) = omega (arith, pass (of .body) body-from .passed) in
+          let there : r .at + 1 ≡ p + 6 + length (bytes (its-repeat .body)) = omega (arith, pass (its-repeat .body) body-from .passed) in
           record {
-            offsets = of .others;
-            ahead = rw there (of .ahead);
-            below = omega (arith, h .below, ap length (of .are), length-append (again (of .count) one) (of .others), all, passes, f);
+            offsets = its-repeat .others;
+            ahead = rw there (its-repeat .ahead);
+            below = omega (arith, h .below, ap length (its-repeat .are), length-append (times (its-repeat .count) one) (its-repeat .others), all, passes, f);
             written-from =
-                sym (nth-back (again (of .count) one) (of .others) (n - count * r .nodes) n (omega (arith, f, all, passes)))
-                ∙ ap (λ (l : List ℕ). getElem? l n) (sym (of .are))
+                sym (nth-back (times (its-repeat .count) one) (its-repeat .others) (n - count * r .nodes) n (omega (arith, f, all, passes)))
+                ∙ ap (λ (l : List ℕ). getElem? l n) (sym (its-repeat .are))
                 ∙ h .written-from;
           }

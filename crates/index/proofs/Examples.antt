@@ -100,7 +100,7 @@ expected-sought (seek s offsets before n r) = r
 abbrev pub a-node : (command label offset : ℕ) → Found
 a-node c l p = record { refusal = 0; place = 0; label = l; command = c; offset = p }
 
--- In the mixed fold with its index, and with other slices.
+-- In the mixed fold with its index.
 abbrev pub in-mixed : (position : ℕ) → Found → Sought
 in-mixed n r = seek mixed (0 ∷ 2 ∷ 21 ∷ []) (0 ∷ 1 ∷ 11 ∷ []) n r
 
@@ -151,8 +151,9 @@ pub false-indexes-hold : map sought false-indexes ≡ map expected-sought false-
 unfolding sought false-indexes
 false-indexes-hold = refl
 
--- What the builder leaves in a lent slice: the entries in front and the rest as it was; after 14 all as it was.
-pub slices-hold : map (λ (b : ℕ). index-output (fold-alone mixed) (index-of mixed) 5 b (index-of mixed .before) (7 ∷ 7 ∷ 7 ∷ 7 ∷ 7 ∷ [])) (3 ∷ 2 ∷ [])
-    ≡ (0 ∷ 1 ∷ 11 ∷ 7 ∷ 7 ∷ []) ∷ (7 ∷ 7 ∷ 7 ∷ 7 ∷ 7 ∷ []) ∷ []
+-- What the builder leaves in offsets of 5 entries: the index in front and the rest as it was; after 14, since the other slice has
+-- only 2 entries, all as it was.
+pub slices-hold : map (λ (b : ℕ). index-output (fold-alone mixed) (index-of mixed) 5 b (index-of mixed .offsets) (7 ∷ 7 ∷ 7 ∷ 7 ∷ 7 ∷ [])) (3 ∷ 2 ∷ [])
+    ≡ (0 ∷ 2 ∷ 21 ∷ 7 ∷ 7 ∷ []) ∷ (7 ∷ 7 ∷ 7 ∷ 7 ∷ 7 ∷ []) ∷ []
 unfolding fold-alone sums tree-of nodes bytes
 slices-hold = refl

@@ -5,6 +5,7 @@ pub mod Sums
 pub mod Passing
 pub mod Outermost
 pub mod Descending
+pub mod Accepted
 pub mod Answers
 pub mod Theorems
 pub mod Examples

@@ -7,17 +7,18 @@ use mathlib.Core.Option.{some, Option·none-ne-some, Option·some-injective}
 use Prim.Native.Nat.{ℕ, zero, suc, _+_, _*_, _/_, _%_}
 use native.Mathlib.Nat.{zero-add, suc-add}
 use native.Mathlib.Omega.{arith}
-use lib.ListN.{length, length-append, getD, drop, getElem?}
+use lib.ListN.{length, length-append, drop, getElem?}
 use lib.Seq.{drop-drop, drop-append-seam}
 use Rattle.format.specs.Forest.{Forest, end, step, group, repeat, join, copies, unroll, nodes, bytes, Plain}
-use Rattle.format.specs.Machine.{is-node, operands}
+use Rattle.format.specs.Machine.{times, is-node, operands}
 use Rattle.format.specs.Parts.{starts}
 use Rattle.format.specs.inner.Standing.{FormAt}
+use Rattle.format.proofs.Bridge.{length-times}
 use Rattle.format.proofs.Forests.{plain-unroll}
 use Rattle.format.proofs.Parts.{starts-behind}
 use Rattle.format.proofs.Standing.{behind, step-there, group-there, step-byte, step-label, step-behind, group-byte, group-label, group-inside, group-behind, repeat-inside, repeat-behind}
-use Rattle.index.specs.Nodes.{Node, Written, written, StandsIn, again, writes, nodes-from, nodes-of}
-use Rattle.index.proofs.Lists.{length-again, map-again}
+use Rattle.index.specs.Nodes.{Node, Written, written, StandsIn, writes, marked, nodes-from, nodes-of}
+use Rattle.index.proofs.Lists.{map-times}
 
 -- As many as the run has nodes.
 pub length-writes : (p : ℕ) (f : Forest) → length (writes p f) ≡ nodes f
@@ -28,8 +29,8 @@ length-writes p (group l b f) =
     omega (arith, length-append (writes (p + 2) b) (writes (p + 3 + length (bytes b)) f), length-writes (p + 2) b, length-writes (p + 3 + length (bytes b)) f)
 length-writes p (repeat h w b f) =
     let body = writes (p + 5) b in
-    let passes : length (again h body) ≡ h * nodes b = length-again h body ∙ ap (λ (n : ℕ). h * n) (length-writes (p + 5) b) in
-    omega (arith, length-append (again h body) (writes (p + 6 + length (bytes b)) f), passes, length-writes (p + 6 + length (bytes b)) f)
+    let passes : length (times h body) ≡ h * nodes b = length-times h body ∙ ap (λ (n : ℕ). h * n) (length-writes (p + 5) b) in
+    omega (arith, length-append (times h body) (writes (p + 6 + length (bytes b)) f), passes, length-writes (p + 6 + length (bytes b)) f)
 
 -- One sequence behind another.
 pub writes-join : (p : ℕ) (f g : Forest) (q : ℕ) → q ≡ p + length (bytes f) → writes p (join f g) ≡ writes p f ++ writes q g
@@ -41,15 +42,15 @@ writes-join p (group l b f) g q e =
     (ap (λ (ws : List Written). written 0x11 l p ∷ ws) (sym (append-assoc (writes (p + 2) b) (writes (p + 3 + length (bytes b)) f) (writes q g))))
 writes-join p (repeat h w b f) g q e =
     rw (writes-join (p + 6 + length (bytes b)) f g q (omega (arith, length-append (bytes b) (0x21 ∷ bytes f))))
-    (sym (append-assoc (again h (writes (p + 5) b)) (writes (p + 6 + length (bytes b)) f) (writes q g)))
+    (sym (append-assoc (times h (writes (p + 5) b)) (writes (p + 6 + length (bytes b)) f) (writes q g)))
 
 -- Without the offsets: what each item gives, wherever it stands.
 unfoldable names : Forest → List Node
-unfolding again
+unfolding times
 names end = []
 names (step l f) = record { command = 0x10; label = l } ∷ names f
 names (group l b f) = record { command = 0x11; label = l } ∷ names b ++ names f
-names (repeat h w b f) = again h (names b) ++ names f
+names (repeat h w b f) = times h (names b) ++ names f
 
 abbrev named : List Written → List Node
 named ws = map (λ (w : Written). w .node) ws
@@ -61,17 +62,17 @@ writes-names p (step l f) = rw (writes-names (p + 2) f)
 writes-names p (group l b f) =
     rw (map-append (λ (w : Written). w .node) (writes (p + 2) b) (writes (p + 3 + length (bytes b)) f), writes-names (p + 2) b, writes-names (p + 3 + length (bytes b)) f)
 writes-names p (repeat h w b f) =
-    rw (map-append (λ (w : Written). w .node) (again h (writes (p + 5) b)) (writes (p + 6 + length (bytes b)) f), map-again (λ (w : Written). w .node) h (writes (p + 5) b), writes-names (p + 5) b, writes-names (p + 6 + length (bytes b)) f)
+    rw (map-append (λ (w : Written). w .node) (times h (writes (p + 5) b)) (writes (p + 6 + length (bytes b)) f), map-times (λ (w : Written). w .node) h (writes (p + 5) b), writes-names (p + 5) b, writes-names (p + 6 + length (bytes b)) f)
 
 names-join : (f g : Forest) → names (join f g) ≡ names f ++ names g
 unfolding names join
 names-join end g = refl
 names-join (step l f) g = rw (names-join f g)
 names-join (group l b f) g = rw (names-join f g, append-assoc (names b) (names f) (names g))
-names-join (repeat h w b f) g = rw (names-join f g, append-assoc (again h (names b)) (names f) (names g))
+names-join (repeat h w b f) g = rw (names-join f g, append-assoc (times h (names b)) (names f) (names g))
 
-names-copies : (h : ℕ) (f : Forest) → names (copies h f) ≡ again h (names f)
-unfolding names copies again
+names-copies : (h : ℕ) (f : Forest) → names (copies h f) ≡ times h (names f)
+unfolding names copies times
 names-copies zero f = refl
 names-copies (suc h) f = names-join f (copies h f) ∙ rw (names-copies h f)
 
@@ -101,6 +102,28 @@ writes-run p f =
     ∙ sym (names-bytes (unroll f) (plain-unroll f) [])
     ∙ rw (append-nil (bytes (unroll f)))
 
+-- Which command each node comes from: with each label replaced by the offset of its command, the labels of the unrolled run are the
+-- offsets of the list.
+abbrev label-of : Node → ℕ
+label-of n = n .label
+
+abbrev offset-of : Written → ℕ
+offset-of w = w .offset
+
+marked-names : (p : ℕ) (f : Forest) → map label-of (names (marked p f)) ≡ map offset-of (writes p f)
+unfolding names marked writes
+marked-names p end = refl
+marked-names p (step l f) = rw (marked-names (p + 2) f)
+marked-names p (group l b f) =
+    rw (map-append label-of (names (marked (p + 2) b)) (names (marked (p + 3 + length (bytes b)) f)), map-append offset-of (writes (p + 2) b) (writes (p + 3 + length (bytes b)) f), marked-names (p + 2) b, marked-names (p + 3 + length (bytes b)) f)
+marked-names p (repeat h w b f) =
+    rw (map-append label-of (times h (names (marked (p + 5) b))) (names (marked (p + 6 + length (bytes b)) f)), map-append offset-of (times h (writes (p + 5) b)) (writes (p + 6 + length (bytes b)) f), map-times label-of h (names (marked (p + 5) b)), map-times offset-of h (writes (p + 5) b), marked-names (p + 5) b, marked-names (p + 6 + length (bytes b)) f)
+
+pub writes-from : (p : ℕ) (f : Forest)
+    → map (λ (w : Written). w .offset) (writes p f) ≡ map (λ (n : Node). n .label) (nodes-of (bytes (unroll (marked p f))))
+writes-from p f =
+    sym (marked-names p f) ∙ ap (map label-of) (sym (writes-names 0 (marked p f)) ∙ writes-run 0 (marked p f))
+
 -- Operand bytes are passed over.
 starts-skip : (o r : List ℕ) (n : ℕ) → starts (length o + n) (length o) (o ++ r) ≡ starts n 0 r
 unfolding starts
@@ -117,10 +140,10 @@ module _ (s : List ℕ) where
   stand-append [] vs a b = b
   stand-append (w ∷ ws) vs a b = (a .0, stand-append ws vs (a .1) b)
 
-  stand-again : (h : ℕ) (ws : List Written) → AllStand s ws → AllStand s (again h ws)
-  unfolding again
-  stand-again zero ws a = tt
-  stand-again (suc h) ws a = stand-append ws (again h ws) a (stand-again h ws a)
+  stand-times : (h : ℕ) (ws : List Written) → AllStand s ws → AllStand s (times h ws)
+  unfolding times
+  stand-times zero ws a = tt
+  stand-times (suc h) ws a = stand-append ws (times h ws) a (stand-times h ws a)
 
   stand-nth : (ws : List Written) (n : ℕ) (w : Written) → AllStand s ws → getElem? ws n ≡ some w → StandsIn s w
   stand-nth [] n w a e = absurd (Option·none-ne-some w e)
@@ -183,8 +206,8 @@ module _ (s : List ℕ) where
       let closed : Boundary (p + 5 + length (bytes d)) = boundary-behind (p + 5) d inside (repeat-inside z) first (p + 5 + length (bytes d)) refl in
       let next : Boundary (p + 6 + length (bytes d)) =
       boundary-command (p + 5 + length (bytes d)) [] (bytes f ++ rest) (behind (repeat-inside z) (p + 5 + length (bytes d)) refl) refl closed (p + 6 + length (bytes d)) (omega arith) in
-      stand-append (again h (writes (p + 5) d)) (writes (p + 6 + length (bytes d)) f)
-      (stand-again h (writes (p + 5) d) (stand-writes d (p + 5) inside (repeat-inside z) first))
+      stand-append (times h (writes (p + 5) d)) (writes (p + 6 + length (bytes d)) f)
+      (stand-times h (writes (p + 5) d) (stand-writes d (p + 5) inside (repeat-inside z) first))
       (stand-writes f (p + 6 + length (bytes d)) rest (repeat-behind z (p + 6 + length (bytes d)) refl) next)
 
 -- At each offset of the list the fold has that command with that label.

@@ -1,10 +1,10 @@
--- The walks over the outermost items of a whole fold: how far one has come, what it has written of the index, and what it has found
--- of it in lent slices.
+-- The walks over the outermost items of a whole fold: how far one has come, what it has written of the index, and what it has
+-- found of it in lent slices.
 use mathlib.Core.Path.{_≡_, refl, sym, ap, _∙_}
 use mathlib.Core.Bool.{Bool, true, false, _&&_}
-use mathlib.Core.List.{List, [], _∷_, _++_, append-nil}
+use mathlib.Core.List.{List, [], _++_}
 use mathlib.Core.Logic.{_≢_}
-use Prim.Native.Nat.{ℕ, zero, suc, _+_, _*_, _≤_, _<_}
+use Prim.Native.Nat.{ℕ, suc, _+_, _≤_, _<_}
 use native.Mathlib.Nat.{zero-add}
 use native.Mathlib.Omega.{arith}
 use lib.Dec.{eqb}
@@ -12,25 +12,18 @@ use lib.ListN.{length, length-append, length-drop, getD, take, drop, set}
 use lib.Seq.{take-all, take-suc, drop-cons, set-at, append-snoc}
 use borrow.Author.Tests.{eqb-true, eqb-false}
 use Rattle.format.specs.Limits.{limits}
-use Rattle.format.specs.Forest.{Forest, end, step, group, repeat, join, nodes, bytes}
+use Rattle.format.specs.Forest.{Forest, end, join, nodes, bytes}
 use Rattle.format.specs.Tree.{tree-of}
 use Rattle.format.specs.inner.Standing.{One, FormAt}
 use Rattle.format.proofs.Forests.{bytes-join, nodes-join}
 use Rattle.format.proofs.Short.{sound-short}
-use Rattle.format.proofs.Standing.{next, along-ended, more-before-end}
-use Rattle.index.specs.Index.{sums, size, same, index-of, is-index}
+use Rattle.format.proofs.Standing.{Adds, bytes-adds, nodes-adds, whole-form, next, along-ended, more-before-end}
+use Rattle.index.specs.Index.{sums, byte-length, same, index-of, is-index}
 use Rattle.index.specs.inner.Passing.{WasRead, ItemFrom, PassedOver}
 use Rattle.index.specs.declared.pass.Spot.{Spot}
-use Rattle.index.proofs.Sums.{outermost, outermost-join, outermost-one, length-sums, Adds, size-adds, nodes-adds, sums-more, entry-there, same-refl, same-apart}
+use Rattle.index.proofs.Lists.{same-refl, same-apart}
+use Rattle.index.proofs.Sums.{outermost, outermost-join, outermost-one, outermost-short, length-sums, sums-more, entry-there}
 use Rattle.index.proofs.Passing.{Walked, walked-none, item, walked-item, walked-further, walked-more}
-
--- An item has a byte at least.
-outermost-short : (f : Forest) → outermost f ≤ length (bytes f)
-unfolding outermost bytes
-outermost-short end = omega arith
-outermost-short (step l f) = omega (arith, outermost-short f)
-outermost-short (group l b f) = omega (arith, length-append (bytes b) (0x12 ∷ bytes f), outermost-short f)
-outermost-short (repeat h w b f) = omega (arith, length-append (bytes b) (0x21 ∷ bytes f), outermost-short f)
 
 abbrev pub top : Spot
 top = record { at = 0; nodes = 0 }
@@ -47,12 +40,12 @@ pub none-outermost : 0 ≡ outermost end
 unfolding outermost
 none-outermost = refl
 
-pub whole-form : {s : List ℕ} → WasRead s → FormAt s 0 (tree-of s) []
-whole-form {s} z = record { form = sym (z .form) ∙ sym (append-nil (bytes (tree-of s))); allowed = z .allowed; sound = z .sound }
+pub whole-stands : {s : List ℕ} → WasRead s → FormAt s 0 (tree-of s) []
+whole-stands z = whole-form (z .allowed) (z .sound) (z .form)
 
 abbrev pub outer-none : {s : List ℕ} → WasRead s → Outer s top 0
 outer-none {s} z =
-    record { walked = walked-none (whole-form z) (rw (zero-add (nodes (tree-of s))) (z .few)); number = none-outermost }
+    record { walked = walked-none (whole-stands z) (rw (zero-add (nodes (tree-of s))) (z .few)); number = none-outermost }
 
 module _ {s : List ℕ} {p : Spot} {i : ℕ} (o : Outer s p i) (z : WasRead s) where
   split-size : length s ≡ p .at + length (bytes (o .walked .along .left))
@@ -63,7 +56,7 @@ module _ {s : List ℕ} {p : Spot} {i : ℕ} (o : Outer s p i) (z : WasRead s) w
       ∙ omega (arith, a .passed)
 
   -- What the walk has come to is small.
-  pub outer-within : p .at ≤ length s
+  outer-within : p .at ≤ length s
   outer-within = omega (arith, split-size)
 
   pub outer-bytes : p .at ≤ 4096
@@ -82,7 +75,7 @@ module _ {s : List ℕ} {p : Spot} {i : ℕ} (o : Outer s p i) (z : WasRead s) w
   outer-all e = along-ended (o .walked .along) (λ there. absurd (omega (arith, e, there)))
 
   -- The spot is what the items passed measure.
-  at-size : p .at ≡ size (done o)
+  at-size : p .at ≡ byte-length (done o)
   at-size = o .walked .along .passed ∙ omega arith
 
   nodes-counted : p .nodes ≡ nodes (done o)
@@ -121,7 +114,7 @@ module _ {s : List ℕ} {p : Spot} {i : ℕ} (o : Outer s p i) (z : WasRead s) w
         omega (arith, ap outermost (sym whole), outermost-join (done o) (join (c .front) (c .back)), outermost-join (c .front) (c .back), outermost-one (c .one), o .number)
 
 -- A lent slice that the first entries are written into, by a measure.
-abbrev Filled : (m : Forest → ℕ) → (passed : Forest) → (i : ℕ) → (before now : List ℕ) → Type 0
+abbrev pub Filled : (m : Forest → ℕ) → (passed : Forest) → (i : ℕ) → (before now : List ℕ) → Type 0
 Filled m f i before now = now ≡ sums m 0 f ++ drop i before
 
 filled-none : (m : Forest → ℕ) (before : List ℕ) → Filled m end 0 before before
@@ -142,21 +135,21 @@ filled-more m a f g i v before now one e number value fits =
     ∙ sym (append-snoc (sums m 0 f) (m f) (drop (suc i) before)))
 
 -- The walk that writes both slices.
-pub record Writing (s : List ℕ) (p : Spot) (i : ℕ) (offsets₀ before₀ offsets before : List ℕ) : Type 0 where
+pub record Filling (s : List ℕ) (p : Spot) (i : ℕ) (offsets₀ before₀ offsets before : List ℕ) : Type 0 where
   pub outer : Outer s p i
-  pub offsets-filled : offsets ≡ sums size 0 (done outer) ++ drop i offsets₀
-  pub before-filled : before ≡ sums nodes 0 (done outer) ++ drop i before₀
+  pub offsets-filled : Filled byte-length (done outer) i offsets₀ offsets
+  pub before-filled : Filled nodes (done outer) i before₀ before
 
-pub writing-none : {s : List ℕ} → WasRead s → (offsets before : List ℕ) → Writing s top 0 offsets before offsets before
-writing-none z offsets before =
-    record { outer = outer-none z; offsets-filled = filled-none size offsets; before-filled = filled-none nodes before }
+pub filling-none : {s : List ℕ} → WasRead s → (offsets before : List ℕ) → Filling s top 0 offsets before offsets before
+filling-none z offsets before =
+    record { outer = outer-none z; offsets-filled = filled-none byte-length offsets; before-filled = filled-none nodes before }
 
 -- There is room for every entry.
 pub record Roomy (s offsets before : List ℕ) : Type 0 where
   pub for-offsets : outermost (tree-of s) ≤ length offsets
   pub for-before : outermost (tree-of s) ≤ length before
 
-module _ {s : List ℕ} {p : Spot} {i : ℕ} {offsets₀ before₀ offsets before : List ℕ} (w : Writing s p i offsets₀ before₀ offsets before)
+module _ {s : List ℕ} {p : Spot} {i : ℕ} {offsets₀ before₀ offsets before : List ℕ} (w : Filling s p i offsets₀ before₀ offsets before)
     (z : WasRead s) (room : Roomy s offsets₀ before₀) where
   number-within : i ≤ outermost (tree-of s)
   number-within =
@@ -164,7 +157,7 @@ module _ {s : List ℕ} {p : Spot} {i : ℕ} {offsets₀ before₀ offsets befor
       omega (arith, w .outer .number, ap outermost (sym (a .split)), outermost-join (a .done) (a .left))
 
   pub offsets-length : length offsets ≡ length offsets₀
-  offsets-length = filled-length size (done (w .outer)) i offsets₀ (w .offsets-filled) (w .outer .number) (omega (arith, number-within, room .for-offsets))
+  offsets-length = filled-length byte-length (done (w .outer)) i offsets₀ (w .offsets-filled) (w .outer .number) (omega (arith, number-within, room .for-offsets))
 
   pub before-length : length before ≡ length before₀
   before-length = filled-length nodes (done (w .outer)) i before₀ (w .before-filled) (w .outer .number) (omega (arith, number-within, room .for-before))
@@ -176,41 +169,41 @@ module _ {s : List ℕ} {p : Spot} {i : ℕ} {offsets₀ before₀ offsets befor
     pub before-room : i < length before
     before-room = omega (arith, entry-left (w .outer) z there, room .for-before, before-length)
 
-    pub writing-more : {r : Spot} → PassedOver p (item (w .outer .walked) (some-left (w .outer) z there)) r
-        → Writing s r (i + 1) offsets₀ before₀ (set offsets i (p .at)) (set before i (p .nodes))
-    writing-more y =
+    pub filling-more : {r : Spot} → PassedOver p (item (w .outer .walked) (some-left (w .outer) z there)) r
+        → Filling s r (i + 1) offsets₀ before₀ (set offsets i (p .at)) (set before i (p .nodes))
+    filling-more y =
         let o = w .outer in
         let g = item (o .walked) (some-left o z there) in
         let one = next (o .walked .along) (some-left o z there) .one in
         record {
           outer = outer-more o z there y;
           offsets-filled =
-              filled-more size size-adds (done o) g i (p .at) offsets₀ offsets one (w .offsets-filled) (o .number) (at-size o z)
+              filled-more byte-length bytes-adds (done o) g i (p .at) offsets₀ offsets one (w .offsets-filled) (o .number) (at-size o z)
               (omega (arith, offsets-room, offsets-length));
           before-filled =
               filled-more nodes nodes-adds (done o) g i (p .nodes) before₀ before one (w .before-filled) (o .number) (nodes-counted o z)
               (omega (arith, before-room, before-length));
         }
 
-  pub writing-all : length s ≤ p .at
+  pub filling-all : length s ≤ p .at
       → (offsets ≡ index-of s .offsets ++ drop (length (index-of s .offsets)) offsets₀)
       × (before ≡ index-of s .before ++ drop (length (index-of s .before)) before₀)
-  writing-all e =
+  filling-all e =
       let o = w .outer in
       let all = outer-all o z e in
       let n : i ≡ outermost (tree-of s) = o .number ∙ ap outermost all in
-      (rw (length-sums size 0 (tree-of s), ← n, ← all) (w .offsets-filled), rw (length-sums nodes 0 (tree-of s), ← n, ← all) (w .before-filled))
+      (rw (length-sums byte-length 0 (tree-of s), ← n, ← all) (w .offsets-filled), rw (length-sums nodes 0 (tree-of s), ← n, ← all) (w .before-filled))
 
 -- A lent slice whose first entries are those of the index, by a measure; and that it is or is not all of them.
-module _ (m : Forest → ℕ) (a : Adds m) (lent : List ℕ) where
-  abbrev Agrees : (passed : Forest) → (i : ℕ) → Type 0
-  Agrees f i = (i ≤ length lent) × (take i lent ≡ sums m 0 f)
+abbrev pub Agrees : (m : Forest → ℕ) → (lent : List ℕ) → (passed : Forest) → (i : ℕ) → Type 0
+Agrees m lent f i = (i ≤ length lent) × (take i lent ≡ sums m 0 f)
 
-  agrees-none : Agrees end 0
+module _ (m : Forest → ℕ) (a : Adds m) (lent : List ℕ) where
+  agrees-none : Agrees m lent end 0
   unfolding sums
   agrees-none = (omega arith, refl)
 
-  agrees-more : (f g : Forest) (i : ℕ) → One g → Agrees f i → i < length lent → getD lent i 0 ≡ m f → Agrees (join f g) (i + 1)
+  agrees-more : (f g : Forest) (i : ℕ) → One g → Agrees m lent f i → i < length lent → getD lent i 0 ≡ m f → Agrees m lent (join f g) (i + 1)
   agrees-more f g i one e there value =
       let n : i + 1 ≡ suc i = omega arith in
       (omega arith, rw (n, take-suc lent i 0 there, e .1, value) (sym (sums-more m a f g one)))
@@ -229,7 +222,7 @@ module _ (m : Forest → ℕ) (a : Adds m) (lent : List ℕ) where
     goes-on e long same =
         long (o .number ∙ ap outermost (outer-all o z e) ∙ sym (length-sums m 0 (tree-of s)) ∙ ap length (sym same))
 
-    is-all : length s ≤ p .at → i ≡ length lent → Agrees (done o) i → lent ≡ sums m 0 (tree-of s)
+    is-all : length s ≤ p .at → i ≡ length lent → Agrees m lent (done o) i → lent ≡ sums m 0 (tree-of s)
     is-all e long agrees =
         sym (take-all i lent (omega (arith, long))) ∙ agrees .1 ∙ ap (λ (f : Forest). sums m 0 f) (outer-all o z e)
 
@@ -250,14 +243,14 @@ both a b c d e f = rw (e, f, same-refl b, same-refl d)
 -- The walk that compares both slices.
 pub record Comparing (s : List ℕ) (p : Spot) (i : ℕ) (offsets before : List ℕ) : Type 0 where
   pub outer : Outer s p i
-  pub offsets-agree : (i ≤ length offsets) × (take i offsets ≡ sums size 0 (done outer))
-  pub before-agree : (i ≤ length before) × (take i before ≡ sums nodes 0 (done outer))
+  pub offsets-agree : Agrees byte-length offsets (done outer) i
+  pub before-agree : Agrees nodes before (done outer) i
 
 pub comparing-none : {s : List ℕ} → WasRead s → (offsets before : List ℕ) → Comparing s top 0 offsets before
 comparing-none z offsets before =
     record {
       outer = outer-none z;
-      offsets-agree = agrees-none size size-adds offsets;
+      offsets-agree = agrees-none byte-length bytes-adds offsets;
       before-agree = agrees-none nodes nodes-adds before;
     }
 
@@ -266,20 +259,20 @@ module _ {s : List ℕ} {p : Spot} {i : ℕ} {offsets before : List ℕ} (w : Co
   verdict = is-index (index-of s) offsets before
 
   abbrev X : List ℕ
-  X = sums size 0 (tree-of s)
+  X = sums byte-length 0 (tree-of s)
 
   abbrev Y : List ℕ
   Y = sums nodes 0 (tree-of s)
 
   module _ (there : p .at < length s) where
     pub offsets-short : i ≡ length offsets → verdict ≡ false
-    offsets-short e = not-left offsets X before Y (ends-early size size-adds offsets (w .outer) z there e)
+    offsets-short e = not-left offsets X before Y (ends-early byte-length bytes-adds offsets (w .outer) z there e)
 
     pub before-short : i ≡ length before → verdict ≡ false
     before-short e = not-right offsets X before Y (ends-early nodes nodes-adds before (w .outer) z there e)
 
     pub offset-differs : getD offsets i 0 ≢ p .at → verdict ≡ false
-    offset-differs e = not-left offsets X before Y (differs size size-adds offsets (w .outer) z there (λ same. e (same ∙ sym (at-size (w .outer) z))))
+    offset-differs e = not-left offsets X before Y (differs byte-length bytes-adds offsets (w .outer) z there (λ same. e (same ∙ sym (at-size (w .outer) z))))
 
     pub nodes-differ : getD before i 0 ≢ p .nodes → verdict ≡ false
     nodes-differ e = not-right offsets X before Y (differs nodes nodes-adds before (w .outer) z there (λ same. e (same ∙ sym (nodes-counted (w .outer) z))))
@@ -292,7 +285,7 @@ module _ {s : List ℕ} {p : Spot} {i : ℕ} {offsets before : List ℕ} (w : Co
         record {
           outer = outer-more o z there y;
           offsets-agree =
-              agrees-more size size-adds offsets (done o) (item (o .walked) (some-left o z there)) i one (w .offsets-agree)
+              agrees-more byte-length bytes-adds offsets (done o) (item (o .walked) (some-left o z there)) i one (w .offsets-agree)
               (omega (arith, w .offsets-agree .0, e)) (g ∙ at-size o z);
           before-agree =
               agrees-more nodes nodes-adds before (done o) (item (o .walked) (some-left o z there)) i one (w .before-agree)
@@ -301,14 +294,14 @@ module _ {s : List ℕ} {p : Spot} {i : ℕ} {offsets before : List ℕ} (w : Co
 
   module _ (e : length s ≤ p .at) where
     pub offsets-long : i ≢ length offsets → verdict ≡ false
-    offsets-long f = not-left offsets X before Y (goes-on size size-adds offsets (w .outer) z e f)
+    offsets-long f = not-left offsets X before Y (goes-on byte-length bytes-adds offsets (w .outer) z e f)
 
     before-long : i ≢ length before → verdict ≡ false
     before-long f = not-right offsets X before Y (goes-on nodes nodes-adds before (w .outer) z e f)
 
     compared-all : i ≡ length offsets → i ≡ length before → verdict ≡ true
     compared-all f g =
-        both offsets X before Y (is-all size size-adds offsets (w .outer) z e f (w .offsets-agree)) (is-all nodes nodes-adds before (w .outer) z e g (w .before-agree))
+        both offsets X before Y (is-all byte-length bytes-adds offsets (w .outer) z e f (w .offsets-agree)) (is-all nodes nodes-adds before (w .outer) z e g (w .before-agree))
 
     pub last-compared : i ≡ length offsets → eqb i (length before) ≡ verdict
     last-compared f = go (eqb i (length before)) refl

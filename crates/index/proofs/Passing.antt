@@ -1,5 +1,5 @@
 -- The walk that counts: what it passes over item by item is the whole, and its nodes add up.
-use mathlib.Core.Path.{_≡_, refl, sym, ap, _∙_}
+use mathlib.Core.Path.{_≡_, refl, ap, _∙_}
 use mathlib.Core.List.{List, [], _∷_}
 use mathlib.Core.Logic.{_≢_}
 use Prim.Native.Nat.{ℕ, _+_, _*_, _≤_, _<_}
@@ -7,10 +7,10 @@ use native.Mathlib.Nat.{mul-le-mul}
 use native.Mathlib.Omega.{arith}
 use lib.ListN.{length, length-append, getD}
 use Rattle.format.specs.Limits.{limits}
-use Rattle.format.specs.Forest.{Forest, end, step, group, repeat, join, nodes, bytes}
+use Rattle.format.specs.Forest.{Forest, end, step, group, repeat, nodes, bytes}
 use Rattle.format.specs.inner.Standing.{One, one-step, one-group, one-repeat, FormAt}
 use Rattle.format.proofs.Forests.{nodes-join}
-use Rattle.format.proofs.Standing.{one-some, repeat-byte, RepeatAt, GroupAt, item-repeat, item-step, item-group, NoItem, Along, along-none, along-ended, next, next-item, along-more}
+use Rattle.format.proofs.Standing.{nodes-adds, along-total, one-some, repeat-byte, RepeatAt, GroupAt, item-repeat, item-step, item-group, NoItem, Along, along-none, along-ended, next, next-item, along-more}
 use Rattle.index.specs.inner.Passing.{SequenceFrom, ItemFrom, PassedOver}
 use Rattle.index.specs.declared.pass.Spot.{Spot}
 
@@ -23,7 +23,7 @@ group-has : (l : ℕ) (b : Forest) → (nodes (group l b end) ≡ 1 + nodes b) �
 unfolding nodes bytes
 group-has l b = (omega arith, omega (arith, length-append (bytes b) (0x12 ∷ [])))
 
-pub repeat-has : (h w : ℕ) (b : Forest) → (nodes (repeat h w b end) ≡ h * nodes b) × (length (bytes (repeat h w b end)) ≡ 6 + length (bytes b))
+repeat-has : (h w : ℕ) (b : Forest) → (nodes (repeat h w b end) ≡ h * nodes b) × (length (bytes (repeat h w b end)) ≡ 6 + length (bytes b))
 unfolding nodes bytes
 repeat-has h w b = (omega arith, omega (arith, length-append (bytes b) (0x21 ∷ [])))
 
@@ -133,15 +133,8 @@ module _ {s : List ℕ} {w p : Spot} {f : Forest} {rest : List ℕ} (a : Walked 
     abbrev pub item : Forest
     item = next (a .along) some .front
 
-    total : nodes f ≡ nodes (a .along .done) + (nodes item + nodes (next (a .along) some .back))
-    total =
-        ap nodes (sym (a .along .split))
-        ∙ nodes-join (a .along .done) (a .along .left)
-        ∙ ap (λ (g : Forest). nodes (a .along .done) + nodes g) (sym (next (a .along) some .split))
-        ∙ ap (λ (n : ℕ). nodes (a .along .done) + n) (nodes-join item (next (a .along) some .back))
-
     pub walked-item : ItemFrom s p item
-    walked-item = record { stands = next-item (a .along) some; few = omega (arith, a .counted, a .few, total) }
+    walked-item = record { stands = next-item (a .along) some; few = omega (arith, a .counted, a .few, along-total (a .along) some nodes nodes-adds) }
 
     module _ {r : Spot} (y : PassedOver p item r) where
       pub walked-further : p .at < r .at

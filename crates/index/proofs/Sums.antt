@@ -1,23 +1,20 @@
--- The entries of the index: what stands where in the two lists, how the walk over the outermost items meets them, and which item
--- the last entry up to a position belongs to.
+-- The entries of the index: how many there are, what stands where in the two lists, and which item the last entry up to a position
+-- belongs to.
 use mathlib.Core.Path.{_≡_, refl, sym, ap, _∙_}
-use mathlib.Core.Bool.{Bool, true, false, false≢true, _&&_}
 use mathlib.Core.List.{List, [], _∷_, _++_}
 use mathlib.Core.Logic.{_≢_}
 use Prim.Native.Nat.{ℕ, zero, suc, _+_, _*_, _≤_, _<_}
 use native.Mathlib.Nat.{zero-add, mul-le-mul}
 use native.Mathlib.Decide.{ℕ-discrete}
 use native.Mathlib.Omega.{arith}
-use lib.Dec.{eqb}
 use lib.ListN.{length, length-append, getD}
 use lib.Seq.{getD-at}
-use borrow.Author.Tests.{eq-eqb, eqb-true}
 use Rattle.format.specs.Forest.{Forest, end, step, group, repeat, Forest-discrete, join, nodes, bytes, Allowed, Sound}
 use Rattle.format.specs.inner.Standing.{One, one-step, one-group, one-repeat}
-use Rattle.format.proofs.Forests.{join-end, join-assoc, bytes-join, nodes-join}
+use Rattle.format.proofs.Forests.{join-end, join-assoc, nodes-join}
 use Rattle.format.proofs.Depth.{siblings-nodes}
-use Rattle.format.proofs.Standing.{cut}
-use Rattle.index.specs.Index.{sums, size, same}
+use Rattle.format.proofs.Standing.{Adds, bytes-adds, nodes-adds, cut}
+use Rattle.index.specs.Index.{sums, byte-length}
 use Rattle.index.specs.inner.Passing.{LastUpTo}
 
 -- How many outermost items there are.
@@ -40,6 +37,14 @@ outermost-one (one-step l) = refl
 outermost-one (one-group l b) = refl
 outermost-one (one-repeat h w b) = refl
 
+-- An item has a byte at least.
+pub outermost-short : (f : Forest) → outermost f ≤ length (bytes f)
+unfolding outermost bytes
+outermost-short end = omega arith
+outermost-short (step l f) = omega (arith, outermost-short f)
+outermost-short (group l b f) = omega (arith, length-append (bytes b) (0x12 ∷ bytes f), outermost-short f)
+outermost-short (repeat h w b f) = omega (arith, length-append (bytes b) (0x21 ∷ bytes f), outermost-short f)
+
 -- An item unrolls to a node at least.
 pub outermost-nodes : (A : Allowed) (f : Forest) → Sound A f → outermost f ≤ nodes f
 unfolding outermost nodes
@@ -57,19 +62,6 @@ length-sums m n end = refl
 length-sums m n (step l f) = ap suc (length-sums m (n + m (step l end)) f)
 length-sums m n (group l b f) = ap suc (length-sums m (n + m (group l b end)) f)
 length-sums m n (repeat h w b f) = ap suc (length-sums m (n + m (repeat h w b end)) f)
-
--- A measure of which one sequence behind another has the sum.
-pub record Adds (m : Forest → ℕ) : Type 0 where
-  pub none : m end ≡ 0
-  pub joined : (f g : Forest) → m (join f g) ≡ m f + m g
-
-pub size-adds : Adds size
-unfolding bytes
-size-adds = record { none = refl; joined = λ f g. ap length (bytes-join f g) ∙ length-append (bytes f) (bytes g) }
-
-pub nodes-adds : Adds nodes
-unfolding nodes
-nodes-adds = record { none = refl; joined = nodes-join }
 
 module _ (m : Forest → ℕ) (a : Adds m) where
   sums-join : (n : ℕ) (f g : Forest) → sums m n (join f g) ≡ sums m n f ++ sums m (n + m f) g
@@ -119,13 +111,13 @@ module _ (m : Forest → ℕ) (a : Adds m) where
       rw whole (entry-there (join done item) (c .front) (c .back) (c .one) (suc i) count ∙ a .joined done item)
 
 -- A sequence has an item for each entry.
-record Split (f : Forest) (i : ℕ) : Type 0 where
-  done : Forest
-  item : Forest
-  back : Forest
-  one : One item
-  whole : join done (join item back) ≡ f
-  number : i ≡ outermost done
+pub record Split (f : Forest) (i : ℕ) : Type 0 where
+  pub done : Forest
+  pub item : Forest
+  pub back : Forest
+  pub one : One item
+  pub whole : join done (join item back) ≡ f
+  pub number : i ≡ outermost done
 
 split-at : (f : Forest) (i : ℕ) → i < outermost f → Split f i
 unfolding outermost join
@@ -143,17 +135,21 @@ split-at (repeat h w b f) (suc i) e =
     let p = split-at f i (omega arith) in
     record { done = repeat h w b (p .done); item = p .item; back = p .back; one = p .one; whole = ap (repeat h w b) (p .whole); number = ap suc (p .number) }
 
+-- An entry is less than what the whole measures, where an item measures something.
+pub entry-small : (m : Forest → ℕ) → Adds m → (f : Forest) → ((done item back : Forest) → One item → join done (join item back) ≡ f → 0 < m item)
+    → (i : ℕ) → i < outermost f → getD (sums m 0 f) i 0 < m f
+entry-small m a f some i e =
+    let p = split-at f i e in
+    let here : getD (sums m 0 f) i 0 ≡ m (p .done) = rw (p .whole) at (entry-there m a (p .done) (p .item) (p .back) (p .one) i (p .number)) in
+    omega (arith, here, some (p .done) (p .item) (p .back) (p .one) (p .whole), ap m (sym (p .whole)), a .joined (p .done) (join (p .item) (p .back)), a .joined (p .item) (p .back))
+
 -- The item of an entry, and the position in its run of a position of the whole run.
 pub record ItemOf (f : Forest) (n i : ℕ) : Type 0 where
-  pub done : Forest
-  pub item : Forest
-  pub back : Forest
-  pub one : One item
-  pub whole : join done (join item back) ≡ f
-  pub offset : getD (sums size 0 f) i 0 ≡ length (bytes done)
-  pub before : getD (sums nodes 0 f) i 0 ≡ nodes done
-  pub reached : nodes done ≤ n
-  pub below : n < nodes done + nodes item
+  pub split : Split f i
+  pub offset : getD (sums byte-length 0 f) i 0 ≡ length (bytes (split .done))
+  pub before : getD (sums nodes 0 f) i 0 ≡ nodes (split .done)
+  pub reached : nodes (split .done) ≤ n
+  pub below : n < nodes (split .done) + nodes (split .item)
 
 -- The last entry that is not above a position belongs to the item that the position is in.
 pub last-holds : (f : Forest) (n i : ℕ) → n < nodes f → LastUpTo (sums nodes 0 f) n i → ItemOf f n i
@@ -169,12 +165,8 @@ last-holds f n i below last = go (Forest-discrete ℕ-discrete (p .back) end)
     of-item : n < nodes (p .done) + nodes (p .item) → ItemOf f n i
     of-item e =
         record {
-          done = p .done;
-          item = p .item;
-          back = p .back;
-          one = p .one;
-          whole = p .whole;
-          offset = here size size-adds;
+          split = p;
+          offset = here byte-length bytes-adds;
           before = here nodes nodes-adds;
           reached = omega (arith, last .reached, here nodes nodes-adds);
           below = e;
@@ -190,30 +182,3 @@ last-holds f n i below last = go (Forest-discrete ℕ-discrete (p .back) end)
         rw (p .whole) at (entry-behind nodes nodes-adds (p .done) (p .item) (p .back) (p .one) some i (p .number)) in
         let c = cut (p .back) some in
         of-item (omega (arith, last .next-above (omega (arith, length-sums nodes 0 f, ap outermost (sym (p .whole)), outermost-join (p .done) (join (p .item) (p .back)), outermost-join (p .item) (p .back), outermost-one (p .one), p .number, ap outermost (sym (c .split)), outermost-join (c .front) (c .back), outermost-one (c .one))), next))
-
--- Two lists are the same exactly where `same` says so.
-and-true : {a b : Bool} → a ≡ true → b ≡ true → (a && b) ≡ true
-and-true e f = rw e f
-
-pub same-refl : (xs : List ℕ) → same xs xs ≡ true
-unfolding same
-same-refl [] = refl
-same-refl (x ∷ xs) = and-true (eq-eqb x x refl) (same-refl xs)
-
-pub same-equal : (xs ys : List ℕ) → same xs ys ≡ true → xs ≡ ys
-unfolding same
-same-equal [] [] e = refl
-same-equal [] (y ∷ ys) e = absurd (false≢true e)
-same-equal (x ∷ xs) [] e = absurd (false≢true e)
-same-equal (x ∷ xs) (y ∷ ys) e = go (eqb x y) refl e (λ f. same-equal xs ys f)
-  where
-    go : (b : Bool) → eqb x y ≡ b → (b && same xs ys) ≡ true → (same xs ys ≡ true → xs ≡ ys) → x ∷ xs ≡ y ∷ ys
-    go true f e ih = cc (eqb-true x y f, ih e)
-    go false f e ih = absurd (false≢true e)
-
-pub same-apart : (xs ys : List ℕ) → xs ≢ ys → same xs ys ≡ false
-same-apart xs ys apart = go (same xs ys) refl
-  where
-    go : (b : Bool) → same xs ys ≡ b → b ≡ false
-    go true e = absurd (apart (same-equal xs ys e))
-    go false e = refl

@@ -1,6 +1,6 @@
--- Theorems about any fold that is accepted: how many entries its index has, and for what the finder refuses. (That the nodes
--- which unrolling writes are those of the run, and stand in the fold, is in Answers.)
-use mathlib.Core.Path.{_≡_, refl, sym, ap, _∙_}
+-- The theorems about the index of a fold that is accepted, how many entries it has and how great they are, and about what the finder
+-- refuses.
+use mathlib.Core.Path.{_≡_, refl, ap}
 use mathlib.Core.Bool.{Bool, true, false}
 use mathlib.Core.List.{List}
 use mathlib.Core.Logic.{_↔_}
@@ -8,29 +8,49 @@ use mathlib.Core.Option.{Option, none, some}
 use Prim.Native.Nat.{ℕ, _≤_, _<_}
 use native.Mathlib.Decide.{decLe}
 use native.Mathlib.Omega.{arith}
-use lib.ListN.{length, getElem?}
-use Rattle.format.specs.Forest.{nodes}
+use lib.ListN.{length, getD, getElem?}
+use Rattle.format.specs.Forest.{Forest, join, nodes, Allowed, Sound}
 use Rattle.format.specs.Tree.{tree-of}
 use Rattle.format.specs.Machine.{accepted}
 use Rattle.format.specs.Order.{Bytes}
 use Rattle.format.specs.Readings.{fold-alone}
+use Rattle.format.specs.inner.Standing.{One}
 use Rattle.format.specs.declared.Tally.{Tally}
+use Rattle.format.proofs.Forests.{sound-parts}
+use Rattle.format.proofs.Standing.{bytes-adds, nodes-adds, one-some}
 use Rattle.index.specs.Nodes.{Written, written-by}
-use Rattle.index.specs.Index.{size, index-of, is-index}
+use Rattle.index.specs.Index.{byte-length, index-of, is-index}
 use Rattle.index.specs.Finding.{finding, find-answer}
-use Rattle.index.specs.declared.Found.{Found}
 use Rattle.index.proofs.Lists.{nth-there, nth-past}
-use Rattle.index.proofs.Sums.{length-sums, outermost-nodes}
+use Rattle.index.proofs.Sums.{outermost, outermost-one, outermost-nodes, length-sums, entry-small}
 use Rattle.index.proofs.Outermost.{both}
-use Rattle.index.proofs.Answers.{taken, written-total, same-number, index-equal}
+use Rattle.index.proofs.Accepted.{accepted-fold, written-total}
+use Rattle.index.proofs.Answers.{same-number, index-equal}
+
+-- An item of a sound sequence unrolls to a node at least.
+item-some : (A : Allowed) (done item back : Forest) → One item → Sound A (join done (join item back)) → 0 < nodes item
+item-some A done item back one z =
+    let sound = sound-parts A item back (sound-parts A done (join item back) z .1) .0 in
+    omega (arith, outermost-nodes A item sound, outermost-one one)
 
 module _ (s : List ℕ) (small : Bytes s) (t : Tally) (x : List ℕ) (e : fold-alone s ≡ accepted t x) where
   -- The index has no more entries than the run has nodes, so 1,024 are always enough; both lists have as many.
   pub index-few : (length (index-of s .offsets) ≤ t .nodes) × (length (index-of s .before) ≡ length (index-of s .offsets))
   index-few =
-      let z = taken s small t x e in
+      let z = accepted-fold s small t x e in
       let r = z .was-read in
-      (omega (arith, length-sums size 0 (tree-of s), outermost-nodes (r .allowed) (tree-of s) (r .sound), z .total), same-number s)
+      (omega (arith, length-sums byte-length 0 (tree-of s), outermost-nodes (r .allowed) (tree-of s) (r .sound), z .total), same-number s)
+
+  -- Its numbers are small: an offset is below the fold's size, and the nodes before an item are below the node total.
+  pub index-small : (i : ℕ) → i < length (index-of s .offsets)
+      → (getD (index-of s .offsets) i 0 < length s) × (getD (index-of s .before) i 0 < t .nodes)
+  index-small i there =
+      let z = accepted-fold s small t x e in
+      let r = z .was-read in
+      let few : i < outermost (tree-of s) = omega (arith, there, length-sums byte-length 0 (tree-of s)) in
+      let offset = entry-small byte-length bytes-adds (tree-of s) (λ d g k one whole. one-some one) i few in
+      let before = entry-small nodes nodes-adds (tree-of s) (λ d g k one whole. item-some (r .allowed) d g k one (rw whole (r .sound))) i few in
+      (omega (arith, offset, ap length (r .form)), omega (arith, before, z .total))
 
   module _ (offsets before : List ℕ) (n : ℕ) where
     -- The refusal's number, for what is asked of the slices and what is written at the position.

@@ -9,16 +9,16 @@ use Rattle.format.specs.Tree.{tree-of}
 use Rattle.format.specs.Machine.{Outcome, refused, accepted}
 use Rattle.index.specs.declared.Indexed.{Indexed}
 
--- For each outermost item, n and what the items before it measure.
+-- For each outermost item, n plus what the items before it measure.
 unfoldable pub sums : (measure : Forest → ℕ) → (n : ℕ) → Forest → List ℕ
 sums m n end = []
 sums m n (step l f) = n ∷ sums m (n + m (step l end)) f
 sums m n (group l b f) = n ∷ sums m (n + m (group l b end)) f
 sums m n (repeat h w b f) = n ∷ sums m (n + m (repeat h w b end)) f
 
--- The bytes of an item.
-abbrev pub size : Forest → ℕ
-size i = length (bytes i)
+-- The number of bytes of an item.
+abbrev pub byte-length : Forest → ℕ
+byte-length i = length (bytes i)
 
 -- The two lists of the index: the offset of each outermost item, which is the bytes before it, and the nodes before it.
 pub record Index : Type 0 where
@@ -26,7 +26,7 @@ pub record Index : Type 0 where
   pub before : List ℕ
 
 abbrev pub index-of : List ℕ → Index
-index-of s = record { offsets = sums size 0 (tree-of s); before = sums nodes 0 (tree-of s) }
+index-of s = record { offsets = sums byte-length 0 (tree-of s); before = sums nodes 0 (tree-of s) }
 
 -- Two lists have the same entries.
 unfoldable pub same : List ℕ → List ℕ → Bool

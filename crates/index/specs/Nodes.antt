@@ -5,7 +5,7 @@ use mathlib.Core.List.{List, [], _∷_, _++_}
 use Prim.Native.Nat.{ℕ, zero, suc, _+_, _<_}
 use lib.ListN.{length, getD}
 use Rattle.format.specs.Forest.{Forest, end, step, group, repeat, bytes}
-use Rattle.format.specs.Machine.{is-node, operands, label-operand}
+use Rattle.format.specs.Machine.{times, is-node, operands, label-operand}
 use Rattle.format.specs.Parts.{starts}
 use Rattle.format.specs.Tree.{tree-of}
 
@@ -22,23 +22,27 @@ pub record Written : Type 0 where
 abbrev pub written : (command label offset : ℕ) → Written
 written c l p = record { node = record { command = c; label = l }; offset = p }
 
--- n copies of a list, end to end.
-unfoldable pub again : {A : Type 0} → ℕ → List A → List A
-again zero ws = []
-again (suc n) ws = ws ++ again n ws
-
 -- What unrolling writes of a sequence whose byte form stands at offset p: a step or a group writes its own node, a group then
 -- those that it holds, a repeat those of its body count times.
 unfoldable pub writes : (p : ℕ) → Forest → List Written
-unfolding again bytes
+unfolding times bytes
 writes p end = []
 writes p (step l f) = written 0x10 l p ∷ writes (p + 2) f
 writes p (group l b f) = written 0x11 l p ∷ writes (p + 2) b ++ writes (p + 3 + length (bytes b)) f
-writes p (repeat h w b f) = again h (writes (p + 5) b) ++ writes (p + 6 + length (bytes b)) f
+writes p (repeat h w b f) = times h (writes (p + 5) b) ++ writes (p + 6 + length (bytes b)) f
 
 -- What unrolling the fold s writes.
 abbrev pub written-by : List ℕ → List Written
 written-by s = writes 0 (tree-of s)
+
+-- The same sequence with the offset of each node's command in place of its label: what unrolling makes of this shows which
+-- command each node of the run comes from.
+unfoldable pub marked : (p : ℕ) → Forest → Forest
+unfolding bytes
+marked p end = end
+marked p (step l f) = step p (marked (p + 2) f)
+marked p (group l b f) = group p (marked (p + 2) b) (marked (p + 3 + length (bytes b)) f)
+marked p (repeat h w b f) = repeat h w (marked (p + 5) b) (marked (p + 6 + length (bytes b)) f)
 
 -- In the fold s a command starts at the offset, it is that one, and its label stands behind it.
 pub record StandsIn (s : List ℕ) (w : Written) : Type 0 where

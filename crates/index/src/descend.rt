@@ -48,5 +48,6 @@ pub fn descend(s: &[u8], from: usize, position: usize) -> usize
             at += 2;
         }
     }
+    // Not reached: the node looked for comes before the end.
     at
 }

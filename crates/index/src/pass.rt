@@ -1,6 +1,6 @@
 // The walk that counts. The fold was read before, so the walk refuses nothing: it passes over items and counts the nodes of
 // their runs, a repeat's body once whatever its count. A sequence is a loop over its items, and a group or a repeat holds a
-// sequence; the functions call each other, remaining bytes falling.
+// sequence; `pass_sequence` and `pass_holder` call each other, remaining bytes falling.
 use format::Format;
 use walk::operand;
 ghost use mathlib.Core.Path.{_≡_};
@@ -27,7 +27,7 @@ fn past_step(w: Spot) -> Spot
 }
 
 // The items from a spot on, up to the end of the input or to a close. A loop, so that siblings take no stack; steps, which are
-// most of a run, take no call.
+// most of a run, take no call that comes back here.
 pub fn pass_sequence(s: &[u8], w: Spot) -> Spot
     requires { ⌜ ((f : Forest) × SequenceFrom (now s) w f) ⌝ }
     ensures { λ r. ⌜ ((f : Forest) → SequenceFrom (now (s .entry)) w f → PassedOver w f r) ⌝ }

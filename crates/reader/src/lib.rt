@@ -1,4 +1,4 @@
-// The readers: run reader, part of a node, fold reader with cost. One walk serves them all (crate walk). Each answers for every
+// The readers: run reader, part of a node, fold reader with cost, and without limit and costs. One walk serves them all (crate walk). Each answers for every
 // input whatsoever, and none writes anywhere.
 mod node;
 
@@ -176,7 +176,7 @@ pub fn read_alone(fold: &[u8]) -> FoldReading
     let a = Terms {
         limits: Format::limits(),
         folds: true,
-        widest: Format::OPERAND,
+        widest: Format::GREATEST_OPERAND,
         first: 0,
         each: 0,
     };

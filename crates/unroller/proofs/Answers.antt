@@ -1,7 +1,7 @@
 -- The answers of the unroller, as its contract has them: a refusal by the first check that applies, or the run written.
 use mathlib.Core.Path.{_≡_, refl, sym, ap, _∙_}
 use mathlib.Core.Bool.{Bool, true, false}
-use mathlib.Core.List.{List, [], _++_, append-nil}
+use mathlib.Core.List.{List, [], _++_}
 use mathlib.Core.Logic.{_≢_}
 use Prim.Native.Nat.{ℕ, _≤_, _<_}
 use native.Mathlib.Nat.{zero-add}
@@ -10,7 +10,7 @@ use lib.Dec.{ltb}
 use lib.ListN.{length, take, drop}
 use lib.Seq.{sets-eq, take-at}
 use borrow.Author.Tests.{lt-ltb, le-ltb}
-use Rattle.format.specs.Forest.{bytes, at-most}
+use Rattle.format.specs.Forest.{at-most}
 use Rattle.format.specs.Machine.{Outcome, refused, accepted}
 use Rattle.format.specs.Order.{Bytes}
 use Rattle.format.specs.Head.{limit-head}
@@ -20,7 +20,9 @@ use Rattle.format.specs.Meaning.{Means}
 use Rattle.format.specs.declared.FoldReading.{FoldReading}
 use Rattle.format.specs.declared.Tally.{Tally}
 use Rattle.format.specs.declared.Unrolled.{Unrolled}
+use Rattle.format.proofs.Answered.{answered-refused, answered-accepted}
 use Rattle.format.proofs.Bridge.{parses}
+use Rattle.format.proofs.Standing.{whole-form}
 use Rattle.format.proofs.Report.{accepted-means, accepted-length, outcome-read, outcome-some}
 use Rattle.unroller.specs.Unrolling.{unroll-answer, unroll-output}
 use Rattle.unroller.specs.inner.Writing.{SequenceFrom, PassedOver}
@@ -66,34 +68,22 @@ top = record { at = 0; to = 0 }
 
 module _ (s : List ℕ) (small : Bytes s) (k : ℕ) (m : FoldReading) (reads : m ≡ as-fold-reading (measured s k)) where
   pub fold-measured : m .refusal ≡ 0 → Measured s k (m .length)
-  fold-measured e = go (measured s k) refl
-    where
-      go : (o : Outcome) → measured s k ≡ o → Measured s k (m .length)
-      go (refused n p) q =
-          let same : m ≡ as-fold-reading (refused n p) = reads ∙ ap as-fold-reading q in
-          absurd (outcome-some (limit-head k) free s n p q (rw same at e))
-      go (accepted t x) q =
-          let same : m ≡ as-fold-reading (accepted t x) = reads ∙ ap as-fold-reading q in
-          let r = outcome-read (limit-head k) free s t x q in
-          record {
-            tally = t;
-            text = x;
-            reading = q;
-            tree = parses (fold-rules k free) s small t x r;
-            size = rw same (sym (accepted-length k free s small t x r));
-          }
+  fold-measured e =
+      let a = answered-accepted (measured s k) m reads (outcome-some (limit-head k) free s) e in
+      let r = outcome-read (limit-head k) free s (a .tally) (a .text) (a .reading) in
+      record {
+        tally = a .tally;
+        text = a .text;
+        reading = a .reading;
+        tree = parses (fold-rules k free) s small (a .tally) (a .text) r;
+        size = ap (λ (u : FoldReading). u .length) (a .answer) ∙ sym (accepted-length k free s small (a .tally) (a .text) r);
+      }
 
   module _ (out : List ℕ) where
     pub fold-refused : m .refusal ≢ 0 → Promised s k out out (record { refusal = m .refusal; place = m .place; length = 0 })
-    fold-refused e = go (measured s k) refl
-      where
-        go : (o : Outcome) → measured s k ≡ o → Promised s k out out (record { refusal = m .refusal; place = m .place; length = 0 })
-        go (refused n p) q =
-            let same : m ≡ as-fold-reading (refused n p) = reads ∙ ap as-fold-reading q in
-            promised s k small out out _ (rw (q, same)) (rw q)
-        go (accepted t x) q =
-            let same : m ≡ as-fold-reading (accepted t x) = reads ∙ ap as-fold-reading q in
-            absurd (e (rw same))
+    fold-refused e =
+        let q = answered-refused (measured s k) m reads e in
+        promised s k small out out _ (rw q) (rw q)
 
     module _ (r : Measured s k (m .length)) where
       pub too-short : length out < m .length → Promised s k out out (record { refusal = 14; place = 0; length = 0 })
@@ -108,11 +98,7 @@ module _ (s : List ℕ) (small : Bytes s) (k : ℕ) (m : FoldReading) (reads : m
             record {
               stands = record {
                 rest = [];
-                stands = record {
-                  form = sym (a .form) ∙ sym (append-nil (bytes (a .tree)));
-                  allowed = at-most k;
-                  sound = a .shape .sound;
-                };
+                stands = whole-form (at-most k) (a .shape .sound) (a .form);
                 ends = tt;
               };
               fits = omega (arith, r .size, ap length (a .text));

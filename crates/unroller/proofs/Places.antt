@@ -10,7 +10,7 @@ use Rattle.format.specs.Machine.{times}
 use Rattle.format.specs.inner.Standing.{One, one-step, one-group, one-repeat, FormAt}
 use Rattle.format.proofs.Bridge.{length-times, times-more}
 use Rattle.format.proofs.Forests.{join-end, bytes-join, bytes-copies, unroll-join}
-use Rattle.format.proofs.Standing.{repeat-byte, RepeatAt, GroupAt, item-repeat, item-group}
+use Rattle.format.proofs.Standing.{Adds, repeat-byte, RepeatAt, GroupAt, item-repeat, item-group}
 use Rattle.unroller.specs.inner.Writing.{SequenceFrom, ItemFrom}
 use Rattle.unroller.specs.declared.write.Place.{Place}
 
@@ -41,8 +41,16 @@ size-repeat h w b some =
     let x = bytes (unroll b) in
     rw (unrolled-repeat h w b some, length-append x (times (h - 1) x), length-times (h - 1) x)
 
-pub size-join : (f g : Forest) → length (bytes (unroll (join f g))) ≡ length (bytes (unroll f)) + length (bytes (unroll g))
+size-join : (f g : Forest) → length (bytes (unroll (join f g))) ≡ length (bytes (unroll f)) + length (bytes (unroll g))
 size-join f g = rw (unroll-join, bytes-join) (length-append (bytes (unroll f)) (bytes (unroll g)))
+
+-- As a measure.
+abbrev pub unrolled-size : Forest → ℕ
+unrolled-size f = length (bytes (unroll f))
+
+pub unrolled-adds : Adds unrolled-size
+unfolding unroll bytes
+unrolled-adds = record { none = refl; joined = size-join }
 
 -- Of a node, its command and its label.
 node-size : {s : List ℕ} {p : ℕ} {f : Forest} {rest : List ℕ} → One f → FormAt s p f rest → getD s p 0 ≢ 0x20 → 2 ≤ length (bytes (unroll f))

@@ -10,11 +10,11 @@ use Rattle.format.specs.Forest.{Forest, end, step, group, repeat, join, unroll,
 use Rattle.format.specs.Machine.{times}
 use Rattle.format.proofs.Forests.{bytes-join, unroll-join}
 use Rattle.format.proofs.Lists.{sets-append}
-use Rattle.format.proofs.Standing.{one-some, item-step, NoItem, Along, along-none, along-ended, next, next-item, along-more}
+use Rattle.format.proofs.Standing.{along-total, one-some, item-step, NoItem, Along, along-none, along-ended, next, next-item, along-more}
 use Rattle.unroller.specs.inner.Writing.{SequenceFrom, ItemFrom, PassedOver}
 use Rattle.unroller.specs.declared.write.Place.{Place}
 use Rattle.unroller.proofs.Stores.{sets-part}
-use Rattle.unroller.proofs.Places.{unrolled-step, unrolled-group, unrolled-repeat, size-step, size-group, size-repeat, size-join, behind, body-of, its-repeat, repeat-some, repeat-fits, repeat-inside, its-group, group-fits, group-inside}
+use Rattle.unroller.proofs.Places.{unrolled-step, unrolled-group, unrolled-repeat, size-step, size-group, size-repeat, unrolled-size, unrolled-adds, behind, body-of, its-repeat, repeat-some, repeat-fits, repeat-inside, its-group, group-fits, group-inside}
 
 -- Writing keeps the length of the output.
 put-length : {a b : List ℕ} {w r : Place} {f : Forest} → PassedOver a b w f r → length b ≡ length a
@@ -163,15 +163,8 @@ module _ {s before now : List ℕ} {w p : Place} {f : Forest} {rest : List ℕ} 
     abbrev pub item : Forest
     item = next (a .along) some .front
 
-    total : length (bytes (unroll f)) ≡ length (bytes (unroll (a .along .done))) + (length (bytes (unroll item)) + length (bytes (unroll (next (a .along) some .back))))
-    total =
-        ap (λ (g : Forest). length (bytes (unroll g))) (sym (a .along .split))
-        ∙ size-join (a .along .done) (a .along .left)
-        ∙ ap (λ (g : Forest). length (bytes (unroll (a .along .done))) + length (bytes (unroll g))) (sym (next (a .along) some .split))
-        ∙ ap (λ (n : ℕ). length (bytes (unroll (a .along .done))) + n) (size-join item (next (a .along) some .back))
-
     pub writing-item : ItemFrom s (length now) p item
-    writing-item = record { stands = next-item (a .along) some; fits = omega (arith, a .put .reached, a .fits, total, writing-length) }
+    writing-item = record { stands = next-item (a .along) some; fits = omega (arith, a .put .reached, a .fits, along-total (a .along) some unrolled-size unrolled-adds, writing-length) }
 
     module _ {after : List ℕ} {r : Place} (y : PassedOver now after p item r) where
       pub writing-further : p .at < r .at

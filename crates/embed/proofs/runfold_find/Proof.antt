@@ -1,13 +1,12 @@
 -- `embed::runfold_find` meets its contract: the finder's answer, stored as numbers.
 use borrow.Author.Needs.{needs}
-use mathlib.Core.Path.{_≡_, sym, ap, subst, _∙_}
+use mathlib.Core.Path.{_≡_, sym, ap, subst}
 use mathlib.Core.List.{List, _++_}
 use Prim.Native.Nat.{ℕ}
 use native.Mathlib.Omega.{arith}
-use lib.ListN.{drop}
 use Rattle.index.specs.Finding.{AtPosition}
 use Rattle.index.specs.declared.Found.{Found}
-use Rattle.embed.specs.Answers.{entry-count, numbers, of-found, found-in}
+use Rattle.embed.specs.Answers.{numbers, of-found, found-in}
 use Rattle.embed.proofs.Entries.{short-status, short-entries, stored}
 use Rattle.embed.proofs.runfold_find.Statement.{statement}
 use Rattle.embed.proofs.runfold_find.Tie as tie

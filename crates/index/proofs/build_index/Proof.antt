@@ -1,10 +1,13 @@
 -- `index::build_index` meets its contract: a refusal leaves both slices as they were, and else they hold the index.
-use mathlib.Core.Path.{_≡_, _∙_}
 use native.Mathlib.Omega.{arith}
 use borrow.Author.Needs.{needs}
 use Rattle.format.specs.Order.{Bytes}
 use Rattle.index.specs.inner.Passing.{WasRead}
-use Rattle.index.proofs.Answers.{taken, was-refused, was-accepted, index-refused, offsets-too-short, before-too-short, index-written}
+use Rattle.format.specs.Readings.{fold-alone}
+use Rattle.format.proofs.Alone.{alone-some}
+use Rattle.format.proofs.Answered.{answered-refused, answered-accepted}
+use Rattle.index.proofs.Accepted.{accepted-fold}
+use Rattle.index.proofs.Answers.{index-refused, offsets-too-short, before-too-short, index-written}
 use Rattle.index.proofs.build_index.Statement.{statement}
 use Rattle.index.proofs.build_index.Tie as tie
 
@@ -23,15 +26,15 @@ returns : tie.Need-returns
 returns c =
     let m = c .before .before in
     let a = start m .args in
-    index-refused (a .fold .now) (a .offsets .now) (a .before .now) _ _ (was-refused (a .fold .now) (m .read-alone .result) (m .read-alone .ensures) (c .if1 .taken))
+    index-refused (a .fold .now) (a .offsets .now) (a .before .now) _ _ (answered-refused (fold-alone (a .fold .now)) (m .read-alone .result) (m .read-alone .ensures) (c .if1 .taken))
 
 -- Where it is not refused, it is accepted.
 was-read : (c : tie.Else1) → WasRead (start (c .before .before) .args .fold .now)
 was-read c =
     let m = c .before .before in
     let s = start m .args .fold .now in
-    let a = was-accepted s (m .read-alone .result) (m .read-alone .ensures) (c .if1 .left) in
-    taken s (small m) (a .0) (a .1) (a .2) .was-read
+    let a = answered-accepted (fold-alone s) (m .read-alone .result) (m .read-alone .ensures) (alone-some s) (c .if1 .left) in
+    accepted-fold s (small m) (a .tally) (a .text) (a .reading) .was-read
 
 count-entries-requires : tie.Need-count-entries-requires
 count-entries-requires c κs = was-read c
@@ -42,8 +45,8 @@ returns-2 c =
     let m = n .before .before .before in
     let a = start m .args in
     let s = a .fold .now in
-    let y = was-accepted s (m .read-alone .result) (m .read-alone .ensures) (n .before .if1 .left) in
-    offsets-too-short s (a .offsets .now) (a .before .now) (y .0) (y .1) (y .2) (omega (arith, c .if2 .taken, n .count-entries .ensures))
+    let y = answered-accepted (fold-alone s) (m .read-alone .result) (m .read-alone .ensures) (alone-some s) (n .before .if1 .left) in
+    offsets-too-short s (a .offsets .now) (a .before .now) (y .tally) (y .text) (y .reading) (omega (arith, c .if2 .taken, n .count-entries .ensures))
 
 returns-3 : tie.Need-returns-3
 returns-3 c =
@@ -51,8 +54,8 @@ returns-3 c =
     let m = n .before .before .before in
     let a = start m .args in
     let s = a .fold .now in
-    let y = was-accepted s (m .read-alone .result) (m .read-alone .ensures) (n .before .if1 .left) in
-    before-too-short s (a .offsets .now) (a .before .now) (y .0) (y .1) (y .2)
+    let y = answered-accepted (fold-alone s) (m .read-alone .result) (m .read-alone .ensures) (alone-some s) (n .before .if1 .left) in
+    before-too-short s (a .offsets .now) (a .before .now) (y .tally) (y .text) (y .reading)
     (omega (arith, c .before .if2 .left, n .count-entries .ensures)) (omega (arith, c .if3 .taken, n .count-entries .ensures))
 
 write-entries-requires : tie.Need-write-entries-requires
@@ -75,9 +78,9 @@ returns-4 c =
     let m = n .before .before .before in
     let a = start m .args in
     let s = a .fold .now in
-    let y = was-accepted s (m .read-alone .result) (m .read-alone .ensures) (n .before .if1 .left) in
+    let y = answered-accepted (fold-alone s) (m .read-alone .result) (m .read-alone .ensures) (alone-some s) (n .before .if1 .left) in
     rw (n .count-entries .ensures)
-    (index-written s (a .offsets .now) (a .before .now) (y .0) (y .1) (y .2) (omega (arith, e .before .if2 .left, n .count-entries .ensures)) (omega (arith, e .if3 .left, n .count-entries .ensures)) (w .write-entries .ensures .0) (w .write-entries .ensures .1))
+    (index-written s (a .offsets .now) (a .before .now) (y .tally) (y .text) (y .reading) (omega (arith, e .before .if2 .left, n .count-entries .ensures)) (omega (arith, e .if3 .left, n .count-entries .ensures)) (w .write-entries .ensures .0) (w .write-entries .ensures .1))
 
 pub build-index-spec : {M : Type 1} → statement M
 build-index-spec =

@@ -1,5 +1,5 @@
 -- `index::find` meets its contract: the fold's refusal, 17, 16, or the node that the way down from the index comes to.
-use mathlib.Core.Path.{_≡_, sym, _∙_}
+use mathlib.Core.Path.{_≡_, sym, ap, _∙_}
 use mathlib.Core.Bool.{true}
 use native.Mathlib.Omega.{arith}
 use borrow.Author.Needs.{needs}
@@ -8,13 +8,15 @@ use mathlib.Core.List.{List}
 use Prim.Native.Nat.{ℕ, suc, _-_, _<_}
 use lib.ListN.{length, getD}
 use Rattle.format.specs.Forest.{Forest}
-use Rattle.format.specs.Machine.{accepted}
 use Rattle.format.specs.Order.{Bytes}
 use Rattle.format.specs.Readings.{fold-alone}
-use Rattle.format.specs.declared.Tally.{Tally}
+use Rattle.format.specs.declared.FoldReading.{FoldReading}
 use Rattle.index.specs.Index.{index-of, is-index}
 use Rattle.index.specs.inner.Passing.{NodeIn, LastUpTo}
-use Rattle.index.proofs.Answers.{taken, was-refused, was-accepted, find-refused, other-index, past-the-total, some-entry, entry-offset, node-in, label-within, node-found}
+use Rattle.format.proofs.Alone.{alone-some}
+use Rattle.format.proofs.Answered.{answered-refused, AnsweredAccepted, answered-accepted}
+use Rattle.index.proofs.Accepted.{accepted-fold}
+use Rattle.index.proofs.Answers.{find-refused, other-index, past-the-total, some-entry, entry-offset, node-in, label-within, node-found}
 use Rattle.index.proofs.find.Statement.{statement}
 use Rattle.index.proofs.find.Tie as tie
 
@@ -38,7 +40,7 @@ returns c =
     let m = n .before .before in
     let a = start m .args in
     rw (c .refused .ensures)
-    (find-refused (a .fold .now) (small m) (a .offsets .now) (a .before .now) (a .position) _ _ (was-refused (a .fold .now) (m .read-alone .result) (m .read-alone .ensures) (n .if1 .taken)))
+    (find-refused (a .fold .now) (small m) (a .offsets .now) (a .before .now) (a .position) _ _ (answered-refused (fold-alone (a .fold .now)) (m .read-alone .result) (m .read-alone .ensures) (n .if1 .taken)))
 
 -- Where it is not refused, it is accepted.
 module _ (c : tie.Else1) where
@@ -48,13 +50,18 @@ module _ (c : tie.Else1) where
   abbrev given : tie.Start
   given = start read-it
 
-  accepted-as : (t : Tally) × (x : List ℕ) × (fold-alone (given .args .fold .now) ≡ accepted t x) × (read-it .read-alone .result .nodes ≡ t .nodes)
-  accepted-as = was-accepted (given .args .fold .now) (read-it .read-alone .result) (read-it .read-alone .ensures) (c .if1 .left)
+  accepted-as : AnsweredAccepted (fold-alone (given .args .fold .now)) (read-it .read-alone .result)
+  accepted-as =
+      answered-accepted (fold-alone (given .args .fold .now)) (read-it .read-alone .result) (read-it .read-alone .ensures) (alone-some (given .args .fold .now)) (c .if1 .left)
+
+  -- The reader's number of nodes is that of the reading.
+  its-nodes : read-it .read-alone .result .nodes ≡ accepted-as .tally .nodes
+  its-nodes = ap (λ (r : FoldReading). r .nodes) (accepted-as .answer)
 
 is-index-requires : tie.Need-is-index-requires
 is-index-requires c κs =
     let y = accepted-as c in
-    taken (given c .args .fold .now) (small (read-it c)) (y .0) (y .1) (y .2) .was-read
+    accepted-fold (given c .args .fold .now) (small (read-it c)) (y .tally) (y .text) (y .reading) .was-read
 
 refused-requires-2 : tie.Need-refused-requires-2
 refused-requires-2 c κs = search needs
@@ -66,7 +73,7 @@ returns-2 c =
     let a = given e .args in
     let y = accepted-as e in
     rw (c .refused2 .ensures)
-    (other-index (a .fold .now) (small (read-it e)) (a .offsets .now) (a .before .now) (a .position) (y .0) (y .1) (y .2) (sym (n .before .is-index .ensures) ∙ not-true _ (n .if2 .taken)))
+    (other-index (a .fold .now) (small (read-it e)) (a .offsets .now) (a .before .now) (a .position) (y .tally) (y .text) (y .reading) (sym (n .before .is-index .ensures) ∙ not-true _ (n .if2 .taken)))
 
 refused-requires-3 : tie.Need-refused-requires-3
 refused-requires-3 c κs = search needs
@@ -83,7 +90,7 @@ returns-3 c =
     let a = given e .args in
     let y = accepted-as e in
     rw (c .refused3 .ensures)
-    (past-the-total (a .fold .now) (small (read-it e)) (a .offsets .now) (a .before .now) (a .position) (y .0) (y .1) (y .2) (is-its d) (omega (arith, n .if3 .taken, y .3)))
+    (past-the-total (a .fold .now) (small (read-it e)) (a .offsets .now) (a .before .now) (a .position) (y .tally) (y .text) (y .reading) (is-its d) (omega (arith, n .if3 .taken, its-nodes e)))
 
 -- The position is in the run.
 module _ (c : tie.Else3) where
@@ -93,14 +100,14 @@ module _ (c : tie.Else3) where
   abbrev lent : tie.Start
   lent = given first
 
-  below : lent .args .position < accepted-as first .0 .nodes
-  below = omega (arith, c .if3 .left, accepted-as first .3)
+  below : lent .args .position < accepted-as first .tally .nodes
+  below = omega (arith, c .if3 .left, its-nodes first)
 
 last-up-to-requires : tie.Need-last-up-to-requires
 last-up-to-requires c κs =
     let a = lent c .args in
     let y = accepted-as (first c) in
-    some-entry (a .fold .now) (small (read-it (first c))) (a .offsets .now) (a .before .now) (a .position) (y .0) (y .1) (y .2) (is-its (c .before)) (below c)
+    some-entry (a .fold .now) (small (read-it (first c))) (a .offsets .now) (a .before .now) (a .position) (y .tally) (y .text) (y .reading) (is-its (c .before)) (below c)
 
 -- The entry that the search came to, and the item that it belongs to.
 module _ (u : tie.After-last-up-to) where
@@ -125,12 +132,12 @@ module _ (u : tie.After-last-up-to) where
   offset-there : i < length its-offsets
   offset-there =
       let y = accepted-as (first (u .before)) in
-      entry-offset its-fold (small (read-it (first (u .before)))) its-offsets its-before n (y .0) (y .1) (y .2) (is-its (u .before .before)) (below (u .before)) last
+      entry-offset its-fold (small (read-it (first (u .before)))) its-offsets its-before n (y .tally) (y .text) (y .reading) (is-its (u .before .before)) (below (u .before)) last
 
   its-item : (f : Forest) × NodeIn its-fold (getD its-offsets i 0) (n - getD its-before i 0) f
   its-item =
       let y = accepted-as (first (u .before)) in
-      (_, node-in its-fold (small (read-it (first (u .before)))) its-offsets its-before n (y .0) (y .1) (y .2) (is-its (u .before .before)) (below (u .before)) last)
+      (_, node-in its-fold (small (read-it (first (u .before)))) its-offsets its-before n (y .tally) (y .text) (y .reading) (is-its (u .before .before)) (below (u .before)) last)
 
 mul-descend : tie.Need-mul-descend
 mul-descend c = omega (arith, last c .there)
@@ -164,7 +171,7 @@ module _ (d : tie.After-descend) where
   within : suc (d .descend .result) < length (its-fold u)
   within =
       let y = accepted-as (first (u .before)) in
-      label-within (its-fold u) (small (read-it (first (u .before)))) (its-offsets u) (its-before u) (n u) (y .0) (y .1) (y .2) (is-its (u .before .before)) (below (u .before)) (last u)
+      label-within (its-fold u) (small (read-it (first (u .before)))) (its-offsets u) (its-before u) (n u) (y .tally) (y .text) (y .reading) (is-its (u .before .before)) (below (u .before)) (last u)
       (d .descend .ensures)
 
 add-t12 : tie.Need-add-t12
@@ -181,7 +188,7 @@ returns-4 c =
     let d = c .before .before in
     let v = u d in
     let y = accepted-as (first (v .before)) in
-    node-found (its-fold v) (small (read-it (first (v .before)))) (its-offsets v) (its-before v) (n v) (y .0) (y .1) (y .2) (is-its (v .before .before)) (below (v .before)) (last v)
+    node-found (its-fold v) (small (read-it (first (v .before)))) (its-offsets v) (its-before v) (n v) (y .tally) (y .text) (y .reading) (is-its (v .before .before)) (below (v .before)) (last v)
     (d .descend .ensures)
 
 pub find-spec : {M : Type 1} → statement M

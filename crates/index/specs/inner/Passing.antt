@@ -10,12 +10,12 @@ use Rattle.format.specs.Tree.{tree-of}
 use Rattle.format.specs.inner.Standing.{SequenceAt, ItemAt}
 use Rattle.index.specs.declared.pass.Spot.{Spot}
 
--- At a spot stands the sequence f, and its nodes pass no limit.
+-- At a spot stands the sequence f, and with its nodes the count passes no limit.
 pub record SequenceFrom (s : List ℕ) (w : Spot) (f : Forest) : Type 0 where
   pub stands : SequenceAt s (w .at) f
   pub few : w .nodes + nodes f ≤ limits .nodes
 
--- At a spot stands the item f, and its nodes pass no limit.
+-- At a spot stands the item f, and with its nodes the count passes no limit.
 pub record ItemFrom (s : List ℕ) (w : Spot) (f : Forest) : Type 0 where
   pub stands : ItemAt s (w .at) f
   pub few : w .nodes + nodes f ≤ limits .nodes

@@ -1,17 +1,16 @@
 -- `index::descend::descend` meets its contract. The loop's invariant: the node looked for is n nodes further on from the place
 -- reached, whatever item stands at the beginning.
-use mathlib.Core.Path.{sym}
 use Prim.Native.Nat.{_-_}
 use native.Mathlib.Omega.{arith}
 use lib.ListN.{length}
 use Rattle.format.specs.Forest.{Forest}
 use Rattle.index.specs.inner.Passing.{NodeIn}
-use Rattle.index.proofs.Descending.{Heading, goal, heading-in, heading-there, heading-close, node-there, node-found, node-passed, of, operands-there, body-from, passes-few, behind-there, behind-further, pass-some, repeat-entered, repeat-passed}
+use Rattle.index.proofs.Descending.{Heading, offset-at, heading-in, heading-there, heading-close, node-there, node-found, node-passed, operands-there, body-from, passes-few, behind-there, behind-further, pass-some, repeat-entered, repeat-passed}
 use Rattle.index.proofs.descend.descend.Statement.{statement}
 use Rattle.index.proofs.descend.descend.Tie as tie
 
 abbrev Inv-loop : tie.InvT-loop
-Inv-loop s from position at₀ n₀ at n = (f : Forest) → NodeIn s from position f → Heading s at n (goal from position f)
+Inv-loop s from position at₀ n₀ at n = (f : Forest) → NodeIn s from position f → Heading s at n (offset-at from position f)
 
 abbrev μ-loop : tie.MeasureT-loop
 μ-loop s from position at₀ n₀ at n = length s - at
@@ -25,7 +24,7 @@ looped c = c .before .before
 
 -- The invariant, for the item that is required.
 heading : (l : tie.At-loop Inv-loop μ-loop)
-    → let S = start l in Heading (S .args .s .now) (l .loop .at) (l .loop .n) (goal (S .args .from) (S .args .position) (S .pre .0))
+    → let S = start l in Heading (S .args .s .now) (l .loop .at) (l .loop .n) (offset-at (S .args .from) (S .args .position) (S .pre .0))
 heading l = l .loop .inv (start l .pre .0) (start l .pre .1)
 
 -- The loop, from where a repeat stands and where its body is walked, and from a step or a group.

@@ -4,7 +4,7 @@ use Prim.Native.Nat.{_-_}
 use native.Mathlib.Omega.{arith}
 use lib.ListN.{length}
 use Rattle.format.specs.Tree.{tree-of}
-use Rattle.index.specs.Index.{size}
+use Rattle.index.specs.Index.{byte-length}
 use Rattle.index.proofs.Sums.{outermost, length-sums}
 use Rattle.index.proofs.Passing.{item}
 use Rattle.index.proofs.Outermost.{Outer, outer-none, outer-bytes, outer-number, outer-all, some-left, outer-item, outer-further, outer-more}
@@ -51,7 +51,7 @@ returns c =
     let l = c .before .before in
     let z = l .before .before .pre in
     let s = l .before .before .args .s .now in
-    l .loop .inv .number ∙ ap outermost (outer-all (l .loop .inv) z (c .if1 .left)) ∙ sym (length-sums size 0 (tree-of s))
+    l .loop .inv .number ∙ ap outermost (outer-all (l .loop .inv) z (c .if1 .left)) ∙ sym (length-sums byte-length 0 (tree-of s))
 
 pub count-entries-spec : {M : Type 1} → statement M
 count-entries-spec =

@@ -5,16 +5,16 @@ use lib.ListN.{length}
 use Rattle.format.specs.Limits.{limits}
 use Rattle.format.specs.Forest.{Forest}
 use Rattle.format.specs.Tree.{tree-of}
-use Rattle.index.specs.Index.{size}
+use Rattle.index.specs.Index.{byte-length}
 use Rattle.index.specs.inner.Passing.{WasRead, ItemFrom, PassedOver}
 use Rattle.index.proofs.Sums.{length-sums}
 use Rattle.index.proofs.Passing.{item}
-use Rattle.index.proofs.Outermost.{outer-bytes, outer-nodes, outer-number, some-left, outer-item, outer-further, outer-more, Writing, Roomy, writing-none, offsets-length, before-length, offsets-room, before-room, writing-more, writing-all}
+use Rattle.index.proofs.Outermost.{outer-bytes, outer-nodes, outer-number, some-left, outer-item, outer-further, outer-more, Filling, Roomy, filling-none, offsets-length, before-length, offsets-room, before-room, filling-more, filling-all}
 use Rattle.index.proofs.entries.write_entries.Statement.{statement}
 use Rattle.index.proofs.entries.write_entries.Tie as tie
 
 abbrev Inv-loop : tie.InvT-loop
-Inv-loop s offsets₀ before₀ p₀ i₀ offsets before p i = Writing s p i offsets₀ before₀ offsets before
+Inv-loop s offsets₀ before₀ p₀ i₀ offsets before p i = Filling s p i offsets₀ before₀ offsets before
 
 abbrev μ-loop : tie.MeasureT-loop
 μ-loop s offsets₀ before₀ p₀ i₀ offsets before p i = length s - p .at
@@ -22,7 +22,7 @@ abbrev μ-loop : tie.MeasureT-loop
 -- Both slices have room for the entries.
 roomy : (c : tie.Start Inv-loop μ-loop) → Roomy (c .args .s .now) (c .args .offsets .now) (c .args .before .now)
 roomy c =
-    let n = length-sums size 0 (tree-of (c .args .s .now)) in
+    let n = length-sums byte-length 0 (tree-of (c .args .s .now)) in
     record { for-offsets = omega (arith, c .pre .1 .0, n); for-before = omega (arith, c .pre .1 .1, n) }
 
 -- The function's start, from the loop; and the loop, from where an entry is written.
@@ -39,7 +39,7 @@ small l =
     (omega (arith, outer-number o z, outer-bytes o z), outer-bytes o z, omega (arith, outer-nodes o z))
 
 loop-holds : tie.Need-loop-holds Inv-loop μ-loop
-loop-holds c = let S = c .before .before .before in writing-none (S .pre .0) (S .args .offsets .now) (S .args .before .now)
+loop-holds c = let S = c .before .before .before in filling-none (S .pre .0) (S .args .offsets .now) (S .args .before .now)
 
 -- The next item stands at the spot, and is passed.
 module _ (m : tie.Then1 Inv-loop μ-loop) where
@@ -103,7 +103,7 @@ loop-again : tie.Need-loop-again Inv-loop μ-loop
 loop-again c =
     let q = c .before .before in
     let m = q .before in
-    writing-more (l m .loop .inv) (was-read m) (roomy (start (l m))) (m .if1 .taken) (passed q)
+    filling-more (l m .loop .inv) (was-read m) (roomy (start (l m))) (m .if1 .taken) (passed q)
 
 same-length : tie.Need-same-length Inv-loop μ-loop
 same-length c = let l = c .before .before in offsets-length (l .loop .inv) (start l .pre .0) (roomy (start l))
@@ -112,7 +112,7 @@ same-length-2 : tie.Need-same-length-2 Inv-loop μ-loop
 same-length-2 c = let l = c .before .before in before-length (l .loop .inv) (start l .pre .0) (roomy (start l))
 
 returns : tie.Need-returns Inv-loop μ-loop
-returns c = let l = c .before .before in writing-all (l .loop .inv) (start l .pre .0) (roomy (start l)) (c .if1 .left)
+returns c = let l = c .before .before in filling-all (l .loop .inv) (start l .pre .0) (roomy (start l)) (c .if1 .left)
 
 pub write-entries-spec : {M : Type 1} → statement M
 write-entries-spec =

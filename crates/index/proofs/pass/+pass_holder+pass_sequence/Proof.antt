@@ -2,7 +2,7 @@
 -- one offset a sequence stands above a group or a repeat. The loop's invariant: whatever sequence stands at the beginning, its first items are
 -- passed and counted, and the others stand at the spot reached.
 use mathlib.Core.Path.{_≡_, refl, ap}
-use Prim.Native.Nat.{ℕ, _+_, _-_, _*_, _<_, _≤_}
+use Prim.Native.Nat.{ℕ, _+_, _-_, _*_, _<_}
 use native.Mathlib.Omega.{arith}
 use lib.ListN.{length, getD}
 use borrow.Fn.Kinds.{In}
