@@ -62,4 +62,5 @@ all_with "${CC:-cc}" "${CXX:-c++}"
 if command -v clang >/dev/null && command -v clang++ >/dev/null; then
     all_with clang clang++
 fi
-echo "passed: the header by itself, its texts, null pointers, steps, depth and cost, index and finding, the version $version and the examples, with$used"
+passed="the header by itself, its texts, null pointers, steps, depth and cost, index and finding, the version $version"
+echo "passed: $passed and the examples, with$used"

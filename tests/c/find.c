@@ -55,7 +55,7 @@ static const struct sample samples[] = {
      .fold = {0x11, 1, 0x11, 1, 0x11, 1, 0x11, 1, 0x11, 1, 0x11, 1, 0x11, 1, 0x11, 1, 0x11, 1},
      .refusal = RUNFOLD_DEEP, .place = 16},
     {.name = "a false width", .len = 8, .fold = {0x20, 0, 2, 0, 2, 0x10, 7, 0x21}, .refusal = RUNFOLD_FALSE_WIDTH, .place = 7},
-    /* There is no width limit here: it is not refused by 7 at its 20, as the fold reader does at any limit. */
+    /* There is no width limit here: it is not refused by 7 at its 20, as by the fold reader at any limit. */
     {.name = "width 1,025", .len = 8, .fold = {0x20, 0, 2, 4, 1, 0x10, 7, 0x21}, .refusal = RUNFOLD_FALSE_WIDTH, .place = 7},
     {.name = "1,025 nodes", .len = 8, .fold = {0x20, 4, 1, 0, 1, 0x10, 7, 0x21}, .refusal = RUNFOLD_MANY_NODES, .place = 7},
 };
@@ -120,8 +120,10 @@ static void find(const struct sample *s, const char *what, const uint32_t *offse
     memcpy(o, offsets, sizeof *o * offsets_len);
     memcpy(b, before, sizeof *b * before_len);
     mark(answer);
-    expect(s, what, runfold_find(s->fold, s->len, o, offsets_len, b, before_len, position, answer, ALL), answer, refusal,
-           values);
+    expect(s, what,
+           runfold_find(s->fold, s->len, o, offsets_len, b, before_len, position, answer,
+                        refusal == RUNFOLD_SHORT ? ALL - 1 : ALL),
+           answer, refusal, values);
     if (memcmp(o, offsets, sizeof *o * offsets_len) != 0 || memcmp(b, before, sizeof *b * before_len) != 0)
         fail(s, what);
 }
@@ -150,6 +152,7 @@ static void positions(const struct sample *s)
         find(s, "a position", s->offsets, s->entries, s->before, s->entries, i, RUNFOLD_OK, s->nodes[i]);
     for (int i = 0; i < 4; i++)
         find(s, "past the total", s->offsets, s->entries, s->before, s->entries, past[i], RUNFOLD_PAST_END, none);
+    find(s, "an answer too short", s->offsets, s->entries, s->before, s->entries, 0, RUNFOLD_SHORT, none);
 }
 
 /* An index that is not the fold's: 17 at every position, also where the fold has none. */

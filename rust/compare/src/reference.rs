@@ -5,7 +5,7 @@
 
 use std::cmp::Ordering;
 
-/// What a call answers: refusal number, place, nodes, length, cost, steps and depth.
+/// What readers, unroller and folder answer: refusal number, place, nodes, length, cost, steps and depth.
 #[derive(Clone, Copy, Debug, Default, PartialEq, Eq)]
 pub struct Answer {
     pub refusal: u8,

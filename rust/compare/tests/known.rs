@@ -4,7 +4,7 @@
 use compare::reference;
 use runfold::Refusal::*;
 use runfold::{find, fold, folded, index, part, read_fold, read_run, unroll, work_entries};
-use runfold::{FoldReading, Found, Node, Prices, Refusal, RunReading};
+use runfold::{FoldReading, Found, Kind, Prices, Refusal, RunReading};
 
 const UNIT: [u16; 256] = [1; 256];
 
@@ -218,8 +218,8 @@ fn check_found(fold: &[u8], offsets: &[u32], before: &[u32], nodes: &[(u8, u8, u
     assert_eq!((&listed.offsets[..], &listed.before[..]), (offsets, before));
     assert_eq!(listed.nodes.len(), nodes.len());
     for (position, &(command, label, offset)) in nodes.iter().enumerate() {
-        let node = if command == 0x10 { Node::Step } else { Node::Group };
-        assert_eq!(find(fold, offsets, before, position as u64), Ok(Found { node, label, offset }));
+        let kind = if command == 0x10 { Kind::Step } else { Kind::Group };
+        assert_eq!(find(fold, offsets, before, position as u64), Ok(Found { kind, label, offset }));
         assert_eq!(listed.nodes[position], reference::Node { command, label, offset });
     }
     for past in [nodes.len() as u64, 1 << 32, u64::MAX] {

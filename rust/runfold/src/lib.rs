@@ -1,7 +1,7 @@
 //! The run folder. A *run* is a record of steps and nested groups of steps, as bytes. A *fold* is the same run with nested
 //! repeats, priced by the costs of steps, of groups and of repeats. The folder gives the cheapest fold of a run, the fold
 //! reader reads a fold and gives its cost, the unroller gives the run back, and the finder a single node of it, by an index that
-//! is kept beside the fold. `docs/FORMAT.md` has the bytes of both.
+//! is kept beside the fold. `docs/FORMAT.md` has the bytes of runs and folds.
 //!
 //! ```
 //! use runfold::{folded, unroll, Prices, MAX_WIDTH, RUN_ROOM};
@@ -137,9 +137,9 @@ pub struct Folding {
     pub cost: u64,
 }
 
-/// A node is a step or a group.
+/// What kind of node it is: a step or a group.
 #[derive(Clone, Copy, Debug, PartialEq, Eq, Hash)]
-pub enum Node {
+pub enum Kind {
     /// A step, command `10`.
     Step,
     /// A group, command `11`.
@@ -150,7 +150,7 @@ pub enum Node {
 #[derive(Clone, Copy, Debug, PartialEq, Eq, Hash)]
 pub struct Found {
     /// Whether it is a step or a group.
-    pub node: Node,
+    pub kind: Kind,
     /// Its label.
     pub label: u8,
     /// The offset of its command in the fold. All copies that a repeat makes of a node have the same one.
@@ -305,7 +305,7 @@ pub fn index(fold: &[u8], offsets: &mut [u32], before: &mut [u32]) -> Result<usi
 /// Refusals 1, 3 to 6, 8 to 10, then 17, then 16.
 ///
 /// ```
-/// use runfold::{find, index, Found, Node, Refusal, MAX_NODES};
+/// use runfold::{find, index, Found, Kind, Refusal, MAX_NODES};
 ///
 /// // A step 01, then 300 times a step 02 and a group 05 that holds a step 03: 901 nodes.
 /// let fold = [0x10, 0x01, 0x20, 0x01, 0x2C, 0x00, 0x02, 0x10, 0x02, 0x11, 0x05, 0x10, 0x03, 0x12, 0x21];
@@ -314,8 +314,8 @@ pub fn index(fold: &[u8], offsets: &mut [u32], before: &mut [u32]) -> Result<usi
 /// let (offsets, before) = (&offsets[..entries], &before[..entries]);
 /// assert_eq!((offsets, before), (&[0, 2][..], &[0, 1][..]));
 ///
-/// assert_eq!(find(&fold, offsets, before, 700)?, Found { node: Node::Step, label: 0x02, offset: 7 });
-/// assert_eq!(find(&fold, offsets, before, 701)?, Found { node: Node::Group, label: 0x05, offset: 9 });
+/// assert_eq!(find(&fold, offsets, before, 700)?, Found { kind: Kind::Step, label: 0x02, offset: 7 });
+/// assert_eq!(find(&fold, offsets, before, 701)?, Found { kind: Kind::Group, label: 0x05, offset: 9 });
 /// assert_eq!(find(&fold, offsets, before, 901), Err(Refusal::PastEnd));
 /// assert_eq!(find(&fold, offsets, &before[1..], 700), Err(Refusal::FalseIndex));
 /// # Ok::<(), Refusal>(())
@@ -324,7 +324,7 @@ pub fn find(fold: &[u8], offsets: &[u32], before: &[u32], position: u64) -> Resu
     let mut answer = [0; raw::ENTRIES];
     answered(raw::find(fold, offsets, before, position, &mut answer), &answer)?;
     Ok(Found {
-        node: if answer[raw::COMMAND] == 0x10 { Node::Step } else { Node::Group },
+        kind: if answer[raw::COMMAND] == 0x10 { Kind::Step } else { Kind::Group },
         label: answer[raw::LABEL] as u8,
         offset: answer[raw::OFFSET] as usize,
     })
