@@ -1,6 +1,7 @@
-// The program of known folds: the folds of docs/FORMAT.md, the refusals of docs/REFUSALS.md, and the parts of nodes. It prints
-// what it saw, and a line that begins with `difference` where that is not right.
+// The program of known folds: the folds of docs/FORMAT.md, the refusals of docs/REFUSALS.md, the parts of nodes, and nodes by
+// their positions. It prints what it saw, and a line that begins with `difference` where that is not right.
 mod cases;
+mod finding;
 mod parts;
 mod runs;
 
@@ -12,5 +13,7 @@ fn main() {
     refusals::commands();
     refusals::settings();
     refusals::room();
+    refusals::positions();
     parts::parts();
+    finding::finding();
 }

@@ -1,5 +1,14 @@
 // The refusals: the example of every refusal in docs/REFUSALS.md, by every entry point that it concerns. What is printed calls
 // each a row: a row of the table there.
+mod finding;
+
+pub use finding::FILLED;
+use finding::by_builder_and_finder;
+pub use finding::entries;
+pub use finding::front;
+pub use finding::no_node;
+pub use finding::positions;
+pub use finding::still_filled;
 use format::Format;
 use harness::fill_bytes;
 use harness::fold_checked;
@@ -119,11 +128,19 @@ fn by_roomy_folder(run: &[u8], limit: usize, steps: &[u16], groups: &[u16], e: E
     );
 }
 
-// The line of a refusal begins with its number, the input, and what that is read at; repeats have unit prices everywhere.
-fn row(refusal: u8, input: &[u8], limit: usize) {
+// The line of a refusal begins with its number and the input, `-` for the empty one.
+fn example(refusal: u8, input: &[u8]) {
     number(b"row ", refusal as u64);
     word(b", ");
+    if input.len() == 0 {
+        word(b"-");
+    }
     bytes(input);
+}
+
+// The same with what the input is read at; repeats have unit prices everywhere.
+fn row(refusal: u8, input: &[u8], limit: usize) {
+    example(refusal, input);
     setting(limit, 1, 0);
 }
 
@@ -139,7 +156,7 @@ fn by_cramped_folder(run: &[u8], costs: &mut [u32], choices: &mut [u32], e: Expe
     word(b"\n");
 }
 
-// The example of a refusal among runs, and among folds at a limit.
+// The example of a refusal among runs.
 fn refused_run(refusal: u8, run: &[u8], place: usize) {
     let labels = [1u16; 256];
     let e = Expected { refusal, place };
@@ -150,18 +167,32 @@ fn refused_run(refusal: u8, run: &[u8], place: usize) {
     word(b"\n");
 }
 
-fn refused_fold(refusal: u8, fold: &[u8], limit: usize, place: usize) {
+// A fold by those that take a limit.
+fn by_limited(fold: &[u8], limit: usize, e: Expected) {
     let labels = [1u16; 256];
     let mut out = [0u8; 40];
-    let e = Expected { refusal, place };
-    row(refusal, fold, limit);
+    row(e.refusal, fold, limit);
     by_fold_reader(fold, limit, &labels, &labels, e);
     word(b",");
     by_unroller(fold, limit, &mut out, e);
+}
+
+// The example of a refusal among folds.
+fn refused_fold(refusal: u8, fold: &[u8], place: usize) {
+    let e = Expected { refusal, place };
+    by_limited(fold, 1024, e);
+    word(b",");
+    by_builder_and_finder(fold, e);
     word(b"\n");
 }
 
-// Refusals 1 to 10, and a few neighbours: an operand missing, the 11th open repeat.
+// The example of refusal 7, which index builder and finder do not have: they take no limit.
+fn wider(fold: &[u8], limit: usize) {
+    by_limited(fold, limit, placeless(7));
+    word(b"\n");
+}
+
+// Refusals 1 to 10, and a few neighbours: an operand missing, a width over every limit, the 11th open repeat.
 pub fn commands() {
     first_three();
     closes();
@@ -173,52 +204,65 @@ pub fn commands() {
 // Refusals 1 to 3: a byte that is no command, one that is none of a run, and bytes that end too early.
 fn first_three() {
     refused_run(1, b"\x13", 0);
-    refused_fold(1, b"\x13", 1024, 0);
+    refused_fold(1, b"\x13", 0);
     refused_run(2, b"\x10\x07\x21", 2);
     refused_run(2, b"\x10\x07\x20", 2);
     refused_run(3, b"\x11\x05", 2);
-    refused_fold(3, b"\x11\x05", 1024, 2);
+    refused_fold(3, b"\x11\x05", 2);
     refused_run(3, b"\x10\x07\x10", 3);
-    refused_fold(3, b"\x20\x00\x01", 1024, 3);
+    refused_fold(3, b"\x20\x00\x01", 3);
 }
 
 // Refusals 4 and 5: a close of nothing or of something else, and of an empty body.
 fn closes() {
     refused_run(4, b"\x12", 0);
-    refused_fold(4, b"\x12", 1024, 0);
-    refused_fold(4, b"\x11\x05\x21", 1024, 2);
+    refused_fold(4, b"\x12", 0);
+    refused_fold(4, b"\x11\x05\x21", 2);
     refused_run(5, b"\x11\x05\x12", 2);
-    refused_fold(5, b"\x11\x05\x12", 1024, 2);
+    refused_fold(5, b"\x11\x05\x12", 2);
 }
 
 // Refusals 6 and 7: a repeat's count and its width.
 fn repeats() {
-    refused_fold(6, b"\x20\x00\x01\x00\x01\x10\x07\x21", 1024, 0);
-    refused_fold(7, b"\x20\x00\x02\x00\x02\x10\x07\x10\x07\x21", 1, 0);
+    refused_fold(6, b"\x20\x00\x01\x00\x01\x10\x07\x21", 0);
+    wider(b"\x20\x00\x02\x00\x02\x10\x07\x10\x07\x21", 1);
+    wider_than_all(b"\x20\x00\x02\x04\x01\x10\x07\x21");
+}
+
+// A width over every limit: 7 by those that take a limit, 9 at the repeat's end by those that take none.
+fn wider_than_all(fold: &[u8]) {
+    let e = Expected {
+        refusal: 9,
+        place: 7,
+    };
+    wider(fold, 1024);
+    example(9, fold);
+    word(b":");
+    by_builder_and_finder(fold, e);
+    word(b"\n");
 }
 
 // Refusal 8: nine open groups, and eleven open repeats.
 fn open() {
     let nine = b"\x11\x01\x11\x01\x11\x01\x11\x01\x11\x01\x11\x01\x11\x01\x11\x01\x11\x01";
     refused_run(8, nine, 16);
-    refused_fold(8, nine, 1024, 16);
+    refused_fold(8, nine, 16);
     refused_fold(
         8,
         b"\x20\x00\x02\x00\x01\x20\x00\x02\x00\x01\x20\x00\x02\x00\x01\x20\x00\x02\x00\x01\x20\x00\x02\x00\x01\x20\x00\x02\x00\x01\x20\x00\x02\x00\x01\x20\x00\x02\x00\x01\x20\x00\x02\x00\x01\x20\x00\x02\x00\x01\x20\x00\x02\x00\x01",
-        1024,
         50,
     );
 }
 
 // Refusals 9 and 10: a body of another width, and too many nodes, at last 1,025 steps whose label is the byte of a step.
 fn nodes() {
-    refused_fold(9, b"\x20\x00\x02\x00\x02\x10\x07\x21", 1024, 7);
-    refused_fold(10, b"\x20\x04\x01\x00\x01\x10\x07\x21", 1024, 7);
+    refused_fold(9, b"\x20\x00\x02\x00\x02\x10\x07\x21", 7);
+    refused_fold(10, b"\x20\x04\x01\x00\x01\x10\x07\x21", 7);
     let run = [Format::STEP; 2050];
     refused_run(10, &run, 2048);
 }
 
-// An expected refusal at place 0, where refusals 11 to 15 have theirs.
+// An expected refusal at place 0, where refusals 11 to 17 have theirs.
 fn placeless(refusal: u8) -> Expected {
     Expected { refusal, place: 0 }
 }
