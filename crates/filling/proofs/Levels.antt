@@ -12,7 +12,7 @@ use Rattle.optimum.proofs.Cut.{siblings-le-nodes, siblings-back}
 use Rattle.format.specs.Limits.{cells}
 use Rattle.solver.specs.Rows.{Matches, Growing, Drawn, RowHeld, RowReady, RowEntered, KeysReady, TailsReady}
 use Rattle.solver.proofs.Extents.{extending-more}
-use Rattle.filling.specs.Filling.{Below, Filled, prices-of, Single, LevelReady, Scratch}
+use Rattle.filling.specs.Filling.{Below, Filled, counted-of, Single, LevelReady, Scratch}
 use Rattle.table.specs.Table.{Kept, KeptOthers, Falling, Stored}
 use Rattle.table.specs.Listing.{Spelled, Placed, Numbered, Classed}
 use Rattle.solver.specs.declared.row.Row.{Row}
@@ -50,7 +50,7 @@ scratch-none =
 
 -- The loop from the last sibling to the first: what is known of the rows from sibling i on, and the matches from there on.
 pub record Descended (s : List ℕ) (b limit : ℕ) (steps groups prices costs₀ choices₀ : List ℕ) (i : ℕ) (costs choices matches extents tails stops : List ℕ) : Type 0 where
-  pub known : Known (at-most limit) (prices-of steps groups prices) b (tree-of s) i extents tails stops costs choices
+  pub known : Known (at-most limit) (counted-of steps groups prices) b (tree-of s) i extents tails stops costs choices
   pub kept-costs : KeptOthers b (tree-of s) costs₀ costs
   pub kept-choices : KeptOthers b (tree-of s) choices₀ choices
   pub matched : Matches (back i (tree-of s)) matches
@@ -95,19 +95,26 @@ module _ {s : List ℕ} {b limit : ℕ} {steps groups prices costs₀ choices₀
     row-kept {f} {before} {after} =
         stored-kept (at-most limit) b (tree-of s) numbers j (m - j) run (omega arith) (numbered .numbered) f before after
 
-    -- What the cost of that sibling by itself rests on.
+    -- What cost and repeats of that sibling by itself rest on.
     pub own-asks : {offsets : List ℕ} → (length offsets ≡ 1025) × Placed s offsets
         → Spelled s
         × (((length offsets ≡ 1025) × Placed s offsets)
         × (((j < siblings (tree-of s)) × (siblings (tree-of s) ≤ 1024))
-        × (Falling numbers (siblings (tree-of s)) (length costs) × Numbered (getD numbers (siblings (tree-of s)) 0) (tree-of s) numbers)))
+        × ((Falling numbers (siblings (tree-of s)) (length costs) × Falling numbers (siblings (tree-of s)) (length choices))
+        × Numbered (getD numbers (siblings (tree-of s)) 0) (tree-of s) numbers)))
     own-asks placed = (
       ready .spelled,
-      (placed, ((omega arith, siblings-few ready), (rw all (falling (ready .cost-room) (d .kept-costs)), rw last numbered))),
+      (
+        placed,
+        (
+          (omega arith, siblings-few ready),
+          ((rw all (falling (ready .cost-room) (d .kept-costs)), rw all (falling (ready .choice-room) (d .kept-choices))), rw last numbered),
+        ),
+      ),
     )
 
-    module _ {own : ℕ} {kinds matches′ : List ℕ} (g : Source) (single : Single s steps groups costs numbers j own)
-        (below : Below (at-most limit) (prices-of steps groups prices) b (tree-of s) costs₀ choices₀) (classed : Classed (tree-of s) m kinds)
+    module _ {own : ℕ} {kinds matches′ : List ℕ} (g : Source) (single : Single s steps groups costs choices numbers j own)
+        (below : Below (at-most limit) (counted-of steps groups prices) b (tree-of s) costs₀ choices₀) (classed : Classed (tree-of s) m kinds)
         (grown : Growing kinds j m matches matches′) (drawn : Drawn extents j m matches′ g) where
       abbrev row : Row
       row = record { at = j; end = m; limit = limit; own = own; shift = g .shift; span = g .span; extent = g .extent }
@@ -115,7 +122,7 @@ module _ {s : List ℕ} {b limit : ℕ} {steps groups prices costs₀ choices₀
       matched-again : Matches (back j (tree-of s)) matches′
       matched-again = grown .matches (at-most limit) (tree-of s) run all classed (rw next (d .matched))
 
-      known-next : Known (at-most limit) (prices-of steps groups prices) b (tree-of s) (j + 1) extents tails stops costs choices
+      known-next : Known (at-most limit) (counted-of steps groups prices) b (tree-of s) (j + 1) extents tails stops costs choices
       known-next = rw next (d .known)
 
       row-ready : RowReady costs choices numbers row prices matches′ tails stops
@@ -124,7 +131,7 @@ module _ {s : List ℕ} {b limit : ℕ} {steps groups prices costs₀ choices₀
           record {
             tree = tree-of s;
             allowed = at-most limit;
-            prices-are = prices-of steps groups prices;
+            prices-are = counted-of steps groups prices;
             base = b;
             extents = extents;
             run = run;
@@ -133,14 +140,14 @@ module _ {s : List ℕ} {b limit : ℕ} {steps groups prices costs₀ choices₀
             some = omega arith;
             limited = refl;
             priced = ready .prepared .priced;
-            step-low = ready .prepared .low-steps;
-            group-low = ready .prepared .low-groups;
+            step-low = λ l. omega (arith, ready .prepared .low-steps l);
+            group-low = λ l. omega (arith, ready .prepared .low-groups l);
             numbers-are = numbered;
             extending = known-next .extending;
             rows-below = known-next .entered;
             tailing = known-next .tailing;
             stopping = known-next .stopping;
-            own-cost = single .costs-it (at-most limit) (prices-of steps groups prices) choices (λ l. refl) (λ l. refl) (rw last now);
+            own-cost = single .costs-it (at-most limit) (counted-of steps groups prices) (λ l. refl) (λ l. refl) (omega (arith, ready .total)) (rw last now);
             matches = matched-again;
             drawn = drawn;
           }
@@ -164,7 +171,7 @@ module _ {s : List ℕ} {b limit : ℕ} {steps groups prices costs₀ choices₀
           let here : getD (set extents j (g .extent)) j 0 ≡ g .extent = getD-set-same extents j (g .extent) 0 (omega arith) in
           let t = tree-of s in
           let A = at-most limit in
-          let P = prices-of steps groups prices in
+          let P = counted-of steps groups prices in
           record {
             known = record {
               extending = extending-more run all (omega arith) (known-next .extending) matched-again drawn (omega arith);
@@ -188,8 +195,8 @@ module _ {s : List ℕ} {b limit : ℕ} {steps groups prices costs₀ choices₀
 
   -- Down to the first sibling the level is filled, and nothing outside its interval has changed.
   module _ {costs choices matches extents tails stops : List ℕ} (d : Descended s b limit steps groups prices costs₀ choices₀ 0 costs choices matches extents tails stops) where
-    pub level-filled : Below (at-most limit) (prices-of steps groups prices) b (tree-of s) costs₀ choices₀
-        → Filled (at-most limit) (prices-of steps groups prices) b (tree-of s) costs choices
+    pub level-filled : Below (at-most limit) (counted-of steps groups prices) b (tree-of s) costs₀ choices₀
+        → Filled (at-most limit) (counted-of steps groups prices) b (tree-of s) costs choices
     level-filled w = record { top = entered-used _ _ _ _ _ _ _ (d .known .extending) (d .known .entered); below = below-others _ _ _ run _ _ _ _ _ (d .kept-costs) (d .kept-choices) w }
 
     pub level-kept : Kept b (nodes (tree-of s)) costs₀ costs × Kept b (nodes (tree-of s)) choices₀ choices

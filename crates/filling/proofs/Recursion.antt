@@ -12,7 +12,7 @@ use Rattle.format.specs.Tree.{tree-of}
 use Rattle.format.proofs.Tree.{tree-of-bytes}
 use Rattle.optimum.specs.Cheapest.{Run, front, back, node}
 use Rattle.optimum.proofs.Cut.{run-back, run-body}
-use Rattle.filling.specs.Filling.{Below, Filled, prices-of, LevelReady, LevelListed, LevelInside}
+use Rattle.filling.specs.Filling.{Below, Filled, counted-of, LevelReady, LevelListed, LevelInside}
 use Rattle.filling.specs.declared.level.Level.{Level}
 use Rattle.table.specs.Table.{Kept, number}
 use Rattle.table.specs.Nodes.{Reached}
@@ -64,7 +64,7 @@ record GroupAt (s : List ℕ) (i : ℕ) (part : List ℕ) : Type 0 where
 
 module _ {places nexts s : List ℕ} {level : Level} {steps groups prices costs₀ choices₀ costs choices : List ℕ} {q : ℕ}
     (l : LevelReady s (level .span .behind) (level .limit) steps groups prices costs₀ choices₀) (z : LevelListed places nexts s level)
-    (w : Through (at-most (level .limit)) (prices-of steps groups prices) s (level .span .behind) costs₀ choices₀ costs choices q) where
+    (w : Through (at-most (level .limit)) (counted-of steps groups prices) s (level .span .behind) costs₀ choices₀ costs choices q) where
   abbrev t : Forest
   t = tree-of s
 
@@ -75,7 +75,7 @@ module _ {places nexts s : List ℕ} {level : Level} {steps groups prices costs�
   A = at-most (level .limit)
 
   abbrev P : Prices
-  P = prices-of steps groups prices
+  P = counted-of steps groups prices
 
   run : Run A t
   run = l .spelled .run A

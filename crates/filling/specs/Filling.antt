@@ -1,12 +1,14 @@
 -- What filling the table rests on, the prices, one sequence and the lent arrays that it is worked in, and what is then entered.
 use mathlib.Core.Path.{_≡_}
 use mathlib.Core.List.{List}
-use Prim.Native.Nat.{ℕ, _+_, _-_, _<_, _≤_}
+use Prim.Native.Nat.{ℕ, _+_, _-_, _*_, _<_, _≤_}
 use lib.ListN.{length, getD}
 use Rattle.format.specs.Limits.{Prices, cells}
 use Rattle.format.specs.Forest.{Forest, end, step, group, repeat, Allowed, at-most, siblings, nodes}
 use Rattle.format.specs.Tree.{tree-of}
 use Rattle.optimum.specs.Cheapest.{node, best-cost}
+use Rattle.optimum.specs.Fewest.{counting}
+use Rattle.table.specs.Keys.{factor}
 use Rattle.table.specs.Table.{Kept}
 use Rattle.table.specs.Listing.{Spelled}
 use Rattle.table.specs.Nodes.{SpanListed}
@@ -24,9 +26,13 @@ prices-of steps groups prices =
       each = getD prices 3 0 - getD prices 2 0;
     }
 
+-- The same prices, counting repeats: folds are compared by these.
+abbrev pub counted-of : (steps groups prices : List ℕ) → Prices
+counted-of steps groups prices = counting factor (prices-of steps groups prices)
+
 -- The list has the price of each count, and labels cost 16 bits at most.
 pub record Prepared (steps groups prices : List ℕ) : Type 0 where
-  pub priced : Priced (prices-of steps groups prices) prices
+  pub priced : Priced (counted-of steps groups prices) prices
   pub low-steps : (l : ℕ) → getD steps l 0 < 65536
   pub low-groups : (l : ℕ) → getD groups l 0 < 65536
 
@@ -67,15 +73,15 @@ pub record LevelInside (places : List ℕ) (q next limit : ℕ) (r : Level) : Ty
 -- The sequence is entered with all below it, and nothing outside its interval has changed.
 abbrev pub LevelFilled : (s : List ℕ) (level : Level) (steps groups prices costs choices : List ℕ) → Type 0
 LevelFilled s level steps groups prices costs choices =
-    Filled (at-most (level .limit)) (prices-of steps groups prices) (level .span .behind) (tree-of s) costs choices
+    Filled (at-most (level .limit)) (counted-of steps groups prices) (level .span .behind) (tree-of s) costs choices
 
 abbrev pub LevelKept : (s : List ℕ) (level : Level) (before after : List ℕ) → Type 0
 LevelKept s level before after = Kept (level .span .behind) (nodes (tree-of s)) before after
 
--- The cost of sibling i by itself, where the sequences inside the groups are entered.
-pub record Single (s steps groups costs numbers : List ℕ) (i r : ℕ) : Type 0 where
-  pub costs-it : (A : Allowed) (P : Prices) (choices : List ℕ) → ((l : ℕ) → P .of-step l ≡ getD steps l 0) → ((l : ℕ) → P .of-group l ≡ getD groups l 0)
-      → Below A P (getD numbers (siblings (tree-of s)) 0) (tree-of s) costs choices → r ≡ best-cost A P (node i (tree-of s))
+-- Cost and repeats, combined, of sibling i by itself, where the sequences inside the groups are entered.
+pub record Single (s steps groups costs choices numbers : List ℕ) (i r : ℕ) : Type 0 where
+  pub costs-it : (A : Allowed) (P : Prices) → ((l : ℕ) → P .of-step l ≡ getD steps l 0 * factor) → ((l : ℕ) → P .of-group l ≡ getD groups l 0 * factor)
+      → nodes (tree-of s) ≤ 1024 → Below A P (getD numbers (siblings (tree-of s)) 0) (tree-of s) costs choices → r ≡ best-cost A P (node i (tree-of s))
 
 -- The lent arrays that every sequence is worked in, one after the other.
 pub record Scratch (offsets numbers kinds matches extents tails stops seen keys : List ℕ) : Type 0 where

@@ -1,5 +1,5 @@
 // Filling the table: the stretches of one sequence, after the sequences inside its groups.
-use crate::own::own_cost;
+use crate::own::own_combined;
 use format::Format;
 use solver::Row;
 use solver::draw;
@@ -13,7 +13,7 @@ ghost use Prim.Native.Nat.{_<_};
 ghost use lib.ListN.{length};
 ghost use Rattle.format.specs.Forest.{at-most};
 ghost use Rattle.format.specs.Tree.{tree-of};
-ghost use Rattle.filling.specs.Filling.{Below, prices-of, LevelReady, LevelListed, LevelInside, LevelFilled, LevelKept, Scratch};
+ghost use Rattle.filling.specs.Filling.{Below, counted-of, LevelReady, LevelListed, LevelInside, LevelFilled, LevelKept, Scratch};
 
 // Where a sequence stands in its run, and how wide a repeat may be.
 pub struct Level {
@@ -44,7 +44,7 @@ pub fn enter_level(
     choices: &mut [u32],
 )
     requires { ⌜ LevelReady (now s) (level .span .behind) (level .limit) (now steps) (now groups) (now prices) (now costs) (now choices) ⌝ }
-    requires { ⌜ Below (at-most (level .limit)) (prices-of (now steps) (now groups) (now prices)) (level .span .behind) (tree-of (now s)) (now costs) (now choices) ⌝ }
+    requires { ⌜ Below (at-most (level .limit)) (counted-of (now steps) (now groups) (now prices)) (level .span .behind) (tree-of (now s)) (now costs) (now choices) ⌝ }
     requires { ⌜ Scratch (now offsets) (now numbers) (now kinds) (now matches) (now extents) (now tails) (now stops) (now seen) (now keys) ⌝ }
     requires { ⌜ LevelListed (now places) (now nexts) (now s) level ⌝ }
     ensures scratch { λ _. ⌜ Scratch (now (offsets .exit)) (now (numbers .exit)) (now (kinds .exit)) (now (matches .exit)) (now (extents .exit)) (now (tails .exit)) (now (stops .exit)) (now (seen .exit)) (now (keys .exit)) ⌝ }
@@ -61,7 +61,7 @@ pub fn enter_level(
         i -= 1;
         grow(kinds, i, m, matches);
         let g = draw(matches, extents, i, m);
-        let own = own_cost(s, steps, groups, costs, offsets, numbers, i);
+        let own = own_combined(s, steps, groups, costs, choices, offsets, numbers, i);
         extents[i] = g.extent;
         let row = Row {
             at: i,

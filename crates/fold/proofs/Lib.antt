@@ -4,4 +4,4 @@ pub mod Digits
 pub mod Room
 pub mod Answers
 pub mod More
-pub mod AsBefore
+pub mod OneTable

@@ -12,7 +12,7 @@ use Rattle.format.specs.Head.{full-head}
 use Rattle.format.specs.Readings.{as-run-reading, run-outcome}
 use Rattle.format.specs.Tree.{tree-of}
 use Rattle.format.specs.declared.RunReading.{RunReading}
-use Rattle.optimum.specs.Cheapest.{cheapest}
+use Rattle.optimum.specs.Fewest.{preferred}
 use Rattle.optimum.proofs.Demands.{cheapest-room}
 use Rattle.folder.specs.Folding.{folding, fold-answer}
 use Rattle.folder.proofs.Verdicts.{accepted-run, accepts, verdict-folds}
@@ -30,7 +30,7 @@ lent-enough s small k T z costs choices room x y o =
     let r = admission s k T in
     let a = accepted-run s k T r refl z in
     let n = r .nodes in
-    let f = bytes (cheapest (at-most k) (priced T) (tree-of s)) in
+    let f = bytes (preferred (at-most k) (priced T) (tree-of s)) in
     let short : length f ≤ room =
     omega (arith, cheapest-room s small (a .tally) (a .text) (accepts s k T r refl a) k (priced T), a .all) in
     rw (verdict-folds s k T r refl a, le-ltb costs (cells n) x, le-ltb choices (cells n) y, le-ltb room (length f) short)

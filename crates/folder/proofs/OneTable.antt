@@ -1,12 +1,12 @@
--- WITH EQUAL TABLES THE FOLDER'S ANSWER IS THE ONE IT HAD when one table priced the labels of steps and groups alike: result, output
--- and work slices are made of what is decided here. And the fold that it decides on is the cheapest by the one-table cost.
+-- WITH EQUAL TABLES THE FOLDER'S ANSWER IS THE ONE OF ONE TABLE for the labels of steps and groups alike: result, output and work
+-- slices are made of what is decided here. And the fold that it decides on is the cheapest by the one-table cost.
 use mathlib.Core.Path.{_≡_, refl, sym, ap, _∙_}
 use mathlib.Core.List.{List}
 use Prim.Native.Nat.{ℕ, suc}
 use native.Mathlib.Omega.{arith}
 use Rattle.format.specs.Limits.{limits, Tariff, tariff, Prices, priced}
 use Rattle.format.specs.Order.{Bytes}
-use Rattle.format.specs.Forest.{at-most, bytes}
+use Rattle.format.specs.Forest.{at-most, bytes, cost}
 use Rattle.format.specs.Machine.{Outcome, refused, accepted, read}
 use Rattle.format.specs.Head.{full-head}
 use Rattle.format.specs.Readings.{run-rules, run-outcome}
@@ -14,7 +14,7 @@ use Rattle.format.specs.Tree.{tree-of}
 use Rattle.format.specs.OneTable.{by-label}
 use Rattle.format.proofs.Heads.{headed-accepted, headed-narrow}
 use Rattle.format.proofs.OneTable.{equal-tables-headed}
-use Rattle.optimum.specs.Cheapest.{cheapest, best-cost}
+use Rattle.optimum.specs.Fewest.{preferred}
 use Rattle.optimum.specs.Verdict.{folds, verdict}
 use Rattle.optimum.specs.OneTable.{CheapestByLabel}
 use Rattle.optimum.proofs.Demands.{cheapest-small, cheapest-bytes}
@@ -41,13 +41,13 @@ module _ (s : List ℕ) (k : ℕ) (table : List ℕ) (first each : ℕ) where
           absurd (omega arith)
       by-outcome (accepted t x) e =
           let P : Prices = priced T in
-          let g = bytes (cheapest (at-most k) P (tree-of s)) in
+          let g = bytes (preferred (at-most k) P (tree-of s)) in
           let accepts = headed-accepted limits (full-head T k) (read run-rules s) t x e in
           let narrow = headed-narrow limits (full-head T k) (read run-rules s) t x e in
           let best = cheapest-bytes s small t x accepts k narrow P in
           let coded = cheapest-small s small t x accepts k narrow P in
-          let same : folds (t .nodes) g (best-cost (at-most k) P (tree-of s)) ≡ folds n f c =
+          let same : folds (t .nodes) g (cost P (preferred (at-most k) P (tree-of s))) ≡ folds n f c =
           sym (ap (verdict (at-most k) P s) e) ∙ decided in
           let fold : g ≡ f = cc same in
-          let cost : best-cost (at-most k) P (tree-of s) ≡ c = cc same in
-          rw (← fold, ← cost) (equal-tables-cheapest s k table first each _ _ coded .0 best)
+          let costs : cost P (preferred (at-most k) P (tree-of s)) ≡ c = cc same in
+          rw (← fold, ← costs) (equal-tables-cheapest s k table first each _ _ coded .0 best)

@@ -1,7 +1,7 @@
 -- The steps that fold an accepted run: its filled table, the answer, and the table cleared.
 use mathlib.Core.Path.{_≡_, refl, sym, ap, _∙_}
 use mathlib.Core.List.{List, [], _++_, append-nil}
-use Prim.Native.Nat.{ℕ, _+_, _<_, _≤_}
+use Prim.Native.Nat.{ℕ, _+_, _*_, _<_, _≤_}
 use native.Mathlib.Nat.{zero-add}
 use native.Mathlib.Decide.{ℕ-discrete}
 use native.Mathlib.Omega.{arith}
@@ -9,20 +9,25 @@ use lib.ListN.{length, getD, drop, replicate, length-drop}
 use borrow.Author.Tests.{lt-ltb, le-ltb}
 use lib.Seq.{sets-eq, getD-drop, ext-getD}
 use Rattle.format.specs.Limits as limits
-use Rattle.format.specs.Forest.{Forest, end, Plain, siblings, nodes, bytes, at-most}
+use Rattle.format.specs.Forest.{Forest, end, Plain, siblings, nodes, cost, bytes, at-most}
 use Rattle.format.specs.Tree.{tree-of}
 use Rattle.format.specs.declared.Folded.{Folded}
 use Rattle.optimum.specs.Cheapest.{back, cheapest, best-cost}
-use Rattle.optimum.proofs.Cut.{front-whole}
+use Rattle.optimum.specs.Fewest.{counting, preferred}
+use Rattle.optimum.proofs.Cut.{front-whole, siblings-le-nodes}
+use Rattle.optimum.proofs.Powers.{spans-usual}
 use Rattle.optimum.proofs.Cheapest.{best-cost-end}
+use Rattle.optimum.proofs.Fewest.{any-factor, best-counted, counted-few}
 use Rattle.table.specs.Used.{to-end, itself, UsedFilled}
 use Rattle.format.specs.Limits.{cells}
-use Rattle.table.specs.Table.{Kept, cell, number, stretch}
-use Rattle.filling.specs.Filling.{prices-of, LevelReady}
+use Rattle.table.specs.Keys.{factor}
+use Rattle.table.specs.Table.{Entry, Kept, cell, number, stretch}
+use Rattle.filling.specs.Filling.{prices-of, counted-of, LevelReady}
 use Rattle.writer.specs.Writing.{WriteReady, FoldLength, FoldWritten}
 use Rattle.writer.proofs.Spans.{some-siblings, no-nodes}
 use Rattle.folder.specs.inner.Run.{RunFilled, RunListed, RunWritten, RunFolded}
 use Rattle.folder.specs.Folding.{room-answer, room-output}
+use Rattle.table.proofs.Digits.{digits}
 use Rattle.table.proofs.Cells.{cell-in}
 use Rattle.table.proofs.Tables.{number-first, number-last}
 
@@ -43,7 +48,14 @@ whole-stretch t p = front-whole (siblings t) t p refl
 -- What the writer rests on, and the cost of the whole.
 module _ {s : List ℕ} {n limit : ℕ} {P : limits.Prices} {costs choices : List ℕ} (w : RunFilled s n limit P costs choices) where
   abbrev f : List ℕ
-  f = bytes (cheapest (at-most limit) P (tree-of s))
+  f = bytes (preferred (at-most limit) P (tree-of s))
+
+  -- The cheapest fold at prices that count repeats is the preferred one.
+  enough : nodes (tree-of s) < 2 * factor
+  enough = omega (arith, w .all, w .few)
+
+  same-fold : cheapest (at-most limit) (counting factor P) (tree-of s) ≡ preferred (at-most limit) P (tree-of s)
+  same-fold = any-factor (at-most limit) P (tree-of s) (w .spelled .run (at-most limit)) factor enough
 
   pub write-ready : {places nexts : List ℕ} → RunListed s places nexts → WriteReady s places nexts choices n 0
   write-ready l =
@@ -60,12 +72,22 @@ module _ {s : List ℕ} {n limit : ℕ} {P : limits.Prices} {costs choices : Lis
         total = w .few;
         room = w .choice-room;
         allowed = at-most limit;
-        prices-are = P;
+        prices-are = counting factor P;
         costs = costs;
         filled = w .filled;
       }
 
-  pub whole-is : (r : ℕ) → (n ≡ 0 → r ≡ 0) → (0 < n → r ≡ getD costs (cell 0 n) 0) → r ≡ best-cost (at-most limit) P (tree-of s)
+  -- The entry of the whole run has its cost.
+  whole-cost : (c k : ℕ) → Entry (at-most limit) (counting factor P) (tree-of s) c k → c ≡ cost P (preferred (at-most limit) P (tree-of s))
+  whole-cost c k x =
+      let t = tree-of s in
+      let run = w .spelled .run (at-most limit) in
+      let g = preferred (at-most limit) P t in
+      let few : siblings t ≤ 1024 = omega (arith, siblings-le-nodes t (run .plain), w .all, w .few) in
+      omega (arith, digits (x .best) (spans-usual (at-most limit) t few), x .apart, best-counted (at-most limit) P t run factor enough, counted-few (at-most limit) P t run factor enough)
+
+  pub whole-is : (r : ℕ) → (n ≡ 0 → r ≡ 0) → (0 < n → r ≡ getD costs (cell 0 n) 0) → r ≡ cost P (preferred (at-most limit) P (tree-of s))
+  unfolding cost
   whole-is r none some =
       let t = tree-of s in
       let run = w .spelled .run (at-most limit) in
@@ -73,21 +95,21 @@ module _ {s : List ℕ} {n limit : ℕ} {P : limits.Prices} {costs choices : Lis
       elim (ℕ-discrete n 0) [
         | yes e ↦
             let z : t ≡ end = no-nodes t (run .plain) (w .all ∙ e) in
-            none e ∙ (sym (best-cost-end (at-most limit) P) ∙ ap (best-cost (at-most limit) P) (sym z))
+            let free : best-cost (at-most limit) (counting factor P) t ≡ 0 = rw z (best-cost-end (at-most limit) (counting factor P)) in
+            omega (arith, none e, free, best-counted (at-most limit) P t run factor enough)
         | no e ↦
             let more : 0 < m = some-siblings t (run .plain) (omega (arith, w .all)) in
             let x = w .filled .entry 0 t itself 0 m more (omega arith) (to-end (omega arith)) in
             let first : number 0 t 0 ≡ n = number-first 0 t ∙ (zero-add (nodes t) ∙ w .all) in
             let last : number 0 t (0 + m) ≡ 0 = ap (number 0 t) (zero-add m) ∙ number-last 0 t (run .plain) in
-            let c : getD costs (cell 0 n) 0 ≡ best-cost (at-most limit) P (stretch t 0 m) = rw (first, last) at (x .costs) in
-            some (omega arith) ∙ (c ∙ ap (best-cost (at-most limit) P) (whole-stretch t (run .plain)))
+            some (omega arith) ∙ whole-cost _ _ (rw (first, last, whole-stretch t (run .plain)) at x)
       ]
 
   module _ {places nexts : List ℕ} (listed : RunListed s places nexts) (len : ℕ) (is-length : FoldLength s places nexts choices n 0 len)
       (out : List ℕ) where
     len-is : len ≡ length f
     unfolding write-ready
-    len-is = is-length .is-length (write-ready listed)
+    len-is = is-length .is-length (write-ready listed) ∙ rw same-fold
 
     pub answer-short : length out < len → (r : Folded) → r ≡ record { refusal = 14; place = 0; length = 0; cost = 0 } → (c : ℕ)
         → (r ≡ room-answer (length out) f c) × (out ≡ room-output f out)
@@ -95,15 +117,15 @@ module _ {s : List ℕ} {n limit : ℕ} {P : limits.Prices} {costs choices : Lis
         let e = lt-ltb (length out) (length f) (omega (arith, len-is)) in
         (q ∙ rw e, rw e)
 
-    pub answer-whole : len ≤ length out → (c : ℕ) → c ≡ best-cost (at-most limit) P (tree-of s) → (out′ : List ℕ) (r : ℕ)
+    pub answer-whole : len ≤ length out → (c : ℕ) → c ≡ cost P (preferred (at-most limit) P (tree-of s)) → (out′ : List ℕ) (r : ℕ)
         → FoldWritten s places nexts choices n 0 out out′ r
-        → (record { refusal = 0; place = 0; length = len; cost = c } ≡ room-answer (length out) f (best-cost (at-most limit) P (tree-of s)))
+        → (record { refusal = 0; place = 0; length = len; cost = c } ≡ room-answer (length out) f (cost P (preferred (at-most limit) P (tree-of s))))
         × (out′ ≡ room-output f out)
     unfolding write-ready
     answer-whole l c is-cost out′ r v =
         let e = le-ltb (length out) (length f) (omega (arith, len-is)) in
         let all = sets-eq f out 0 (omega (arith, len-is)) in
-        (rw (e, len-is, is-cost), rw e (v .written (write-ready listed) ∙ rw zero-add at all))
+        (rw (e, len-is, is-cost), rw e (v .written (write-ready listed) ∙ rw same-fold (rw zero-add at all)))
 
 -- The answer holds for whatever limit and prices the table was filled.
 module _ {s places nexts : List ℕ} (listed : RunListed s places nexts) {n : ℕ} {costs choices : List ℕ} (len : ℕ)
@@ -127,7 +149,7 @@ module _ {s places nexts : List ℕ} (listed : RunListed s places nexts) {n : �
 
 -- The table is filled and the fold written; cleared, it leaves all as the folder says.
 module _ {s : List ℕ} {n limit : ℕ} {steps groups prices costs choices : List ℕ} (ready : LevelReady s 0 limit steps groups prices costs choices) (all : nodes (tree-of s) ≡ n)
-    {costs′ choices′ : List ℕ} (filled : UsedFilled (at-most limit) (prices-of steps groups prices) 0 (tree-of s) costs′ choices′)
+    {costs′ choices′ : List ℕ} (filled : UsedFilled (at-most limit) (counted-of steps groups prices) 0 (tree-of s) costs′ choices′)
     (kept : Kept 0 (nodes (tree-of s)) costs costs′ × Kept 0 (nodes (tree-of s)) choices choices′) where
   pub run-filled : RunFilled s n limit (prices-of steps groups prices) costs′ choices′
   run-filled =

@@ -12,7 +12,7 @@ use lib.Seq.{take-at}
 use borrow.Author.Tests.{ltb-false, ltb-true}
 use Rattle.format.specs.Limits.{limits, Prices, Tariff, tariff, priced, of-repeat, cells}
 use Rattle.format.specs.Order.{Bytes}
-use Rattle.format.specs.Forest.{nodes, bytes, at-most}
+use Rattle.format.specs.Forest.{nodes, cost, bytes, at-most}
 use Rattle.format.specs.Machine.{Outcome, refused, accepted, read}
 use Rattle.format.specs.Head.{head-checks, full-head}
 use Rattle.format.specs.Readings.{run-rules, format-rules, as-run-reading, run-outcome}
@@ -23,13 +23,14 @@ use Rattle.format.specs.declared.Folded.{Folded}
 use Rattle.format.proofs.Heads.{headed-accepted, headed-narrow, headed-each}
 use Rattle.format.proofs.Bridge.{sound-widest, sound-within}
 use Rattle.format.proofs.Refusals.{refused-some, refused-small}
-use Rattle.optimum.specs.Cheapest.{cheapest, best-cost}
+use Rattle.optimum.specs.Fewest.{preferred}
 use Rattle.optimum.specs.Verdict.{Verdict, refuses, folds, verdict}
 use Rattle.optimum.specs.Demands.{CheapestWithin, CheapestOver, MinimumTree}
 use Rattle.optimum.proofs.Demands.{run-form, run-shape, run-nodes, run-few, cheapest-small, cheapest-bytes}
 use Rattle.optimum.proofs.Minimum.{cheapest-minimum}
+use Rattle.optimum.proofs.Fewest.{counted-repeat}
 use Rattle.table.specs.Listing.{Spelled}
-use Rattle.table.specs.Keys.{top-price}
+use Rattle.table.specs.Keys.{factor, top-price}
 use Rattle.filling.specs.Filling.{Prepared, prices-of, LevelReady}
 use Rattle.folder.specs.Folding.{folding, short-work, fold-answer, fold-output, fold-work}
 use Rattle.folder.specs.inner.Prices.{PriceList}
@@ -51,7 +52,9 @@ module _ (steps groups prices : List ℕ) (first each : ℕ) (p : PriceList firs
       record {
         priced = record {
           ready = record { long = p .long; low = small };
-          price-of = λ h a b. p .price-of h a b ∙ ap (λ (q : Prices). of-repeat q h) (sym prices-same);
+          price-of = λ h a b.
+              let e : getD prices h 0 ≡ of-repeat (prices-of steps groups prices) h = p .price-of h a b ∙ ap (λ (q : Prices). of-repeat q h) (sym prices-same) in
+              rw e (sym (counted-repeat factor (prices-of steps groups prices) h));
         };
         low-steps = low-steps;
         low-groups = low-groups;
@@ -129,7 +132,7 @@ module _ (s : List ℕ) (k : ℕ) (T : Tariff) (r : RunReading) (admitted : r �
     unfolding run-outcome
     narrow = headed-narrow limits (full-head T k) (read run-rules s) (a .tally) (a .text) (a .admits)
 
-    pub verdict-folds : folding s k T ≡ folds (r .nodes) (bytes (cheapest (at-most k) (priced T) (tree-of s))) (best-cost (at-most k) (priced T) (tree-of s))
+    pub verdict-folds : folding s k T ≡ folds (r .nodes) (bytes (preferred (at-most k) (priced T) (tree-of s))) (cost (priced T) (preferred (at-most k) (priced T) (tree-of s)))
     verdict-folds = verdict-at (accepted (a .tally) (a .text)) (a .admits) ∙ rw (a .all)
 
     module _ (small : Bytes s) where
@@ -161,9 +164,9 @@ module _ (s : List ℕ) (k : ℕ) (T : Tariff) (r : RunReading) (admitted : r �
             prepared = p;
           }
 
-      -- Demand 3 and the report's problem, of the cheapest fold.
-      pub demands : CheapestWithin s k (format-rules (priced T)) (bytes (cheapest (at-most k) (priced T) (tree-of s))) (best-cost (at-most k) (priced T) (tree-of s))
-          × MinimumTree s k (priced T) (bytes (cheapest (at-most k) (priced T) (tree-of s)))
+      -- Demand 3 and the report's problem, of the preferred fold.
+      pub demands : CheapestWithin s k (format-rules (priced T)) (bytes (preferred (at-most k) (priced T) (tree-of s))) (cost (priced T) (preferred (at-most k) (priced T) (tree-of s)))
+          × MinimumTree s k (priced T) (bytes (preferred (at-most k) (priced T) (tree-of s)))
       demands =
           let P = priced T in
           let best = cheapest-bytes s small (a .tally) (a .text) accepts k narrow P in
@@ -216,21 +219,21 @@ module _ (run : List ℕ) (k : ℕ) (T : Tariff) (v : Verdict) (costs choices ou
     met-short x r q = (q ∙ rw (e, x), (rw (e, x), (rw (e, x), (rw (e, x), unheld 13 (omega arith) (omega arith) out r (number 13 0 r q)))))
 
   -- The run is folded.
-  module _ (n : ℕ) (e : v ≡ folds n (bytes (cheapest (at-most k) P (tree-of run))) (best-cost (at-most k) P (tree-of run)))
+  module _ (n : ℕ) (e : v ≡ folds n (bytes (preferred (at-most k) P (tree-of run))) (cost P (preferred (at-most k) P (tree-of run))))
       (long : short-work n (length costs) (length choices) ≡ false)
       (costs′ choices′ out′ : List ℕ) (r : Folded) (folded : RunFolded run n k P costs costs′ choices choices′ out out′ r)
-      (demands : CheapestWithin run k (format-rules P) (bytes (cheapest (at-most k) P (tree-of run))) (best-cost (at-most k) P (tree-of run))
-      × MinimumTree run k P (bytes (cheapest (at-most k) P (tree-of run)))) where
+      (demands : CheapestWithin run k (format-rules P) (bytes (preferred (at-most k) P (tree-of run))) (cost P (preferred (at-most k) P (tree-of run)))
+      × MinimumTree run k P (bytes (preferred (at-most k) P (tree-of run)))) where
     abbrev f : List ℕ
-    f = bytes (cheapest (at-most k) P (tree-of run))
+    f = bytes (preferred (at-most k) P (tree-of run))
 
     held : (b : Bool) → ltb (length out) (length f) ≡ b → Held out′ r
     held true t =
         let q = number 14 0 r (folded .answered ∙ rw t) in
         let l = ltb-true _ _ t in
-        (λ y. absurd (omega arith), (λ y. absurd (omega arith), λ y. record { fold = f; cost = best-cost (at-most k) P (tree-of run); cheapest = demands .0; longer = l }))
+        (λ y. absurd (omega arith), (λ y. absurd (omega arith), λ y. record { fold = f; cost = cost P (preferred (at-most k) P (tree-of run)); cheapest = demands .0; longer = l }))
     held false t =
-        let q : r ≡ record { refusal = 0; place = 0; length = length f; cost = best-cost (at-most k) P (tree-of run) } = folded .answered ∙ rw t in
+        let q : r ≡ record { refusal = 0; place = 0; length = length f; cost = cost P (preferred (at-most k) P (tree-of run)) } = folded .answered ∙ rw t in
         let w : out′ ≡ f ++ drop (length f) out = folded .written ∙ rw t in
         let x = take-at f (drop (length f) out) (length f) refl in
         (λ y. rw (q, w, x) (demands .0), (λ y. rw (q, w, x) (demands .1), λ y. let z = ap (λ (u : Folded). u .refusal) q in absurd (omega arith)))

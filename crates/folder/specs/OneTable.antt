@@ -1,4 +1,4 @@
--- What the folder decided when one table priced the labels of steps and groups alike. Only the theorems about equal tables
+-- What the folder decides where one table prices the labels of steps and groups alike. Only the theorems about equal tables
 -- use it.
 use mathlib.Core.List.{List}
 use Prim.Native.Nat.{ℕ}

@@ -1,5 +1,5 @@
-// The folder: the cheapest fold of a run under a width limit, ties by byte order. One table of stretches serves the whole
-// tree; only lent memory holds it.
+// The folder: the cheapest fold of a run under a width limit, ties by fewer repeats and then by byte order. One table of stretches
+// serves the whole tree; only lent memory holds it.
 mod prices;
 mod run;
 
@@ -19,9 +19,9 @@ ghost use Rattle.format.specs.Readings.{format-rules};
 ghost use Rattle.optimum.specs.Demands.{CheapestWithin, CheapestOver, MinimumTree};
 ghost use Rattle.folder.specs.Folding.{folding, fold-answer, fold-output, fold-work};
 
-// The cheapest fold of a run under a width limit, ties by byte order: refusals 11, 15, 12, the run's own, 13 and 14. `steps` and
-// `groups` are the cost tables, `costs` and `choices` the work. What it writes is the cheapest of all bytes and a smallest tree by
-// the report, and 14 says that the cheapest of all bytes has no room.
+// The cheapest fold of a run under a width limit, ties by fewer repeats and then by byte order: refusals 11, 15, 12, the run's own,
+// 13 and 14. `steps` and `groups` are the cost tables, `costs` and `choices` the work. What it writes is the cheapest of all bytes and
+// a smallest tree by the report, and 14 says that the cheapest of all bytes has no room.
 pub fn fold(
     run: &[u8],
     limit: usize,

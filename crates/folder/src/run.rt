@@ -19,7 +19,7 @@ ghost use Rattle.format.specs.Forest.{nodes, at-most};
 ghost use Rattle.format.specs.Tree.{tree-of};
 ghost use Rattle.table.specs.Table.{cell};
 ghost use Rattle.table.specs.Used.{UsedFilled};
-ghost use Rattle.filling.specs.Filling.{prices-of, LevelReady, LevelListed, LevelKept};
+ghost use Rattle.filling.specs.Filling.{prices-of, counted-of, LevelReady, LevelListed, LevelKept};
 ghost use Rattle.writer.specs.Writing.{WriteReady, FoldWritten};
 ghost use Rattle.folder.specs.Folding.{short-work};
 ghost use Rattle.folder.specs.inner.Run.{RunFilled, RunListed, RunWritten, RunFolded};
@@ -63,7 +63,7 @@ fn fill(
 )
     requires { ⌜ LevelReady (now run) (level .span .behind) (level .limit) (now steps) (now groups) (now prices) (now costs) (now choices) ⌝ }
     requires { ⌜ LevelListed (now places) (now nexts) (now run) level ⌝ }
-    ensures filled { λ _. ⌜ UsedFilled (at-most (level .limit)) (prices-of (now (steps .entry)) (now (groups .entry)) (now (prices .entry))) (level .span .behind) (tree-of (now (run .entry))) (now (costs .exit)) (now (choices .exit)) ⌝ }
+    ensures filled { λ _. ⌜ UsedFilled (at-most (level .limit)) (counted-of (now (steps .entry)) (now (groups .entry)) (now (prices .entry))) (level .span .behind) (tree-of (now (run .entry))) (now (costs .exit)) (now (choices .exit)) ⌝ }
     ensures kept { λ _. ⌜ LevelKept (now (run .entry)) level (now (costs .entry)) (now (costs .exit)) × LevelKept (now (run .entry)) level (now (choices .entry)) (now (choices .exit)) ⌝ }
 {
     let mut offsets = [0usize; Lists::LENGTH];

@@ -198,14 +198,7 @@ fn few_steps() {
 fn more_steps() {
     letters(b"aaa", 1024, 1, 0, b"\x20\x00\x03\x00\x01\x10\x01\x21", 2);
     plain(b"aaa", 0, 3);
-    letters(
-        b"aaaa",
-        1024,
-        0,
-        0,
-        b"\x20\x00\x02\x00\x02\x20\x00\x02\x00\x01\x10\x01\x21\x21",
-        1,
-    );
+    letters(b"aaaa", 1024, 0, 0, b"\x20\x00\x04\x00\x01\x10\x01\x21", 1);
     letters(
         b"aaaa",
         1024,
@@ -213,6 +206,14 @@ fn more_steps() {
         5,
         b"\x20\x00\x02\x00\x02\x10\x01\x10\x01\x21",
         3,
+    );
+    letters(
+        b"aaaabab",
+        1024,
+        1,
+        0,
+        b"\x20\x00\x04\x00\x01\x10\x01\x21\x10\x02\x10\x01\x10\x02",
+        5,
     );
 }
 

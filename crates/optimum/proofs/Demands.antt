@@ -1,4 +1,4 @@
--- The cheapest fold of an accepted run's tree, as bytes, against any bytes: demands 2 and 3.
+-- The preferred fold of an accepted run's tree, as bytes, against any bytes: demands 2 and 3.
 use mathlib.Core.Path.{_≡_, refl, sym, ap, subst, _∙_}
 use mathlib.Core.List.{List}
 use Prim.Native.Nat.{ℕ, zero, suc, _*_, _≤_, _<_}
@@ -7,7 +7,7 @@ use mathlib.Core.Bool.{false≢true}
 use native.Mathlib.Omega.{arith}
 use lib.ListN.{length}
 use Rattle.format.specs.Limits.{limits, Prices}
-use Rattle.format.specs.Order.{Bytes, Before}
+use Rattle.format.specs.Order.{Bytes}
 use Rattle.format.specs.Forest.{Forest, end, step, group, repeat, join, copies, unroll, nodes, cost, bytes, Allowed, at-most, Sound, Coded, group-depth, widest-of}
 use Rattle.format.specs.Machine.{accepted, read}
 use Rattle.format.specs.Readings.{run-rules, fold-rules, format-rules}
@@ -18,10 +18,11 @@ use Rattle.format.proofs.Forests.{nodes-unroll, group-depth-join, coded-bytes}
 use Rattle.format.proofs.Bridge.{accepts, parses, bytes-injective, sound-widest, sound-within}
 use Rattle.format.proofs.Depth.{depth-fits, siblings-nodes}
 use Rattle.format.proofs.Tree.{tree-of-bytes}
-use Rattle.optimum.specs.Optimal.{FoldOf, NoWorse, cheaper, same, earlier, Optimal}
-use Rattle.optimum.specs.Cheapest.{cheapest, best-cost}
+use Rattle.optimum.specs.Optimal.{FoldOf}
+use Rattle.optimum.specs.Cheapest.{Run}
+use Rattle.optimum.specs.Fewest.{repeats-in, ComesFirst, fewer, as-many, Leads, by-cost, by-repeats, itself, by-bytes, Preferred, preferred}
 use Rattle.optimum.specs.Demands.{FoldWithin, CheapestWithin}
-use Rattle.optimum.proofs.Cheapest.{cheapest-optimal, cheapest-short}
+use Rattle.optimum.proofs.Fewest.{repeats-bytes, preferred-first, preferred-short}
 
 -- What a joined sequence has, its parts have.
 coded-parts : (f g : Forest) → Coded (join f g) → Coded f × Coded g
@@ -93,16 +94,19 @@ module _ (k : ℕ) (P : Prices) (u : Forest) (g : List ℕ) (c : ℕ) (small : B
   unfolding tally-of
   tree-cost = ap (λ (t : Tally). t .cost) (form .counts) ∙ w .costs
 
--- The cheapest fold of a run's tree is the cheapest of all bytes.
+-- A run is one at any limit.
+pub shaped-run : (k : ℕ) (u : Forest) → Shaped run-rules u → Run (at-most k) u
+shaped-run k u run =
+    let s = run .sound in
+    record { plain = run .plain refl; sound = sound-within (at-most 0) (at-most k) u (omega (arith, sound-widest (at-most 0) u s)) s }
+
+-- The preferred fold of a run's tree is the cheapest of all bytes.
 module _ (k : ℕ) (narrow : k ≤ limits .width) (P : Prices) (u : Forest) (run : Shaped run-rules u) where
   abbrev A : Allowed
   A = at-most k
 
-  best : Optimal A P u (cheapest A P u)
-  best =
-      let s = run .sound in
-      cheapest-optimal A P u (run .plain refl)
-      (sound-within (at-most 0) A u (omega (arith, sound-widest (at-most 0) u s)) s)
+  best : Preferred A P u (preferred A P u)
+  best = preferred-first A P u (shaped-run k u run)
 
   -- The byte form of any fold of the tree is a fold of the run within the limit.
   pub is-fold : (f : Forest) → FoldOf A u f → FoldWithin (bytes u) k (format-rules P) (bytes f) (cost P f)
@@ -121,24 +125,26 @@ module _ (k : ℕ) (narrow : k ≤ limits .width) (P : Prices) (u : Forest) (run
         costs = refl;
       }
 
-  against : (g : List ℕ) (c : ℕ) (z : Bytes g) (w : FoldWithin (bytes u) k (format-rules P) g c) → NoWorse P (cheapest A P u) (form k P u g c z w .tree)
-  against g c z w = best .best (form k P u g c z w .tree) (tree-fold k P u g c z w)
+  against : (g : List ℕ) (c : ℕ) (z : Bytes g) (w : FoldWithin (bytes u) k (format-rules P) g c) → Leads P (preferred A P u) (form k P u g c z w .tree)
+  against g c z w = best .leads (form k P u g c z w .tree) (tree-fold k P u g c z w)
 
-  no-dearer : {f : Forest} (c : ℕ) → cost P f ≡ c → NoWorse P (cheapest A P u) f → cost P (cheapest A P u) ≤ c
-  no-dearer c e (cheaper l) = omega arith
-  no-dearer c e (same q) = omega (arith, ap (cost P) q)
-  no-dearer c e (earlier l b) = omega arith
+  no-dearer : {f : Forest} (c : ℕ) → cost P f ≡ c → Leads P (preferred A P u) f → cost P (preferred A P u) ≤ c
+  no-dearer c e (by-cost l) = omega arith
+  no-dearer c e (by-repeats l r) = omega arith
+  no-dearer c e (itself q) = omega (arith, ap (cost P) q)
+  no-dearer c e (by-bytes l r b) = omega arith
 
-  before : {f : Forest} (g : List ℕ) → bytes f ≡ g → (g ≡ bytes (cheapest A P u) → ⊥) → cost P f ≡ cost P (cheapest A P u) → NoWorse P (cheapest A P u) f → Before (bytes (cheapest A P u)) g
-  before g m n e (cheaper l) = absurd (omega arith)
-  before g m n e (same q) = absurd (n (sym m ∙ ap bytes (sym q)))
-  before g m n e (earlier l b) = rw m at b
+  before : {f : Forest} (g : List ℕ) → bytes f ≡ g → (g ≡ bytes (preferred A P u) → ⊥) → cost P f ≡ cost P (preferred A P u) → Leads P (preferred A P u) f
+      → ComesFirst (bytes (preferred A P u)) g
+  before g m n e (by-cost l) = absurd (omega arith)
+  before {f} g m n e (by-repeats l r) = fewer (omega (arith, r, repeats-bytes (preferred A P u), repeats-bytes f, ap repeats-in m))
+  before g m n e (itself q) = absurd (n (sym m ∙ ap bytes (sym q)))
+  before {f} g m n e (by-bytes l r b) = as-many (omega (arith, r, repeats-bytes (preferred A P u), repeats-bytes f, ap repeats-in m)) (rw m at b)
 
-  pub cheapest-within : CheapestWithin (bytes u) k (format-rules P) (bytes (cheapest A P u)) (best-cost A P u)
-  unfolding best-cost
+  pub cheapest-within : CheapestWithin (bytes u) k (format-rules P) (bytes (preferred A P u)) (cost P (preferred A P u))
   cheapest-within =
       record {
-        fold = is-fold (cheapest A P u) (best .fold);
+        fold = is-fold (preferred A P u) (best .fold);
         no-cheaper = λ g c z w. no-dearer c (tree-cost k P u g c z w) (against g c z w);
         first = λ g c z w e n. before g (form k P u g c z w .form) n (tree-cost k P u g c z w ∙ e) (against g c z w);
       }
@@ -161,25 +167,23 @@ module _ (s : List ℕ) (small : Bytes s) (t : Tally) (x : List ℕ) (run : read
   unfolding tally-of
   run-nodes = ap (λ (y : Tally). y .nodes) (sym (spelled .counts)) ∙ ap nodes (sym tree-is)
 
-  -- Its cheapest fold has at most four bytes for each node.
-  pub cheapest-room : (k : ℕ) (P : Prices) → length (bytes (cheapest (at-most k) P (tree-of s))) ≤ 4 * t .nodes
-  cheapest-room k P =
-      let A = at-most k in
-      let sound = sound-within (at-most 0) A (tree-of s) (omega (arith, sound-widest (at-most 0) (tree-of s) (run-shape .sound))) (run-shape .sound) in
-      omega (arith, run-nodes, cheapest-short A P (tree-of s) (record { plain = run-shape .plain refl; sound = sound }))
+  -- Its preferred fold has at most four bytes for each node.
+  pub cheapest-room : (k : ℕ) (P : Prices) → length (bytes (preferred (at-most k) P (tree-of s))) ≤ 4 * t .nodes
+  cheapest-room k P = omega (arith, run-nodes, preferred-short (at-most k) P (tree-of s) (shaped-run k (tree-of s) run-shape))
 
   -- A run has few nodes.
   pub run-few : t .nodes ≤ limits .nodes
   run-few = omega (arith, run-nodes, run-shape .total)
 
-  -- The byte form of the cheapest fold is bytes.
-  pub cheapest-small : (k : ℕ) → k ≤ limits .width → (P : Prices) → Bytes (bytes (cheapest (at-most k) P (tree-of s)))
+  -- The byte form of the preferred fold is bytes.
+  pub cheapest-small : (k : ℕ) → k ≤ limits .width → (P : Prices) → Bytes (bytes (preferred (at-most k) P (tree-of s)))
   cheapest-small k narrow P =
-      let f = cheapest (at-most k) P (tree-of s) in
+      let f = preferred (at-most k) P (tree-of s) in
       coded-bytes f (fold-shaped k P (tree-of s) f run-shape (best k narrow P (tree-of s) run-shape .fold) .coded)
 
-  -- DEMANDS 2 AND 3: the cheapest fold of the tree of an accepted run is the cheapest of all bytes.
-  pub cheapest-bytes : (k : ℕ) → k ≤ limits .width → (P : Prices) → CheapestWithin s k (format-rules P) (bytes (cheapest (at-most k) P (tree-of s))) (best-cost (at-most k) P (tree-of s))
+  -- DEMANDS 2 AND 3: the preferred fold of the tree of an accepted run is the cheapest of all bytes.
+  pub cheapest-bytes : (k : ℕ) → k ≤ limits .width → (P : Prices)
+      → CheapestWithin s k (format-rules P) (bytes (preferred (at-most k) P (tree-of s))) (cost P (preferred (at-most k) P (tree-of s)))
   cheapest-bytes k narrow P =
-      subst (λ (r : List ℕ). CheapestWithin r k (format-rules P) (bytes (cheapest (at-most k) P (tree-of s))) (best-cost (at-most k) P (tree-of s)))
+      subst (λ (r : List ℕ). CheapestWithin r k (format-rules P) (bytes (preferred (at-most k) P (tree-of s))) (cost P (preferred (at-most k) P (tree-of s))))
       run-form (cheapest-within k narrow P (tree-of s) run-shape)

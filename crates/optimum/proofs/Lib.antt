@@ -10,6 +10,7 @@ pub mod Cheapest
 pub mod Cover
 pub mod Second
 pub mod Level
+pub mod Fewest
 pub mod Demands
 pub mod Minimum
 pub mod OneTable

@@ -15,13 +15,12 @@ use Rattle.format.specs.Meaning.{Letter, Means, report, report-size}
 use Rattle.format.specs.Report.{RRT, Valid, WidthAtMost, Represents}
 use Rattle.format.specs.declared.Tally.{Tally}
 use Rattle.format.proofs.Forests.{coded-bytes}
-use Rattle.format.proofs.Bridge.{sound-widest, sound-within}
 use Rattle.format.proofs.Tree.{tree-of-bytes}
 use Rattle.format.proofs.Letters.{Lettered, fold-of, report-fold-of}
 use Rattle.format.proofs.Report.{reads-mean, cost-report, sound-fold-of, represents-lettered, represents-run}
 use Rattle.optimum.specs.Optimal.{FoldOf}
 use Rattle.optimum.specs.Demands.{CheapestWithin, MinimumTree}
-use Rattle.optimum.proofs.Demands.{form, tree-fold, tree-cost, fold-shaped, is-fold, run-form, run-shape}
+use Rattle.optimum.proofs.Demands.{shaped-run, form, tree-fold, tree-cost, fold-shaped, is-fold, run-form, run-shape}
 
 module _ (s : List ℕ) (small : Bytes s) (t : Tally) (x : List ℕ) (run : read run-rules s ≡ accepted t x)
     (k : ℕ) (narrow : k ≤ limits .width) (P : Prices) (f : List ℕ) (c : ℕ) (written : Bytes f)
@@ -57,9 +56,7 @@ module _ (s : List ℕ) (small : Bytes s) (t : Tally) (x : List ℕ) (run : read
 
   module _ (r : RRT Letter) (valid : Valid r) (within : WidthAtMost k r) (represented : Represents r (report u)) where
     sound-run : Sound (at-most k) u
-    sound-run =
-        let shape = run-shape s small t x run in
-        sound-within (at-most 0) (at-most k) u (omega (arith, sound-widest (at-most 0) u (shape .sound))) (shape .sound)
+    sound-run = shaped-run k u (run-shape s small t x run) .sound
 
     lettered : Lettered r
     lettered = represents-lettered (at-most k) r u valid sound-run represented

@@ -1,4 +1,4 @@
--- WITH EQUAL TABLES the cheapest fold is the one it was when one table priced the labels of steps and groups alike.
+-- WITH EQUAL TABLES the cheapest fold is the one that one table for the labels of steps and groups alike gives.
 use mathlib.Core.Path.{_≡_, sym, ap, _∙_}
 use mathlib.Core.Logic.{_↔_}
 use mathlib.Core.List.{List}

@@ -18,13 +18,13 @@ pub data Ranked (c h w c′ h′ w′ : ℕ) : Type 0 where
   equal : c ≡ c′ → h ≡ h′ → w ≡ w′ → Ranked c h w c′ h′ w′
 
 -- Numbers of two digits: if they are in order so are the high digits, and if the high digits are apart so are they.
-high-le : (b a d a′ d′ : ℕ) → d′ < b → a * b + d ≤ a′ * b + d′ → a ≤ a′
+pub high-le : (b a d a′ d′ : ℕ) → d′ < b → a * b + d ≤ a′ * b + d′ → a ≤ a′
 high-le b a d a′ d′ l h = elim (decLe a a′) [
   | yes i ↦ i
   | no i ↦ let e : suc a′ ≤ a = omega arith in absurd (omega (arith, mul-le-mul-right b e, suc-mul a′ b))
 ]
 
-high-lt : (b a d a′ d′ : ℕ) → d < b → a < a′ → a * b + d < a′ * b + d′
+pub high-lt : (b a d a′ d′ : ℕ) → d < b → a < a′ → a * b + d < a′ * b + d′
 high-lt b a d a′ d′ l h = omega (arith, mul-le-mul-right b h, suc-mul a b)
 
 -- The order of ranks is the order of the digits.

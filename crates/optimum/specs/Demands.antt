@@ -4,13 +4,14 @@ use mathlib.Core.List.{List}
 use Prim.Native.Nat.{ℕ, _<_, _≤_}
 use lib.ListN.{length}
 use Rattle.format.specs.Limits.{Prices}
-use Rattle.format.specs.Order.{Bytes, Before}
+use Rattle.format.specs.Order.{Bytes}
 use Rattle.format.specs.Forest.{widest-of}
 use Rattle.format.specs.Machine.{Rules}
 use Rattle.format.specs.Readings.{WellFormed}
 use Rattle.format.specs.Tree.{tree-of}
 use Rattle.format.specs.Meaning.{Letter, Means, report-of, report-size}
 use Rattle.format.specs.Report.{RRT, Valid, WidthAtMost, Represents}
+use Rattle.optimum.specs.Fewest.{ComesFirst}
 
 -- The bytes g are a fold of the run within the limit, of this cost: they are well formed by the rules, they unroll to the
 -- run byte for byte, no width operand passes the limit, and the cost is the one that is read.
@@ -22,11 +23,11 @@ pub record FoldWithin (run : List ℕ) (limit : ℕ) (R : Rules) (g : List ℕ) 
 
 -- The bytes f are the cheapest fold of the run within the limit, at this cost: they are a fold of it (demand 2), every fold
 -- of the run within the limit, whoever wrote it and however nested, costs at least as much, and every other one of exactly
--- that cost has bytes that come later (demand 3).
+-- that cost has more `20` commands, or as many and bytes that come later (demand 3).
 pub record CheapestWithin (run : List ℕ) (limit : ℕ) (R : Rules) (f : List ℕ) (cost : ℕ) : Type 0 where
   pub fold : FoldWithin run limit R f cost
   pub no-cheaper : (g : List ℕ) (c : ℕ) → Bytes g → FoldWithin run limit R g c → cost ≤ c
-  pub first : (g : List ℕ) (c : ℕ) → Bytes g → FoldWithin run limit R g c → c ≡ cost → (g ≡ f → ⊥) → Before f g
+  pub first : (g : List ℕ) (c : ℕ) → Bytes g → FoldWithin run limit R g c → c ≡ cost → (g ≡ f → ⊥) → ComesFirst f g
 
 -- The cheapest fold of the run within the limit has no room: what refusal 14 says.
 pub record CheapestOver (room : ℕ) (run : List ℕ) (limit : ℕ) (R : Rules) : Type 0 where

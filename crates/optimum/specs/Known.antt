@@ -4,11 +4,11 @@ use mathlib.Core.Path.{_≡_}
 use mathlib.Core.List.{List, [], _∷_, _++_, map}
 use Prim.Native.Nat.{ℕ}
 use Rattle.format.specs.Limits.{Prices, tariff, priced}
-use Rattle.format.specs.Forest.{bytes, at-most}
+use Rattle.format.specs.Forest.{bytes, at-most, cost}
 use Rattle.format.specs.Machine.{Outcome, refused, accepted, read, times}
 use Rattle.format.specs.Readings.{run-rules, fold-rules}
 use Rattle.format.specs.Tree.{tree-of}
-use Rattle.optimum.specs.Cheapest.{cheapest, best-cost}
+use Rattle.optimum.specs.Fewest.{preferred}
 use Rattle.optimum.specs.Verdict.{Verdict, refuses, folds, verdict}
 
 -- What is asked at a width limit and prices: the cheapest fold of a run, or what a fold reads as.
@@ -32,7 +32,7 @@ of-reading (accepted t x) = run-is x (t .cost)
 
 -- The answer of the definitions.
 unfoldable pub answer : Asked → Answer
-unfolding of-verdict of-reading read cheapest best-cost bytes tree-of
+unfolding of-verdict of-reading read preferred cost bytes tree-of
 answer (run k P s) = of-verdict (verdict (at-most k) P s (read run-rules s))
 answer (fold k P s) = of-reading (read (fold-rules k P) s)
 
@@ -97,9 +97,10 @@ known =
     -- a repeat, and none at limit 0
     ∷ run 1024 unit (a ++ a ++ a) gives fold-is (0x20 ∷ 0x00 ∷ 0x03 ∷ 0x00 ∷ 0x01 ∷ 0x10 ∷ 0x01 ∷ 0x21 ∷ []) 2
     ∷ run 0 unit (a ++ a ++ a) gives fold-is (a ++ a ++ a) 3
-    -- a tie of two counts: first 0; and each above 0
-    ∷ run 1024 (labels-at 1 0 0) (times 4 a)
-    gives fold-is (0x20 ∷ 0x00 ∷ 0x02 ∷ 0x00 ∷ 0x02 ∷ 0x20 ∷ 0x00 ∷ 0x02 ∷ 0x00 ∷ 0x01 ∷ 0x10 ∷ 0x01 ∷ 0x21 ∷ 0x21 ∷ []) 1
+    -- fewer repeats win a tie: one and two, first 0; and one and two at unit costs
+    ∷ run 1024 (labels-at 1 0 0) (times 4 a) gives fold-is (0x20 ∷ 0x00 ∷ 0x04 ∷ 0x00 ∷ 0x01 ∷ 0x10 ∷ 0x01 ∷ 0x21 ∷ []) 1
+    ∷ run 1024 unit (times 4 a ++ b ++ a ++ b) gives fold-is (0x20 ∷ 0x00 ∷ 0x04 ∷ 0x00 ∷ 0x01 ∷ 0x10 ∷ 0x01 ∷ 0x21 ∷ b ++ a ++ b) 5
+    -- each above 0
     ∷ run 1024 (labels-at 1 1 5) (times 4 a)
     gives fold-is (0x20 ∷ 0x00 ∷ 0x02 ∷ 0x00 ∷ 0x02 ∷ 0x10 ∷ 0x01 ∷ 0x10 ∷ 0x01 ∷ 0x21 ∷ []) 3
     -- equal groups with a repeat inside, at limit 1 too
@@ -117,14 +118,26 @@ known =
     -- the examples of refusals 5 and 9
     ∷ run 1024 unit (0x11 ∷ 0x05 ∷ 0x12 ∷ []) gives refusal-is 5 2
     ∷ fold 1024 unit (0x20 ∷ 0x00 ∷ 0x02 ∷ 0x00 ∷ 0x02 ∷ 0x10 ∷ 0x07 ∷ 0x21 ∷ []) gives refusal-is 9 7
-    -- more: a tie of widths, (2, 1), (2, 2) and (2, 3) at cost 2
+    -- more: a tie of six folds at cost 2: (2, 3) and (3, 2) take two repeats, (2, 1) and (2, 2) one more; then the smaller count
     ∷ run 1024 (labels-at 1 0 1) (times 6 a)
-    gives fold-is (0x20 ∷ 0x00 ∷ 0x02 ∷ 0x00 ∷ 0x01 ∷ 0x10 ∷ 0x01 ∷ 0x21 ∷ 0x20 ∷ 0x00 ∷ 0x02 ∷ 0x00 ∷ 0x02 ∷ 0x20 ∷ 0x00 ∷ 0x02 ∷ 0x00 ∷ 0x01 ∷ 0x10 ∷ 0x01 ∷ 0x21 ∷ 0x21 ∷ []) 2
-    -- more: at limit 1 the smaller count is barred, its body being one item but two siblings
-    ∷ run 1 (labels-at 1 0 0) (times 4 a) gives fold-is (0x20 ∷ 0x00 ∷ 0x04 ∷ 0x00 ∷ 0x01 ∷ 0x10 ∷ 0x01 ∷ 0x21 ∷ []) 1
+    gives fold-is (0x20 ∷ 0x00 ∷ 0x02 ∷ 0x00 ∷ 0x03 ∷ 0x10 ∷ 0x01 ∷ 0x20 ∷ 0x00 ∷ 0x02 ∷ 0x00 ∷ 0x01 ∷ 0x10 ∷ 0x01 ∷ 0x21 ∷ 0x21 ∷ []) 2
+    -- more: repeats inside a group count, and outside of it too, where three groups tie with a group and two
+    ∷ run 1024 (labels-at 1 0 0) (group-05 (times 4 a)) gives fold-is (group-05 (0x20 ∷ 0x00 ∷ 0x04 ∷ 0x00 ∷ 0x01 ∷ 0x10 ∷ 0x01 ∷ 0x21 ∷ [])) 2
+    ∷ run 1024 (labels-at 1 0 2) (times 3 (group-05 (a ++ a)))
+    gives fold-is (0x20 ∷ 0x00 ∷ 0x03 ∷ 0x00 ∷ 0x01 ∷ 0x11 ∷ 0x05 ∷ 0x20 ∷ 0x00 ∷ 0x02 ∷ 0x00 ∷ 0x01 ∷ 0x10 ∷ 0x01 ∷ 0x21 ∷ 0x12 ∷ 0x21 ∷ []) 4
+    -- more: a body's repeats count once, nested as side by side; then the plain node goes first
+    ∷ run 1024 (labels-at 1 0 1) (a ++ b ++ a ++ times 4 b)
+    gives fold-is (a ++ b ++ a ++ 0x20 ∷ 0x00 ∷ 0x02 ∷ 0x00 ∷ 0x02 ∷ 0x20 ∷ 0x00 ∷ 0x02 ∷ 0x00 ∷ 0x01 ∷ 0x10 ∷ 0x02 ∷ 0x21 ∷ 0x21 ∷ []) 4
+    -- more: with as many repeats the plain node goes first, then the smaller count, then the smaller width
+    ∷ run 1024 (labels-at 1 0 1) (times 3 a) gives fold-is (a ++ 0x20 ∷ 0x00 ∷ 0x02 ∷ 0x00 ∷ 0x01 ∷ 0x10 ∷ 0x01 ∷ 0x21 ∷ []) 2
+    ∷ run 1024 (labels-at 2 2 1) (times 4 a) gives fold-is (0x20 ∷ 0x00 ∷ 0x02 ∷ 0x00 ∷ 0x02 ∷ 0x10 ∷ 0x01 ∷ 0x10 ∷ 0x01 ∷ 0x21 ∷ []) 6
+    ∷ run 1024 (labels-at 1 0 0) (times 2 (a ++ a ++ b) ++ a ++ a)
+    gives fold-is (0x20 ∷ 0x00 ∷ 0x02 ∷ 0x00 ∷ 0x01 ∷ 0x10 ∷ 0x01 ∷ 0x21 ∷ 0x20 ∷ 0x00 ∷ 0x02 ∷ 0x00 ∷ 0x03 ∷ 0x10 ∷ 0x02 ∷ 0x20 ∷ 0x00 ∷ 0x02 ∷ 0x00 ∷ 0x01 ∷ 0x10 ∷ 0x01 ∷ 0x21 ∷ 0x21 ∷ []) 3
     -- more: each is paid for the copies past the second
     ∷ run 1024 (labels-at 3 1 1) (times 4 a)
     gives fold-is (0x20 ∷ 0x00 ∷ 0x02 ∷ 0x00 ∷ 0x02 ∷ 0x20 ∷ 0x00 ∷ 0x02 ∷ 0x00 ∷ 0x01 ∷ 0x10 ∷ 0x01 ∷ 0x21 ∷ 0x21 ∷ []) 5
+    -- the same at limit 1, which bars the nested body: it is one item but two siblings
+    ∷ run 1 (labels-at 3 1 1) (times 4 a) gives fold-is (0x20 ∷ 0x00 ∷ 0x04 ∷ 0x00 ∷ 0x01 ∷ 0x10 ∷ 0x01 ∷ 0x21 ∷ []) 6
     ∷ run 1024 (labels-at 4 3 1) (times 3 a) gives fold-is (0x20 ∷ 0x00 ∷ 0x03 ∷ 0x00 ∷ 0x01 ∷ 0x10 ∷ 0x01 ∷ 0x21 ∷ []) 8
     ∷ run 1024 (labels-at 2 3 2) (times 3 a) gives fold-is (times 3 a) 6
     -- more: equal labels do not make equal groups

@@ -1,4 +1,5 @@
--- The statement of the optimum: which fold of a run is the cheapest, ties by byte order.
+-- The statement of the optimum: which fold of a run is the cheapest at any prices, ties by byte order. At prices that count repeats,
+-- fewer repeats come before byte order (Fewest.antt).
 use mathlib.Core.Path.{_≡_}
 use Prim.Native.Nat.{_<_}
 use Rattle.format.specs.Limits.{Prices}

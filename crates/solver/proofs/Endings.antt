@@ -7,7 +7,7 @@ use native.Mathlib.Nat.{mul-le-mul-right}
 use native.Mathlib.Decide.{decLt, decLe, ℕ-discrete}
 use native.Mathlib.Omega.{arith}
 use lib.ListN.{getD}
-use Rattle.table.specs.Keys.{cost-digit, covered}
+use Rattle.table.specs.Keys.{combined-digits, covered}
 use Rattle.solver.specs.declared.row.Row.{Row}
 use Rattle.solver.specs.Ends.{Beyond, EndCame, by-plain, by-cover, by-repeat, Ending, EndRepeat, EndOffered, plain-end, cover-end, repeat-end}
 
@@ -78,7 +78,7 @@ module _ (row : Row) (prices same tails keys : List ℕ) where
   pub ending-more : (s d k r q : ℕ) → suc s ≡ d → Ending row prices same tails keys s k
       → r ≤ k → (covered (getD keys d 0) ≡ d → r ≤ cover-end row tails keys d)
       → (r ≡ k) ⊎ ((covered (getD keys d 0) ≡ d) × (r ≡ cover-end row tails keys d))
-      → (d ≤ row .limit → EndOffered row prices tails (cost-digit (getD keys d 0)) d (getD same d 0) r q) → (row .limit < d → q ≡ r)
+      → (d ≤ row .limit → EndOffered row prices tails (combined-digits (getD keys d 0)) d (getD same d 0) r q) → (row .limit < d → q ≡ r)
       → Ending row prices same tails keys d q
   ending-more s d k r q next u less follows one offers none = by-limit (decLe d (row .limit))
     where
@@ -86,7 +86,7 @@ module _ (row : Row) (prices same tails keys : List ℕ) where
       came-first = ⊎-elim (λ e. rw e (came-more s d k (omega arith) (u .came))) (λ e. by-cover d (omega arith) (omega arith) (e .0) (e .1)) one
 
       below : q ≤ r → EndCame row prices same tails keys d q
-          → ((h : ℕ) → d ≤ row .limit → Beyond row d (getD same d 0) h → q ≤ repeat-end row prices tails (cost-digit (getD keys d 0)) d h)
+          → ((h : ℕ) → d ≤ row .limit → Beyond row d (getD same d 0) h → q ≤ repeat-end row prices tails (combined-digits (getD keys d 0)) d h)
           → Ending row prices same tails keys d q
       below l came own =
           record {
@@ -106,7 +106,7 @@ module _ (row : Row) (prices same tails keys : List ℕ) where
       by-limit (yes l) =
           let o = offers l in
           below (o .lower)
-          (⊎-elim (λ e. rw e came-first) (λ (e : EndRepeat row prices tails (cost-digit (getD keys d 0)) d (getD same d 0) q).
+          (⊎-elim (λ e. rw e came-first) (λ (e : EndRepeat row prices tails (combined-digits (getD keys d 0)) d (getD same d 0) q).
           by-repeat d (e .count) (omega arith) (omega arith) l (e .beyond) (e .is-key)) (o .came))
           (λ h f b. o .offered h b)
       by-limit (no l) =

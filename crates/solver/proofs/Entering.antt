@@ -8,14 +8,14 @@ use lib.ListN.{length, getD, set, length-set}
 use lib.Seq.{getD-set-same, getD-set-other}
 use Rattle.optimum.specs.Cheapest.{back, best-cost}
 use Rattle.optimum.proofs.Cut.{front-whole, run-back, siblings-back}
-use Rattle.table.specs.Keys.{key, cost-digit, choice-digits, rest-digits, stored-key, cost-base}
-use Rattle.table.specs.Table.{Entry, Falling, Stored, stretch, cell, entry-at}
+use Rattle.table.specs.Keys.{key, cost-digit, choice-digits, rest-digits, stored-key}
+use Rattle.table.specs.Table.{BestKey, Entry, Falling, Stored, stretch, cell, entry-at}
 use Rattle.table.proofs.Cells.{cell-same}
 use Rattle.table.proofs.Tables.{falling-cell}
 use Rattle.solver.specs.declared.row.Row.{Row}
-use Rattle.solver.specs.Rows.{RowReady, RowHeld, Rowed, RowEntered, Advanced, Started, BestKey}
+use Rattle.solver.specs.Rows.{RowReady, RowHeld, Rowed, RowEntered, Advanced, Started}
 use Rattle.solver.specs.Ends.{Ending}
-use Rattle.solver.proofs.Stretches.{best-entry, best-low}
+use Rattle.solver.proofs.Stretches.{best-entry, best-combined, best-low}
 use Rattle.solver.proofs.Solving.{modest, inside, started-rowed, solved, solved-entry}
 use Rattle.solver.proofs.Lasts.{end-best}
 
@@ -77,14 +77,13 @@ module _ {costs choices numbers : List ℕ} {row : Row} {prices same tails stops
     last-low =
         let n = row .end - row .at in
         let some = z .some in
-        let l : cost-digit last < cost-base = best-low (modest z) (row .at) n last (last-best n (omega arith) (omega arith)) in
-        omega arith
+        best-low (modest z) (row .at) n last (last-best n (omega arith) (omega arith))
 
     tail-cost : (n : ℕ) → 0 < n → row .at + n ≡ row .end → rest-digits last ≡ key (best-cost (z .allowed) (z .prices-are) (back (row .at) (z .tree))) 0
     tail-cost n p e =
         let size = siblings-back (row .at) (z .tree) (z .run .plain) (omega (arith, z .some, z .all)) in
         let whole = front-whole n (back (row .at) (z .tree)) (run-back (row .at) (z .run) .plain) (omega (arith, z .all)) in
-        omega (arith, rw whole at (last-entry n p e .costs))
+        rw (best-combined (modest z) (row .at) n last (last-best n p e), whole)
 
   module _ (held : RowHeld costs choices numbers row) (some : row .at < row .end) (within : row .at + row .extent ≤ row .end)
       {costs₁ choices₁ costs₂ choices₂ tails₂ stops₂ : List ℕ} {tail : ℕ}

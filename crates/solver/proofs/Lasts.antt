@@ -8,20 +8,20 @@ use lib.ListN.{getD}
 use Rattle.format.specs.Limits.{Prices, of-repeat}
 use Rattle.format.specs.Forest.{Forest, Allowed}
 use Rattle.optimum.specs.Cheapest.{front, back, node, plain, Power, Least, usual, rank, price, best-cost}
-use Rattle.optimum.proofs.Cut.{front-whole, run-back, siblings-back}
+use Rattle.optimum.proofs.Cut.{run-back}
 use Rattle.optimum.proofs.Powers.{reach}
 use Rattle.optimum.proofs.Rank.{rank-usual}
 use Rattle.optimum.proofs.Least.{least-unique}
 use Rattle.optimum.proofs.Level.{plain-at, power-at}
-use Rattle.table.specs.Keys.{key, cost-digit, covered}
-use Rattle.table.specs.Table.{stretch}
+use Rattle.table.specs.Keys.{key, combined-digits, covered}
+use Rattle.table.specs.Table.{BestKey, stretch}
 use Rattle.solver.specs.declared.row.Row.{Row}
-use Rattle.solver.specs.Rows.{RowReady, Rowed, BestKey, Keyed, pair-key}
+use Rattle.solver.specs.Rows.{RowReady, Rowed, Keyed, pair-key}
 use Rattle.solver.specs.Ends.{Beyond, EndCame, by-plain, by-cover, by-repeat, Ending, repeat-end}
 use Rattle.solver.proofs.Offers.{near-power, power-near}
 use Rattle.solver.proofs.Extents.{drawn-body}
-use Rattle.solver.proofs.Stretches.{fitting, best-entry, best-covers, best-is, whole-price, whole-candidate, whole-power, first-candidate, first-price, first-key, keyed-best}
-use Rattle.solver.proofs.Solving.{Pair, modest, from-here, few, matched, solved}
+use Rattle.solver.proofs.Stretches.{fitting, best-combined, best-covers, best-is, whole-price, whole-candidate, whole-power, first-candidate, first-price, first-key, keyed-best}
+use Rattle.solver.proofs.Solving.{Pair, modest, from-here, few, tail-adds, matched, solved}
 
 module _ {costs choices numbers : List ℕ} {row : Row} {prices same tails stops : List ℕ}
     (z : RowReady costs choices numbers row prices same tails stops) (keys : List ℕ) (r : Rowed z (row .extent) keys) (n last : ℕ)
@@ -40,21 +40,18 @@ module _ {costs choices numbers : List ℕ} {row : Row} {prices same tails stops
 
   -- What follows the first c siblings, as the list has it.
   tail-is : (c rest : ℕ) → 0 < c → c + rest ≡ n → getD tails (i + c) 0 ≡ key (best-cost A P (front rest (back (i + c) t))) 0
-  tail-is c rest p e =
-      let size = siblings-back (i + c) t (z .run .plain) (omega (arith, z .all)) in
-      z .tailing .tail (i + c) (omega arith) (omega (arith, z .all))
-      ∙ rw (front-whole rest (back (i + c) t) (run-back (i + c) (z .run) .plain) (omega (arith, z .all)))
+  tail-is c rest p e = tail-adds z c rest p (omega arith)
 
   -- A solved stretch, and what it costs.
   its-best : (d : ℕ) → 0 < d → d ≤ row .extent → BestKey A P (stretch t i d) (getD keys d 0)
   its-best = solved z keys r
 
-  its-cost : (d : ℕ) → 0 < d → d ≤ row .extent → cost-digit (getD keys d 0) ≡ best-cost A P (stretch t i d)
-  its-cost d p l = best-entry (modest z) i d (getD keys d 0) (its-best d p l) .costs
+  its-cost : (d : ℕ) → 0 < d → d ≤ row .extent → combined-digits (getD keys d 0) ≡ best-cost A P (stretch t i d)
+  its-cost d p l = best-combined (modest z) i d (getD keys d 0) (its-best d p l)
 
   -- A repeat that covers more than is solved, with the tail behind it.
   repeat-key : (d h : ℕ) → 0 < d → d ≤ row .extent → Power A (back i t) h d → h * d ≤ n
-      → repeat-end row prices tails (cost-digit (getD keys d 0)) d h ≡ pair-key A P (stretch t i n) h d
+      → repeat-end row prices tails (combined-digits (getD keys d 0)) d h ≡ pair-key A P (stretch t i n) h d
   repeat-key d h p l q fits =
       let rest = n - h * d in
       let y = reach q in

@@ -8,8 +8,8 @@ use native.Mathlib.Omega.{arith}
 use lib.ListN.{length, getD, set, length-set}
 use lib.Seq.{getD-set-same, getD-set-other}
 use Rattle.solver.specs.declared.row.Row.{Row}
-use Rattle.table.specs.Keys.{top-key, stored-key, cost-base, key}
-use Rattle.solver.specs.Rows.{Copied, Plainly, Pushing, Started, KeysReady, TailsReady, Pushed, push, pass, skip, Widened, offer, too-wide, unlike}
+use Rattle.table.specs.Keys.{top-key, stored-key, combined-base, key}
+use Rattle.solver.specs.Rows.{behind-key, Copied, Plainly, Pushing, Started, KeysReady, TailsReady, Pushed, push, pass, skip, Widened, offer, too-wide, unlike}
 use Rattle.table.specs.Table.{key-at, rest-key}
 use Rattle.table.proofs.Listings.{entry-more, entry-all}
 
@@ -73,31 +73,31 @@ plainly-all costs choices numbers row from d before now low past p =
     }
 
 -- The lesser of what was there and what is pushed.
-abbrev pub push-key : (costs choices numbers : List ℕ) (row : Row) (c k : ℕ) → ℕ → ℕ
-push-key costs choices numbers row c k d = k + rest-key costs choices numbers (row .at + c) (row .at + d)
+abbrev pub push-key : (costs choices numbers tails : List ℕ) (row : Row) (c k : ℕ) → ℕ → ℕ
+push-key costs choices numbers tails row c k d = k + behind-key costs choices numbers tails (row .end) (row .at + c) (row .at + d)
 
-abbrev pub OfPush : (costs choices numbers : List ℕ) (row : Row) (c k : ℕ) (before : List ℕ) → ℕ → ℕ → Type 0
-OfPush costs choices numbers row c k before d x =
+abbrev pub OfPush : (costs choices numbers tails : List ℕ) (row : Row) (c k : ℕ) (before : List ℕ) → ℕ → ℕ → Type 0
+OfPush costs choices numbers tails row c k before d x =
     (d ≤ row .extent)
-    × (x ≤ push-key costs choices numbers row c k d)
+    × (x ≤ push-key costs choices numbers tails row c k d)
     × (x ≤ getD before d 0)
-    × ((x ≡ push-key costs choices numbers row c k d) ⊎ (x ≡ getD before d 0))
+    × ((x ≡ push-key costs choices numbers tails row c k d) ⊎ (x ≡ getD before d 0))
 
-pub pushing-all : (costs choices numbers : List ℕ) (row : Row) (c k from d : ℕ) (before now : List ℕ) → row .extent < d
-    → Put (OfPush costs choices numbers row c k before) from d before now → Pushing costs choices numbers row c k from before now
-pushing-all costs choices numbers row c k from d before now past p =
+pub pushing-all : (costs choices numbers tails : List ℕ) (row : Row) (c k from d : ℕ) (before now : List ℕ) → row .extent < d
+    → Put (OfPush costs choices numbers tails row c k before) from d before now → Pushing costs choices numbers tails row c k from before now
+pushing-all costs choices numbers tails row c k from d before now past p =
     record {
       same-length = p .same-length;
       lower = put-all _ _ _ _ _ p (λ e x. x ≤ getD before e 0) (λ e. omega arith) (λ e x l q. q .2);
       pushed = λ e l m. p .put e l (omega arith) .1;
       came = put-all _ _ _ _ _ p
-          (λ e x. (x ≡ getD before e 0) ⊎ ((from ≤ e) × (e ≤ row .extent) × (x ≡ push-key costs choices numbers row c k e)))
+          (λ e x. (x ≡ getD before e 0) ⊎ ((from ≤ e) × (e ≤ row .extent) × (x ≡ push-key costs choices numbers tails row c k e)))
           (λ e. inl refl)
           (λ e x l q. ⊎-elim (λ z. inr (l, q .0, z)) (λ z. inl z) (q .3));
     }
 
 -- After a copy, the key of the one sibling may be put in.
-pub one-ready : {costs choices numbers : List ℕ} {j n own k : ℕ} {start between : List ℕ} → k ≡ key own 0 → KeysReady start → own < cost-base
+pub one-ready : {costs choices numbers : List ℕ} {j n own k : ℕ} {start between : List ℕ} → k ≡ key own 0 → KeysReady start → own < combined-base
     → Copied costs choices numbers j n start between → KeysReady (set between 1 k)
 one-ready {k = k} {between = between} e ready small copied =
     record {
@@ -124,8 +124,8 @@ started costs choices numbers row from k start between keys e ready twice past f
 ready-lower : {before after : List ℕ} → KeysReady before → length after ≡ length before → ((c : ℕ) → getD after c 0 ≤ getD before c 0) → KeysReady after
 ready-lower k e l = record { long = e ∙ k .long; low = λ c. omega (arith, l c, k .low c) }
 
-pub pushed-ready : {costs choices numbers : List ℕ} {row : Row} {stops : List ℕ} {d k : ℕ} {before after : List ℕ} → KeysReady before
-    → Pushed costs choices numbers row stops d k before after → KeysReady after
+pub pushed-ready : {costs choices numbers tails : List ℕ} {row : Row} {stops : List ℕ} {d k : ℕ} {before after : List ℕ} → KeysReady before
+    → Pushed costs choices numbers tails row stops d k before after → KeysReady after
 pushed-ready r (push from a b c f p) = ready-lower r (p .same-length) (p .lower)
 pushed-ready r (pass f x) = rw x r
 pushed-ready r (skip a b c x) = rw x r

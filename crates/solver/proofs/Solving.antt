@@ -1,27 +1,30 @@
 -- Solving a row: the keys that it starts from, what one more solved stretch does to those of longer ones, and the end.
 use mathlib.Core.Path.{_≡_, refl, sym, ap, _∙_}
+use mathlib.Core.Bool.{Bool, true, false}
 use mathlib.Core.Logic.{_⊎_, ⊎-elim}
 use mathlib.Core.List.{List}
 use Prim.Native.Nat.{ℕ, suc, _+_, _-_, _*_, _<_, _≤_}
 use native.Mathlib.Nat.{mul-le-mul, mul-le-mul-right}
 use native.Mathlib.Decide.{decLt, ℕ-discrete}
 use native.Mathlib.Omega.{arith}
+use lib.Dec.{eqb}
 use lib.ListN.{getD}
+use borrow.Author.Tests.{eqb-true}
 use Rattle.format.specs.Limits.{Prices, of-repeat}
 use Rattle.format.specs.Forest.{Forest, Allowed, siblings}
 use Rattle.optimum.specs.Cheapest.{Run, front, back, Candidate, plain, power, Power, Least, usual, rank, best-cost}
-use Rattle.optimum.proofs.Cut.{back-back, back-piece, front-front, run-back, siblings-back, siblings-piece, siblings-le-nodes}
+use Rattle.optimum.proofs.Cut.{back-back, back-piece, front-front, front-whole, run-back, siblings-back, siblings-piece, siblings-le-nodes}
 use Rattle.optimum.proofs.Powers.{front-less, reach}
 use Rattle.optimum.proofs.Rank.{rank-usual}
 use Rattle.optimum.proofs.Least.{least-unique}
 use Rattle.optimum.proofs.Second.{Second, second}
-use Rattle.table.specs.Keys.{cost-digit, choice-digits, count-digit, width-digit, covered, cost-base}
-use Rattle.table.specs.Table.{Entry, stretch, entry-at, rest-key}
+use Rattle.table.specs.Keys.{key, combined-digits, cost-digit, choice-digits, count-digit, width-digit, covered, combined-base, stored-key}
+use Rattle.table.specs.Table.{BestKey, Entry, stretch, entry-at, key-at, rest-key}
 use Rattle.solver.specs.declared.row.Row.{Row}
-use Rattle.solver.specs.Rows.{RowReady, RowFits, Rowed, KeysReady, top-cover, Advanced, Started, Settled, Pushed, push, pass, skip, Widened, offer, too-wide, unlike, NoneBehind, Matched, BestKey, Keyed, Came, pair-key, offer-key}
+use Rattle.solver.specs.Rows.{behind-key, RowReady, RowFits, RowLow, Rowed, KeysReady, top-cover, Advanced, Started, Settled, Pushed, push, pass, skip, Widened, offer, too-wide, unlike, NoneBehind, Matched, Keyed, Came, pair-key, offer-key}
 use Rattle.solver.proofs.Offers.{copy-more, near-power, power-near}
 use Rattle.solver.proofs.Extents.{drawn-within, drawn-closed}
-use Rattle.solver.proofs.Stretches.{Modest, fitting, piece, cost-low, entry-best, best-entry, best-covers, best-low, best-is, best-keyed, best-one, whole-price, whole-candidate, first-candidate, first-price, first-key, keyed-best, keyed-plain}
+use Rattle.solver.proofs.Stretches.{Modest, fitting, piece, cost-low, best-entry, best-combined, best-covers, best-low, best-is, best-keyed, best-one, whole-price, whole-candidate, first-candidate, first-price, first-key, keyed-best, keyed-plain}
 
 -- A pair that may stand first, by its key.
 pub record Pair (A : Allowed) (P : Prices) (x : Forest) (k : ℕ) : Type 0 where
@@ -36,14 +39,14 @@ covering-power h w c e pos plain = absurd (omega arith)
 covering-power h w c e pos (power p) = p
 
 -- The keys of up to `span` siblings stay.
-push-keeps : {costs choices numbers : List ℕ} (row : Row) {stops : List ℕ} {d k : ℕ} {before after : List ℕ} → Pushed costs choices numbers row stops d k before after
+push-keeps : {costs choices numbers tails : List ℕ} (row : Row) {stops : List ℕ} {d k : ℕ} {before after : List ℕ} → Pushed costs choices numbers tails row stops d k before after
     → (n : ℕ) → n ≤ row .span → getD after n 0 ≡ getD before n 0
 push-keeps row (push from a b c f p) n l = ⊎-elim (λ x. x) (λ x. absurd (omega arith)) (p .came n)
 push-keeps row (pass f x) n l = rw x
 push-keeps row (skip a b c x) n l = rw x
 
 -- And so does that of the stretch itself.
-pub push-own : {costs choices numbers : List ℕ} {row : Row} {stops : List ℕ} {d k : ℕ} {before after : List ℕ} → Pushed costs choices numbers row stops d k before after
+pub push-own : {costs choices numbers tails : List ℕ} {row : Row} {stops : List ℕ} {d k : ℕ} {before after : List ℕ} → Pushed costs choices numbers tails row stops d k before after
     → getD after d 0 ≡ getD before d 0
 push-own {d = d} (push from a b c f p) = ⊎-elim (λ x. x) (λ x. absurd (omega arith)) (p .came d)
 push-own (pass f x) = rw x
@@ -105,12 +108,30 @@ module _ {costs choices numbers : List ℕ} {row : Row} {prices same tails stops
       rw (z .numbers-are .numbered j (omega (arith, z .all)), z .numbers-are .numbered (j + n) (omega (arith, z .all)))
       (z .rows-below .short j n (omega arith) p (omega (arith, z .all)) s)
 
-  -- The cost of what follows the first c of n siblings.
-  rest-cost : (c r n : ℕ) → 0 < c → 0 < r → c + r ≡ n → n ≤ extent
-      → entry-at costs numbers (i + c) (i + n) ≡ best-cost A P (front r (back (i + c) t))
-  rest-cost c r n p q e h =
+  -- The key of what follows the first c of n siblings, and what that adds to the key of an item in front of it.
+  rest-best : (c r n : ℕ) → 0 < c → 0 < r → c + r ≡ n → n ≤ extent → BestKey A P (stretch t (i + c) r) (key-at costs choices numbers (i + c) (i + n))
+  rest-best c r n p q e h =
       let f : i + c + r ≡ i + n = omega arith in
-      rw (← f) (entered (i + c) r (omega arith) q (omega (arith, inside)) (ends-solved c r n p e h) .costs)
+      rw (← f) (entered (i + c) r (omega arith) q (omega (arith, inside)) (ends-solved c r n p e h) .best)
+
+  rest-adds : (c r n : ℕ) → 0 < c → 0 < r → c + r ≡ n → n ≤ extent
+      → rest-key costs choices numbers (i + c) (i + n) ≡ key (best-cost A P (front r (back (i + c) t))) 0
+  rest-adds c r n p q e h = rw (best-combined modest (i + c) r (key-at costs choices numbers (i + c) (i + n)) (rest-best c r n p q e h))
+
+  -- What follows them up to the end, as the list of tails has it; and what either of the two adds.
+  pub tail-adds : (c r : ℕ) → 0 < c → i + c + r ≡ m → getD tails (i + c) 0 ≡ key (best-cost A P (front r (back (i + c) t))) 0
+  tail-adds c r p e =
+      let size = siblings-back (i + c) t (z .run .plain) (omega (arith, z .all)) in
+      z .tailing .tail (i + c) (omega arith) (omega (arith, z .all))
+      ∙ rw (front-whole r (back (i + c) t) (run-back (i + c) (z .run) .plain) (omega (arith, z .all)))
+
+  behind-adds : (c r n : ℕ) → 0 < c → 0 < r → c + r ≡ n → n ≤ extent
+      → behind-key costs choices numbers tails m (i + c) (i + n) ≡ key (best-cost A P (front r (back (i + c) t))) 0
+  behind-adds c r n p q e h = by-end (eqb (i + n) m) refl
+    where
+      by-end : (b : Bool) → eqb (i + n) m ≡ b → behind-key costs choices numbers tails m (i + c) (i + n) ≡ key (best-cost A P (front r (back (i + c) t))) 0
+      by-end true f = let last : i + n ≡ m = eqb-true _ _ f in rw f (tail-adds c r p (omega arith))
+      by-end false f = rw f (rest-adds c r n p q e h)
 
   pub matched : (w : ℕ) → 0 < w → i + w ≤ m → Matched (back i t) w (getD same w 0)
   matched w p h = z .matches .matched w p (omega (arith, from-here))
@@ -119,7 +140,7 @@ module _ {costs choices numbers : List ℕ} {row : Row} {prices same tails stops
   pub match-low : (w : ℕ) → 0 < w → i + w ≤ m → i + w + getD same w 0 ≤ m
   match-low w p h = let d = matched w p h in omega (arith, from-here)
 
-  own-low : row .own < cost-base
+  own-low : row .own < combined-base
   own-low = omega (arith, z .own-cost, cost-low modest i 1)
 
   pub row-fits : RowFits row
@@ -132,6 +153,16 @@ module _ {costs choices numbers : List ℕ} {row : Row} {prices same tails stops
         taken = omega (arith, d .spans, match-low (row .shift) (d .some) (d .near));
         under = d .under;
         within = inside;
+      }
+
+  -- What the row reads of the table is low.
+  pub row-low : RowLow costs choices numbers row
+  row-low =
+      let d = z .drawn in
+      record {
+        rests = λ c n p l h. best-low modest (i + c) (n - c) _ (rest-best c (n - c) n p (omega arith) (omega arith) h);
+        taken = λ c p l. best-low modest (i + row .shift) c _
+            (entered (i + row .shift) c (omega (arith, d .some)) p (omega (arith, row-fits .taken)) (omega (arith, d .entered)) .best);
       }
 
   -- What the row starts from: where its siblings are those `shift` further on, the key is that row's.
@@ -153,7 +184,7 @@ module _ {costs choices numbers : List ℕ} {row : Row} {prices same tails stops
         by-place (yes l) =
             let d = z .drawn in
             rw (s .copied n l h, same-stretch)
-            (entry-best _ _ _ _ _ (entered (i + row .shift) n (omega (arith, d .some)) p (omega (arith, row-fits .taken)) (omega (arith, d .entered))))
+            (entered (i + row .shift) n (omega (arith, d .some)) p (omega (arith, row-fits .taken)) (omega (arith, d .entered)) .best)
         by-place (no l) = let e : n ≡ 1 = omega arith in rw e started-one
 
     started-keyed : (n : ℕ) → 0 < n → n ≤ extent → Keyed A P t i 0 n (getD keys n 0)
@@ -164,7 +195,7 @@ module _ {costs choices numbers : List ℕ} {row : Row} {prices same tails stops
         by-place (no d) (yes l) = let e : n ≡ 1 = omega arith in rw e (best-keyed modest i 0 1 (getD keys 1 0) started-one)
         by-place (yes d) (yes l) =
             keyed-plain modest i (n - 1) n (getD keys n 0) (omega arith)
-            (omega (arith, s .plain n d l h, z .own-cost, rest-cost 1 (n - 1) n (omega arith) (omega arith) (omega arith) h))
+            (omega (arith, s .plain n d l h, z .own-cost, rest-adds 1 (n - 1) n (omega arith) (omega arith) (omega arith) h))
 
     pub started-rowed : Rowed z 0 keys
     started-rowed = record { final = started-final; keyed = started-keyed }
@@ -207,15 +238,15 @@ module _ {costs choices numbers : List ℕ} {row : Row} {prices same tails stops
 
   -- One solved stretch more, of d siblings.
   module _ (e d : ℕ) (before after : List ℕ) (next : suc e ≡ d) (more : d ≤ extent) (r : Rowed z e before)
-      (s : Settled costs choices numbers row prices stops d (getD same d 0) before after) where
+      (s : Settled costs choices numbers tails row prices stops d (getD same d 0) before after) where
     abbrev k : ℕ
     k = getD before d 0
 
     abbrev IsPushed : Type 0
-    IsPushed = Pushed costs choices numbers row stops d k before (s .between)
+    IsPushed = Pushed costs choices numbers tails row stops d k before (s .between)
 
     abbrev IsWidened : Type 0
-    IsWidened = Widened row prices (cost-digit k) d (s .room) (s .between) after
+    IsWidened = Widened row prices (combined-digits k) d (s .room) (s .between) after
 
     best : BestKey A P (stretch t i d) k
     best = keyed-best modest i e d k (omega arith) (omega arith) (omega (arith, inside, z .all)) (r .keyed d (omega arith) more)
@@ -227,12 +258,12 @@ module _ {costs choices numbers : List ℕ} {row : Row} {prices same tails stops
     covers : covered k ≡ best .count * best .width
     covers = best-covers modest i d k best
 
-    its-cost : cost-digit k ≡ best-cost A P (stretch t i d)
-    its-cost = best-entry modest i d k best .costs
+    its-cost : combined-digits k ≡ best-cost A P (stretch t i d)
+    its-cost = best-combined modest i d k best
 
     -- The key of a repeat of it.
     key-is : (h : ℕ) → 2 ≤ h → h ≤ 1024
-        → offer-key prices (cost-digit k) d h
+        → offer-key prices (combined-digits k) d h
         ≡ rank usual (of-repeat P h + best-cost A P (stretch t i d)) h d
     key-is h l l′ =
         omega (
@@ -245,10 +276,10 @@ module _ {costs choices numbers : List ℕ} {row : Row} {prices same tails stops
     -- The key of what is left put behind it.
     module _ (n : ℕ) (some : d < n) (h : n ≤ extent) where
       follows : (g v : ℕ) → g * v ≡ d → Least A P usual (best-cost A P) (stretch t i d) g v
-          → k + rest-key costs choices numbers (i + d) (i + n)
+          → k + behind-key costs choices numbers tails m (i + d) (i + n)
           ≡ rank usual (best-cost A P (stretch t i d) + best-cost A P (front (n - d) (back (i + d) t))) g v
       follows g v f l =
-          rw (best-is modest i d g v k best l, rest-cost d (n - d) n (omega arith) (omega arith) (omega arith) h)
+          rw (best-is modest i d g v k best l, behind-adds d (n - d) n (omega arith) (omega arith) (omega arith) h)
           (first-key modest i (i + d) d (n - d) n g v refl (omega arith) (omega arith) f l)
 
     -- No key rises.
@@ -300,7 +331,7 @@ module _ {costs choices numbers : List ℕ} {row : Row} {prices same tails stops
       pair-after : IsWidened → Pair A P (stretch t i n) (getD after n 0)
       pair-after (offer from a b c f p) = ⊎-elim
           (λ x. rw x (pair-between (s .pushed)))
-          (λ (x : Came prices (cost-digit k) d (s .room) from n (getD after n 0)).
+          (λ (x : Came prices (combined-digits k) d (s .room) from n (getD after n 0)).
           let q = near-power (x .count) d (getD same d 0) z-run (omega arith) (omega (arith, z .limited)) its-match (omega (arith, x .late)) (omega (arith, x .near, s .roomy .less)) in
           let y = reach q in
           record {
@@ -392,7 +423,7 @@ module _ {costs choices numbers : List ℕ} {row : Row} {prices same tails stops
     pub solved-entry : Entry A P (stretch t i n) (cost-digit (getD keys n 0)) (choice-digits (getD keys n 0))
     solved-entry = best-entry modest i n (getD keys n 0) solved
 
-    pub solved-low : cost-digit (getD keys n 0) < cost-base
+    pub solved-low : getD keys n 0 < stored-key
     solved-low = best-low modest i n (getD keys n 0) solved
 
 -- The digits of a key bound what it covers.
@@ -409,7 +440,7 @@ module _ {costs choices numbers : List ℕ} {row : Row} {prices same tails stops
   pub advanced-more : (e d : ℕ) (now after : List ℕ) (long longer : ℕ) → suc e ≡ d → d ≤ row .extent
       → Advanced costs choices numbers row prices same tails stops e before now long
       → long ≤ longer → covered (getD now d 0) ≤ longer → ((c : ℕ) → long ≤ c → covered (getD now d 0) ≤ c → longer ≤ c)
-      → KeysReady after → Settled costs choices numbers row prices stops d (getD same d 0) now after
+      → KeysReady after → Settled costs choices numbers tails row prices stops d (getD same d 0) now after
       → Advanced costs choices numbers row prices same tails stops d before after longer
   advanced-more e d now after long longer next more a less most least k s =
       record {
@@ -424,6 +455,6 @@ module _ {costs choices numbers : List ℕ} {row : Row} {prices same tails stops
         ];
       }
     where
-      still : (n : ℕ) → n ≤ row .span → Pushed costs choices numbers row stops d (getD now d 0) now (s .between)
-          → Widened row prices (cost-digit (getD now d 0)) d (s .room) (s .between) after → getD after n 0 ≡ getD now n 0
+      still : (n : ℕ) → n ≤ row .span → Pushed costs choices numbers tails row stops d (getD now d 0) now (s .between)
+          → Widened row prices (combined-digits (getD now d 0)) d (s .room) (s .between) after → getD after n 0 ≡ getD now n 0
       still n l p w = widen-keeps row w n l ∙ push-keeps row p n l

@@ -12,13 +12,14 @@ use Rattle.optimum.proofs.Least.{price-piece, least-one, least-unique}
 use Rattle.optimum.proofs.Level.{plain-at, power-at, bound-at}
 use Rattle.optimum.proofs.Cover.{least-by-cover}
 use Rattle.optimum.proofs.Cheapest.{best-cost-run, best-cost-end, best-cost-least}
-use Rattle.table.specs.Keys.{packed, key, cost-digit, choice-digits, count-digit, width-digit, covered, cost-base}
-use Rattle.table.specs.Table.{Entry, stretch}
-use Rattle.solver.specs.Rows.{BestKey, Keyed, pair-key}
+use Rattle.table.specs.Keys.{factor, key, combined-digits, cost-digit, choice-digits, covered, stored-key}
+use Rattle.table.specs.Table.{BestKey, Entry, stretch}
+use Rattle.table.proofs.Digits.{digits, combined-is, count-is, width-is}
+use Rattle.solver.specs.Rows.{Keyed, pair-key}
 
--- A run costs at most 65,535 for each node, where labels have prices of 16 bits.
-cost-most : (P : Prices) → ((l : ℕ) → P .of-step l < 65536) → ((l : ℕ) → P .of-group l < 65536) → (t : Forest) → Plain t
-    → cost P t ≤ 65535 * nodes t
+-- A run costs at most 65,535 times the factor for each node, where labels have prices of 16 bits and repeats are counted.
+cost-most : (P : Prices) → ((l : ℕ) → P .of-step l ≤ 65535 * factor) → ((l : ℕ) → P .of-group l ≤ 65535 * factor) → (t : Forest) → Plain t
+    → cost P t ≤ 65535 * factor * nodes t
 unfolding cost nodes
 cost-most P s g end p = omega arith
 cost-most P s g (step l f) p = omega (arith, s l, cost-most P s g f p)
@@ -29,18 +30,8 @@ cost-most P s g (repeat h w b f) p = absurd p
 pub record Modest (A : Allowed) (P : Prices) (t : Forest) : Type 0 where
   pub run : Run A t
   pub few : nodes t ≤ 1024
-  pub step-low : (l : ℕ) → P .of-step l < 65536
-  pub group-low : (l : ℕ) → P .of-group l < 65536
-
--- The entry of a stretch, and its key.
-pub entry-best : (A : Allowed) (P : Prices) (x : Forest) (c k : ℕ) → Entry A P x c k → BestKey A P x (key c k)
-entry-best A P x c k e =
-    record {
-      count = e .count;
-      width = e .width;
-      least = e .least;
-      is-rank = omega (arith, e .costs, e .chosen, rank-usual (best-cost A P x) (e .count) (e .width));
-    }
+  pub step-low : (l : ℕ) → P .of-step l ≤ 65535 * factor
+  pub group-low : (l : ℕ) → P .of-group l ≤ 65535 * factor
 
 module _ {A : Allowed} {P : Prices} {t : Forest} (g : Modest A P t) (i : ℕ) where
   rest : Run A (back i t)
@@ -49,8 +40,8 @@ module _ {A : Allowed} {P : Prices} {t : Forest} (g : Modest A P t) (i : ℕ) wh
   pub piece : (n : ℕ) → Run A (stretch t i n)
   piece n = run-front n rest
 
-  -- The costs are far below 32 bits.
-  pub cost-low : (n : ℕ) → best-cost A P (stretch t i n) ≤ 65535 * 1024
+  -- Cost and repeats, combined, are below 36 bits.
+  pub cost-low : (n : ℕ) → best-cost A P (stretch t i n) ≤ 65535 * factor * 1024
   cost-low n =
       omega (
         arith,
@@ -67,29 +58,23 @@ module _ {A : Allowed} {P : Prices} {t : Forest} (g : Modest A P t) (i : ℕ) wh
       spans-front n (rest .plain)
       (spans-usual A (back i t) (omega (arith, siblings-le-nodes (back i t) (rest .plain), nodes-cut i t, g .few)))
 
-  -- The digits of a key are the cost and the packed pair.
+  -- What a key says of its stretch.
   module _ (n k : ℕ) (b : BestKey A P (stretch t i n) k) where
-    digits : (b .count < usual .counts) × (b .width < usual .widths) × (k ≡ key (best-cost A P (stretch t i n)) (packed (b .count) (b .width)))
-    digits = (
-      fitting n .count (b .count) (b .width) (b .least .candidate),
-      fitting n .width (b .count) (b .width) (b .least .candidate),
-      omega (arith, b .is-rank, rank-usual (best-cost A P (stretch t i n)) (b .count) (b .width)),
-    )
-
     pub best-entry : Entry A P (stretch t i n) (cost-digit k) (choice-digits k)
     best-entry =
-        let d = digits in
-        record { costs = omega arith; count = b .count; width = b .width; chosen = omega arith; least = b .least }
+        record {
+          best = record { count = b .count; width = b .width; least = b .least; is-rank = omega (arith, b .is-rank) };
+          apart = omega arith;
+        }
+
+    pub best-combined : combined-digits k ≡ best-cost A P (stretch t i n)
+    best-combined = combined-is b (fitting n)
 
     pub best-covers : covered k ≡ b .count * b .width
-    best-covers =
-        let d = digits in
-        let h : count-digit k ≡ b .count = omega arith in
-        let w : width-digit k ≡ b .width = omega arith in
-        rw (h, w)
+    best-covers = rw (count-is b (fitting n), width-is b (fitting n))
 
-    pub best-low : cost-digit k < cost-base
-    best-low = let d = digits in omega (arith, cost-low n)
+    pub best-low : k < stored-key
+    best-low = omega (arith, digits b (fitting n), cost-low n)
 
     is-pair : k ≡ pair-key A P (stretch t i n) (b .count) (b .width)
     is-pair = b .is-rank ∙ rw (best-cost-least A P usual (stretch t i n) (b .count) (b .width) (piece n) (fitting n) (b .least))

@@ -4,7 +4,7 @@ use mathlib.Core.Logic.{_⊎_}
 use mathlib.Core.List.{List}
 use Prim.Native.Nat.{ℕ, _+_, _-_, _*_, _<_, _≤_}
 use lib.ListN.{getD}
-use Rattle.table.specs.Keys.{key, cost-digit, covered}
+use Rattle.table.specs.Keys.{key, combined-digits, covered}
 use Rattle.solver.specs.declared.row.Row.{Row}
 use Rattle.solver.specs.Rows.{offer-key}
 
@@ -30,7 +30,7 @@ pub data EndCame (row : Row) (prices same tails keys : List ℕ) (s k : ℕ) : T
   by-plain : k ≡ plain-end row tails → EndCame row prices same tails keys s k
   by-cover : (d : ℕ) → 0 < d → d ≤ s → covered (getD keys d 0) ≡ d → k ≡ cover-end row tails keys d → EndCame row prices same tails keys s k
   by-repeat : (d h : ℕ) → 0 < d → d ≤ s → d ≤ row .limit → Beyond row d (getD same d 0) h
-      → k ≡ repeat-end row prices tails (cost-digit (getD keys d 0)) d h → EndCame row prices same tails keys s k
+      → k ≡ repeat-end row prices tails (combined-digits (getD keys d 0)) d h → EndCame row prices same tails keys s k
 
 -- and the least of them.
 pub record Ending (row : Row) (prices same tails keys : List ℕ) (s k : ℕ) : Type 0 where
@@ -38,7 +38,7 @@ pub record Ending (row : Row) (prices same tails keys : List ℕ) (s k : ℕ) : 
   pub plain : k ≤ plain-end row tails
   pub cover : (d : ℕ) → 0 < d → d ≤ s → covered (getD keys d 0) ≡ d → k ≤ cover-end row tails keys d
   pub repeats : (d h : ℕ) → 0 < d → d ≤ s → d ≤ row .limit → Beyond row d (getD same d 0) h
-      → k ≤ repeat-end row prices tails (cost-digit (getD keys d 0)) d h
+      → k ≤ repeat-end row prices tails (combined-digits (getD keys d 0)) d h
 
 -- What one width offers: the key stays, or is that of a repeat of it.
 pub record EndRepeat (row : Row) (prices tails : List ℕ) (cost d span k : ℕ) : Type 0 where

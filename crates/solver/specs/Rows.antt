@@ -1,15 +1,18 @@
 -- One row of the table: the stretches that begin at one sibling. Those of up to as many siblings as the row's extent are solved, and
--- the one up to the sequence's end.
+-- the one up to the sequence's end. The prices count repeats, so that every cost is cost and repeats, combined.
 use mathlib.Core.Path.{_≡_}
+use mathlib.Core.Bool.{cond}
 use mathlib.Core.Logic.{_⊎_}
 use mathlib.Core.List.{List}
 use Prim.Native.Nat.{ℕ, _+_, _-_, _*_, _<_, _≤_}
+use lib.Dec.{eqb}
 use lib.ListN.{length, getD, set}
 use Rattle.format.specs.Limits.{Prices, of-repeat}
 use Rattle.format.specs.Forest.{Forest, Allowed, siblings, nodes}
+use Rattle.optimum.specs.Fewest.{combined}
 use Rattle.optimum.specs.Cheapest.{Run, front, back, node, rank, usual, price, Candidate, Power, Least, best-cost}
-use Rattle.table.specs.Keys.{packed, key, cost-digit, covered, cost-base, stored-key, top-price, top-key}
-use Rattle.table.specs.Table.{Entry, cell, number, Falling, Stored, entry-at, key-at, rest-key, stretch}
+use Rattle.table.specs.Keys.{factor, packed, key, combined-digits, covered, combined-base, stored-key, top-price, top-key}
+use Rattle.table.specs.Table.{BestKey, Entry, cell, number, Falling, Stored, entry-at, key-at, rest-key, stretch}
 use Rattle.table.specs.Listing.{Numbered, Classed}
 use Rattle.solver.specs.declared.row.Row.{Row}
 use Rattle.solver.specs.declared.matches.Source.{Source}
@@ -18,7 +21,7 @@ use Rattle.solver.specs.declared.matches.Source.{Source}
 pub record RowFits (row : Row) : Type 0 where
   pub few : row .end ≤ 1024
   pub some : row .at < row .end
-  pub low : row .own < cost-base
+  pub low : row .own < combined-base
   pub taken : row .at + row .shift + row .span ≤ row .end
   pub under : row .span ≤ row .extent
   pub within : row .at + row .extent ≤ row .end
@@ -26,6 +29,16 @@ pub record RowFits (row : Row) : Type 0 where
 -- Both work slices have the entries of the sequence's stretches.
 abbrev pub RowHeld : (costs choices numbers : List ℕ) (row : Row) → Type 0
 RowHeld costs choices numbers row = Falling numbers (row .end) (length costs) × Falling numbers (row .end) (length choices)
+
+-- What the row reads there is low, far below the 64 bits that two entries can hold: the rests of its stretches, and the keys that it takes
+-- over.
+pub record RowLow (costs choices numbers : List ℕ) (row : Row) : Type 0 where
+  pub rests : (c d : ℕ) → 0 < c → c < d → d ≤ row .extent → key-at costs choices numbers (row .at + c) (row .at + d) < stored-key
+  pub taken : (c : ℕ) → 0 < c → c ≤ row .span → key-at costs choices numbers (row .at + row .shift) (row .at + row .shift + c) < stored-key
+
+abbrev pub RowRead : (costs choices numbers : List ℕ) (row : Row) → Type 0
+RowRead costs choices numbers row =
+    Falling numbers (row .end) (length costs) × Falling numbers (row .end) (length choices) × RowLow costs choices numbers row
 
 -- The keys, the prices and what the tails add, as they may be worked on.
 pub record KeysReady (keys : List ℕ) : Type 0 where
@@ -40,10 +53,10 @@ pub record TailsReady (tails : List ℕ) : Type 0 where
   pub long : length tails ≡ 1025
   pub low : (j : ℕ) → getD tails j 0 ≤ stored-key
 
--- The price of each count, as a list.
+-- The price of each count, as a list; combined with the one repeat that it buys it is the price that counts repeats.
 pub record Priced (P : Prices) (prices : List ℕ) : Type 0 where
   pub ready : PricesReady prices
-  pub price-of : (h : ℕ) → 2 ≤ h → h ≤ 1024 → getD prices h 0 ≡ of-repeat P h
+  pub price-of : (h : ℕ) → 2 ≤ h → h ≤ 1024 → combined factor (getD prices h 0) 1 ≡ of-repeat P h
 
 -- k siblings from the first on equal the one w further, and no more.
 pub record Matched (T : Forest) (w k : ℕ) : Type 0 where
@@ -99,13 +112,6 @@ pub record Wider (w k further : ℕ) (g r : Source) : Type 0 where
 abbrev pub pair-key : Allowed → Prices → Forest → (h w : ℕ) → ℕ
 pair-key A P x h w = rank usual (price P (best-cost A P) x h w) h w
 
--- A key of a stretch: that of its least pair.
-pub record BestKey (A : Allowed) (P : Prices) (t : Forest) (k : ℕ) : Type 0 where
-  pub count : ℕ
-  pub width : ℕ
-  pub least : Least A P usual (best-cost A P) t count width
-  pub is-rank : k ≡ rank usual (best-cost A P t) count width
-
 -- A key that one of the candidates of the n siblings from sibling i on has, and that is at most those of the plain node, of the
 -- repeats of width up to s that cover all, and of those that cover no more than s, are cheapest by themselves, leave something and are
 -- first in the whole.
@@ -122,7 +128,7 @@ pub record Keyed (A : Allowed) (P : Prices) (t : Forest) (i s n k : ℕ) : Type 
 
 -- The key of the repeat of count h and width d, whose body costs `cost`, by itself.
 abbrev pub offer-key : List ℕ → (cost d h : ℕ) → ℕ
-offer-key prices cost d h = key (cost + getD prices h 0) (packed h d)
+offer-key prices cost d h = key (cost + combined factor (getD prices h 0) 1) (packed h d)
 
 -- A key at cover c that one of the counts from `from` on gave.
 pub record Came (prices : List ℕ) (cost d span from c k : ℕ) : Type 0 where
@@ -139,13 +145,18 @@ pub record Offering (prices : List ℕ) (cost d span from : ℕ) (before after :
   pub offered : (g : ℕ) → from ≤ g → (g - 1) * d ≤ span → getD after (g * d) 0 ≤ offer-key prices cost d g
   pub came : (c : ℕ) → (getD after c 0 ≡ getD before c 0) ⊎ Came prices cost d span from c (getD after c 0)
 
--- What a repeat that covers c siblings at the key k does to the keys of `from` and more siblings, the rest's cost added.
-pub record Pushing (costs choices numbers : List ℕ) (row : Row) (c k from : ℕ) (before after : List ℕ) : Type 0 where
+-- What the stretch from sibling i up to sibling j adds to the key of an item that it follows: up to the sequence's end what the tail adds,
+-- so that no entry has to be read for it, else what the table has.
+abbrev pub behind-key : (costs choices numbers tails : List ℕ) (end i j : ℕ) → ℕ
+behind-key costs choices numbers tails end i j = cond (eqb j end) (getD tails i 0) (rest-key costs choices numbers i j)
+
+-- What a repeat that covers c siblings at the key k does to the keys of `from` and more siblings, what the rest adds added.
+pub record Pushing (costs choices numbers tails : List ℕ) (row : Row) (c k from : ℕ) (before after : List ℕ) : Type 0 where
   pub same-length : length after ≡ length before
   pub lower : (d : ℕ) → getD after d 0 ≤ getD before d 0
-  pub pushed : (d : ℕ) → from ≤ d → d ≤ row .extent → getD after d 0 ≤ k + rest-key costs choices numbers (row .at + c) (row .at + d)
+  pub pushed : (d : ℕ) → from ≤ d → d ≤ row .extent → getD after d 0 ≤ k + behind-key costs choices numbers tails (row .end) (row .at + c) (row .at + d)
   pub came : (d : ℕ) → (getD after d 0 ≡ getD before d 0)
-      ⊎ ((from ≤ d) × (d ≤ row .extent) × (getD after d 0 ≡ k + rest-key costs choices numbers (row .at + c) (row .at + d)))
+      ⊎ ((from ≤ d) × (d ≤ row .extent) × (getD after d 0 ≡ k + behind-key costs choices numbers tails (row .end) (row .at + c) (row .at + d)))
 
 -- The keys of a row before any repeat is offered: those of the row `shift` further on as far as the two are the same, and those of the
 -- plain node with the rest.
@@ -182,12 +193,12 @@ pub record Marked (row : Row) (keys seen : List ℕ) : Type 0 where
 
 -- What a solved stretch of d siblings does to the keys of longer ones. It is followed by what is left where its key is that of a
 -- repeat that covers it, unless every item that could follow it ends among the keys taken over, and none of these begins with it;
-pub data Pushed (costs choices numbers : List ℕ) (row : Row) (stops : List ℕ) (d k : ℕ) (before after : List ℕ) : Type 0 where
+pub data Pushed (costs choices numbers tails : List ℕ) (row : Row) (stops : List ℕ) (d k : ℕ) (before after : List ℕ) : Type 0 where
   push : (from : ℕ) → d < from → row .span < from → ((c : ℕ) → d < c → row .span < c → from ≤ c) → covered k ≡ d
-      → Pushing costs choices numbers row d k from before after → Pushed costs choices numbers row stops d k before after
-  pass : (covered k ≡ d → ⊥) → after ≡ before → Pushed costs choices numbers row stops d k before after
+      → Pushing costs choices numbers tails row d k from before after → Pushed costs choices numbers tails row stops d k before after
+  pass : (covered k ≡ d → ⊥) → after ≡ before → Pushed costs choices numbers tails row stops d k before after
   skip : d < row .span → getD stops (row .at + d) 0 ≤ row .at + row .span → NoneBehind row d before → after ≡ before
-      → Pushed costs choices numbers row stops d k before after
+      → Pushed costs choices numbers tails row stops d k before after
 
 -- and repeated where that is allowed and siblings match.
 pub data Widened (row : Row) (prices : List ℕ) (cost d match : ℕ) (before after : List ℕ) : Type 0 where
@@ -202,12 +213,12 @@ pub record Room (row : Row) (d match room : ℕ) : Type 0 where
   pub inside : room + d ≤ row .extent
   pub most : (k : ℕ) → k ≤ match → k + d ≤ row .extent → k ≤ room
 
-pub record Settled (costs choices numbers : List ℕ) (row : Row) (prices stops : List ℕ) (d match : ℕ) (before after : List ℕ) : Type 0 where
+pub record Settled (costs choices numbers tails : List ℕ) (row : Row) (prices stops : List ℕ) (d match : ℕ) (before after : List ℕ) : Type 0 where
   pub between : List ℕ
   pub room : ℕ
   pub roomy : Room row d match room
-  pub pushed : Pushed costs choices numbers row stops d (getD before d 0) before between
-  pub widened : Widened row prices (cost-digit (getD before d 0)) d room between after
+  pub pushed : Pushed costs choices numbers tails row stops d (getD before d 0) before between
+  pub widened : Widened row prices (combined-digits (getD before d 0)) d room between after
 
 -- All that the search of a row rests on.
 pub record RowReady (costs choices numbers : List ℕ) (row : Row) (prices same tails stops : List ℕ) : Type 0 where
@@ -222,8 +233,8 @@ pub record RowReady (costs choices numbers : List ℕ) (row : Row) (prices same 
   pub some : row .at < row .end
   pub limited : allowed .widest ≡ row .limit
   pub priced : Priced prices-are prices
-  pub step-low : (l : ℕ) → prices-are .of-step l < 65536
-  pub group-low : (l : ℕ) → prices-are .of-group l < 65536
+  pub step-low : (l : ℕ) → prices-are .of-step l ≤ 65535 * factor
+  pub group-low : (l : ℕ) → prices-are .of-group l ≤ 65535 * factor
   pub numbers-are : Numbered base tree numbers
   pub extending : Extending tree (row .at + 1) extents
   pub rows-below : Entered allowed prices-are base tree (row .at + 1) extents costs choices

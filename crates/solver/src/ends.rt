@@ -1,19 +1,19 @@
 // The stretch from a row's sibling up to the sequence's end: the least of its candidates. A repeat that covers more than the row has
 // solved is offered here alone, with the tail behind it.
 use crate::keys::lesser;
+use crate::keys::offer_key;
 use crate::row::Row;
 use crate::row::count_past;
 use crate::row::matched_within;
 use table::as_index;
-use table::choice_of;
-use table::cost_digit;
+use table::combined_digits;
 use table::covered;
 use table::key_of;
 ghost use mathlib.Core.Path.{_≡_};
 ghost use mathlib.Core.Logic.{_⊎_};
 ghost use Prim.Native.Nat.{_+_, _*_, _<_, _≤_, ℕ};
 ghost use lib.ListN.{length, getD};
-ghost use Rattle.table.specs.Keys.{cost-digit, covered, top-key, stored-key};
+ghost use Rattle.table.specs.Keys.{combined-digits, covered, top-key, stored-key};
 ghost use Rattle.solver.specs.Rows.{RowFits, KeysReady, PricesReady, TailsReady};
 ghost use Rattle.solver.specs.Ends.{Ending, EndOffered};
 
@@ -28,26 +28,26 @@ fn followed(key: u64, d: usize, tail: u64, last: u64) -> u64
     last
 }
 
-// Offers the repeats of width d, whose body costs `cost` and of which `span` siblings match, from the count `from` on: those that cover
-// more than the row has solved.
+// Offers the repeats of width d, whose body has `body` for cost and repeats, combined, and of which `span` siblings match, from the
+// count `from` on: those that cover more than the row has solved.
 fn offer_end(
     row: Row,
     prices: &[u64],
     tails: &[u64],
-    cost: u64,
+    body: u64,
     d: usize,
     span: usize,
     from: usize,
     last: u64,
 ) -> u64
-    requires { ⌜ RowFits row × PricesReady (now prices) × TailsReady (now tails) × (cost ≤ cost-digit top-key) ⌝ }
+    requires { ⌜ RowFits row × PricesReady (now prices) × TailsReady (now tails) × (body ≤ combined-digits top-key) ⌝ }
     requires { ⌜ (0 < d) × (row .at + d + span ≤ row .end) × (2 ≤ from) × (from ≤ 1025) × (row .extent < from * d) × ((g : ℕ) → 2 ≤ g → g < from → g * d ≤ row .extent) ⌝ }
-    ensures { λ r. ⌜ EndOffered row (now (prices .entry)) (now (tails .entry)) cost d span last r ⌝ }
+    ensures { λ r. ⌜ EndOffered row (now (prices .entry)) (now (tails .entry)) body d span last r ⌝ }
 {
     let mut best = last;
     let mut h = from;
     while (h - 1) * d <= span {
-        let k = key_of(cost + prices[h], choice_of(h, d));
+        let k = offer_key(prices, body, d, h);
         best = lesser(k + tails[row.at + h * d], best);
         h += 1;
     }
@@ -59,14 +59,14 @@ fn repeated(
     row: Row,
     prices: &[u64],
     tails: &[u64],
-    cost: u64,
+    body: u64,
     d: usize,
     span: usize,
     last: u64,
 ) -> u64
-    requires { ⌜ RowFits row × PricesReady (now prices) × TailsReady (now tails) × (cost ≤ cost-digit top-key) ⌝ }
+    requires { ⌜ RowFits row × PricesReady (now prices) × TailsReady (now tails) × (body ≤ combined-digits top-key) ⌝ }
     requires { ⌜ (0 < d) × (d ≤ row .extent) × (row .at + d + span ≤ row .end) ⌝ }
-    ensures { λ r. ⌜ (d ≤ row .limit → EndOffered row (now (prices .entry)) (now (tails .entry)) cost d span last r) × (row .limit < d → r ≡ last) ⌝ }
+    ensures { λ r. ⌜ (d ≤ row .limit → EndOffered row (now (prices .entry)) (now (tails .entry)) body d span last r) × (row .limit < d → r ≡ last) ⌝ }
 {
     if matched_within(d, row.limit, span) < d {
         return last;
@@ -75,7 +75,7 @@ fn repeated(
         row,
         prices,
         tails,
-        cost,
+        body,
         d,
         span,
         count_past(d, row.extent),
@@ -103,7 +103,7 @@ pub fn end_key(row: Row, prices: &[u64], matches: &[u16], tails: &[u64], keys: &
             row,
             prices,
             tails,
-            cost_digit(key),
+            combined_digits(key),
             d,
             as_index(matches[d]),
             last,

@@ -7,7 +7,7 @@ use crate::keys::push;
 use crate::pairs::mark;
 use crate::pairs::may_be_first;
 use table::as_index;
-use table::cost_digit;
+use table::combined_digits;
 use table::covered;
 use table::key_of;
 use table::larger;
@@ -16,15 +16,14 @@ use table::smaller;
 use table::store_entry;
 use table::store_row;
 ghost use mathlib.Core.Path.{_≡_};
-ghost use mathlib.Core.List.{List};
 ghost use Prim.Native.Nat.{ℕ, _+_, _-_, _*_, _<_, _≤_};
 ghost use lib.ListN.{length, getD};
-ghost use Rattle.table.specs.Keys.{cost-digit};
-ghost use Rattle.solver.specs.Rows.{KeysReady, PricesReady, TailsReady, RowFits, RowHeld, RowReady, Started, Marked, Pushed, Widened, Advanced, RowEntered};
+ghost use Rattle.table.specs.Keys.{combined-digits};
+ghost use Rattle.solver.specs.Rows.{KeysReady, PricesReady, TailsReady, RowFits, RowHeld, RowRead, RowReady, Started, Marked, Pushed, Widened, Advanced, RowEntered};
 
 // A row: the stretches that begin at sibling `at` of the `end` siblings of a sequence, in which no repeat is wider than `limit`. The
-// sibling costs `own` by itself. The first `span` siblings are those from `shift` further on, in a row that is solved as far. Solved are
-// the stretches of up to `extent` siblings, and the one up to the end.
+// sibling has `own` for cost and repeats, combined, by itself. The first `span` siblings are those from `shift` further on, in a row that
+// is solved as far. Solved are the stretches of up to `extent` siblings, and the one up to the end.
 pub struct Row {
     pub at: usize,
     pub end: usize,
@@ -37,7 +36,7 @@ pub struct Row {
 
 // The keys of a row before any repeat is offered.
 fn start_row(costs: &[u32], choices: &[u32], numbers: &[usize], row: Row, keys: &mut [u64])
-    requires { ⌜ RowHeld (now costs) (now choices) (now numbers) row ⌝ }
+    requires { ⌜ RowRead (now costs) (now choices) (now numbers) row ⌝ }
     requires { ⌜ RowFits row × KeysReady (now keys) ⌝ }
     ensures { λ _. ⌜ Started (now (costs .entry)) (now (choices .entry)) (now (numbers .entry)) row (now (keys .exit)) ⌝ }
 {
@@ -84,16 +83,17 @@ fn follow(
     costs: &[u32],
     choices: &[u32],
     numbers: &[usize],
+    tails: &[u64],
     row: Row,
     d: usize,
     stops: &[usize],
     seen: &[usize],
     keys: &mut [u64],
 )
-    requires { ⌜ RowHeld (now costs) (now choices) (now numbers) row ⌝ }
-    requires { ⌜ RowFits row × KeysReady (now keys) × (0 < d) × (d ≤ row .extent) × (length (now stops) ≡ 1025) × Marked row (now keys) (now seen) ⌝ }
+    requires { ⌜ RowRead (now costs) (now choices) (now numbers) row ⌝ }
+    requires { ⌜ RowFits row × KeysReady (now keys) × (0 < d) × (d ≤ row .extent) × (length (now stops) ≡ 1025) × Marked row (now keys) (now seen) × TailsReady (now tails) ⌝ }
     ensures low { λ _. ⌜ KeysReady (now (keys .exit)) ⌝ }
-    ensures pushed { λ _. ⌜ Pushed (now (costs .entry)) (now (choices .entry)) (now (numbers .entry)) row (now (stops .entry)) d (getD (now (keys .entry)) d 0) (now (keys .entry)) (now (keys .exit)) ⌝ }
+    ensures pushed { λ _. ⌜ Pushed (now (costs .entry)) (now (choices .entry)) (now (numbers .entry)) (now (tails .entry)) row (now (stops .entry)) d (getD (now (keys .entry)) d 0) (now (keys .entry)) (now (keys .exit)) ⌝ }
 {
     let key = keys[d];
     if covered(key) != d {
@@ -104,6 +104,7 @@ fn follow(
             costs,
             choices,
             numbers,
+            tails,
             row,
             d,
             key,
@@ -117,12 +118,12 @@ fn follow(
 fn widen(row: Row, prices: &[u64], d: usize, room: usize, keys: &mut [u64])
     requires { ⌜ RowFits row × KeysReady (now keys) × PricesReady (now prices) × (0 < d) × (room + d ≤ row .extent) ⌝ }
     ensures low { λ _. ⌜ KeysReady (now (keys .exit)) ⌝ }
-    ensures widened { λ _. ⌜ Widened row (now (prices .entry)) (cost-digit (getD (now (keys .entry)) d 0)) d room (now (keys .entry)) (now (keys .exit)) ⌝ }
+    ensures widened { λ _. ⌜ Widened row (now (prices .entry)) (combined-digits (getD (now (keys .entry)) d 0)) d room (now (keys .entry)) (now (keys .exit)) ⌝ }
 {
     if d <= matched_within(d, row.limit, room) {
         offer(
             prices,
-            cost_digit(keys[d]),
+            combined_digits(keys[d]),
             d,
             room,
             count_past(d, row.span),
@@ -139,19 +140,20 @@ fn solve(
     row: Row,
     prices: &[u64],
     matches: &[u16],
+    tails: &[u64],
     stops: &[usize],
     seen: &[usize],
     keys: &mut [u64],
 ) -> usize
-    requires { ⌜ RowHeld (now costs) (now choices) (now numbers) row ⌝ }
-    requires { ⌜ RowFits row × KeysReady (now keys) × PricesReady (now prices) × (length (now matches) ≡ 1025) × (length (now stops) ≡ 1025) × Marked row (now keys) (now seen) ⌝ }
-    ensures { λ r. ⌜ ((tails : List ℕ) → Advanced (now (costs .entry)) (now (choices .entry)) (now (numbers .entry)) row (now (prices .entry)) (now (matches .entry)) tails (now (stops .entry)) (row .extent) (now (keys .entry)) (now (keys .exit)) r) ⌝ }
+    requires { ⌜ RowRead (now costs) (now choices) (now numbers) row ⌝ }
+    requires { ⌜ RowFits row × KeysReady (now keys) × PricesReady (now prices) × (length (now matches) ≡ 1025) × (length (now stops) ≡ 1025) × Marked row (now keys) (now seen) × TailsReady (now tails) ⌝ }
+    ensures { λ r. ⌜ Advanced (now (costs .entry)) (now (choices .entry)) (now (numbers .entry)) row (now (prices .entry)) (now (matches .entry)) (now (tails .entry)) (now (stops .entry)) (row .extent) (now (keys .entry)) (now (keys .exit)) r ⌝ }
 {
     let mut longest = 1;
     let mut d = 1;
     while d <= row.extent {
         longest = larger(longest, covered(keys[d]));
-        follow(costs, choices, numbers, row, d, stops, seen, keys);
+        follow(costs, choices, numbers, tails, row, d, stops, seen, keys);
         widen(
             row,
             prices,
@@ -192,6 +194,7 @@ pub fn enter_row(
         row,
         prices,
         matches,
+        tails,
         stops,
         seen,
         keys,

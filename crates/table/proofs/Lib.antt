@@ -1,4 +1,5 @@
 -- What the proofs of the functions share.
+pub mod Digits
 pub mod Cells
 pub mod Tables
 pub mod Listings

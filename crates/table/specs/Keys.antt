@@ -1,21 +1,37 @@
--- Keys: cost, count and width of a first item as the digits of one number, so that the least key is that of the cheapest fold, and
--- of the first in byte order among equals. A choice is a key without its cost: count and width of the repeat that comes first, 0 for
--- the plain node.
+-- Keys: cost and repeats of a fold, count and width of its first item, as the digits of one number, so that the least key is that of the
+-- preferred fold. The table keeps a key as two numbers, the cost and the choice, which has the other digits: how many repeats the fold has,
+-- and the pair that comes first, 0 for the plain node.
 use Prim.Native.Nat.{ℕ, _+_, _*_, _/_, _%_}
 use Rattle.optimum.specs.Cheapest.{usual}
 
--- Every choice is below this.
-abbrev pub choice-base : ℕ
-choice-base = usual .counts * usual .widths
+-- The factor that serves up to 1,024 nodes: no fold has as many repeats.
+abbrev pub factor : ℕ
+factor = 1024
 
--- The choice of a count and a width, and the key of a cost and a choice.
+-- Every pair is below this, and every choice below that.
+abbrev pub pair-base : ℕ
+pair-base = usual .counts * usual .widths
+
+abbrev pub choice-base : ℕ
+choice-base = factor * pair-base
+
+-- The pair of a count and a width; the key of cost and repeats, combined, and a pair; and the same key of a cost and a choice.
 abbrev pub packed : (count width : ℕ) → ℕ
 packed h w = h * usual .widths + w
 
-abbrev pub key : (cost choice : ℕ) → ℕ
-key c x = c * choice-base + x
+abbrev pub key : (combined pair : ℕ) → ℕ
+key c x = c * pair-base + x
+
+abbrev pub rejoined : (cost choice : ℕ) → ℕ
+rejoined c x = c * choice-base + x
 
 -- The digits.
+abbrev pub combined-digits : ℕ → ℕ
+combined-digits k = k / pair-base
+
+abbrev pub pair-digits : ℕ → ℕ
+pair-digits k = k % pair-base
+
 abbrev pub cost-digit : ℕ → ℕ
 cost-digit k = k / choice-base
 
@@ -32,20 +48,23 @@ width-digit k = k % usual .widths
 abbrev pub covered : ℕ → ℕ
 covered k = count-digit k * width-digit k
 
--- What a stretch of this key adds to the key of an item that it follows: its cost alone.
+-- What a stretch of this key adds to the key of an item that it follows: its cost and its repeats.
 abbrev pub rest-digits : ℕ → ℕ
-rest-digits k = key (cost-digit k) 0
+rest-digits k = key (combined-digits k) 0
 
--- Bounds that no sum of these numbers passes: costs have 32 bits, the price of a count is at most 65,535 times 16 bits, and a key is at
--- most that of two costs together.
-abbrev pub cost-base : ℕ
-cost-base = 4294967296
+-- Bounds that no sum of these numbers passes: an entry of the table has 32 bits; cost and repeats of a stretch, combined, stay below 36, and
+-- its key below 57; the price of a count is at most 65,535 times 16 bits; and a key that is worked on is at most that of two stretches together.
+abbrev pub entry-base : ℕ
+entry-base = 4294967296
+
+abbrev pub combined-base : ℕ
+combined-base = 68719476736
 
 abbrev pub stored-key : ℕ
-stored-key = key cost-base 0
+stored-key = key combined-base 0
 
 abbrev pub top-price : ℕ
 top-price = 65535 * 65535
 
 abbrev pub top-key : ℕ
-top-key = key (2 * cost-base) 0
+top-key = key (2 * combined-base) 0

@@ -7,8 +7,8 @@ use Prim.Native.Nat.{ℕ, _+_, _-_, _*_, _/_, _<_, _≤_}
 use lib.ListN.{length, getD}
 use Rattle.format.specs.Limits.{cells, Prices}
 use Rattle.format.specs.Forest.{Forest, Allowed, siblings, nodes}
-use Rattle.table.specs.Keys.{packed, key}
-use Rattle.optimum.specs.Cheapest.{front, back, usual, Least, best-cost}
+use Rattle.table.specs.Keys.{choice-base, rejoined, rest-digits}
+use Rattle.optimum.specs.Cheapest.{front, back, usual, rank, Least, best-cost}
 
 -- The entry of the interval from p up to q.
 abbrev pub cell : (p q : ℕ) → ℕ
@@ -22,13 +22,18 @@ number b t i = b + nodes (back i t)
 abbrev pub stretch : Forest → (i d : ℕ) → Forest
 stretch t i d = front d (back i t)
 
--- The entry of an interval holds the cost of the cheapest fold of its stretch, and the pair of least rank.
-pub record Entry (A : Allowed) (P : Prices) (t : Forest) (cost choice : ℕ) : Type 0 where
-  pub costs : cost ≡ best-cost A P t
+-- The key of a stretch: that of the pair of least rank, at the cost of its cheapest fold. The prices count repeats, so that this cost is
+-- both, combined.
+pub record BestKey (A : Allowed) (P : Prices) (t : Forest) (k : ℕ) : Type 0 where
   pub count : ℕ
   pub width : ℕ
-  pub chosen : choice ≡ packed count width
   pub least : Least A P usual (best-cost A P) t count width
+  pub is-rank : k ≡ rank usual (best-cost A P t) count width
+
+-- The entries of an interval hold the key of its stretch, the cost apart from the other digits.
+pub record Entry (A : Allowed) (P : Prices) (t : Forest) (cost choice : ℕ) : Type 0 where
+  pub best : BestKey A P t (rejoined cost choice)
+  pub apart : choice < choice-base
 
 -- Only entries of intervals within [b, b + n) have changed.
 pub record Kept (b n : ℕ) (before after : List ℕ) : Type 0 where
@@ -66,14 +71,14 @@ Held numbers q j room = (j < length numbers) × (getD numbers j 0 < q) × (q ≤
 
 -- The key of that stretch, as the table has it.
 abbrev pub key-from : (costs choices numbers : List ℕ) (q j : ℕ) → ℕ
-key-from costs choices numbers q j = key (entry-from costs numbers q j) (entry-from choices numbers q j)
+key-from costs choices numbers q j = rejoined (entry-from costs numbers q j) (entry-from choices numbers q j)
 
 abbrev pub key-at : (costs choices numbers : List ℕ) (i j : ℕ) → ℕ
 key-at costs choices numbers i j = key-from costs choices numbers (getD numbers i 0) j
 
--- What that stretch adds to the key of an item that it follows: its cost alone.
+-- What that stretch adds to the key of an item that it follows.
 abbrev pub rest-from : (costs choices numbers : List ℕ) (q j : ℕ) → ℕ
-rest-from costs choices numbers q j = key (entry-from costs numbers q j) 0
+rest-from costs choices numbers q j = rest-digits (key-from costs choices numbers q j)
 
 abbrev pub rest-key : (costs choices numbers : List ℕ) (i j : ℕ) → ℕ
 rest-key costs choices numbers i j = rest-from costs choices numbers (getD numbers i 0) j

@@ -7,12 +7,14 @@ mod triangle;
 
 use format::Format;
 pub use keys::Key;
-pub use keys::choice_of;
-pub use keys::cost_digit;
+pub use keys::combined_digits;
+pub use keys::combined_of;
 pub use keys::count_digit;
 pub use keys::covered;
 pub use keys::key_at;
 pub use keys::key_of;
+pub use keys::pair_digits;
+pub use keys::pair_of;
 pub use keys::rest_key;
 pub use keys::rest_of;
 pub use keys::width_digit;

@@ -5,12 +5,12 @@ ghost use mathlib.Core.Path.{_≡_};
 ghost use mathlib.Core.List.{_++_};
 ghost use Prim.Native.Nat.{ℕ, _+_, _/_, _<_, _≤_};
 ghost use lib.ListN.{length, getD, set, drop, replicate};
-ghost use Rattle.table.specs.Keys.{key, cost-digit, choice-digits, cost-base, stored-key};
+ghost use Rattle.table.specs.Keys.{cost-digit, choice-digits, entry-base, stored-key};
 ghost use Rattle.format.specs.Limits.{cells};
 ghost use Rattle.table.specs.Table.{cell, entry-from, Held, Falling, Stored};
 
 pub fn widen(x: u32) -> u64
-    ensures { λ r. ⌜ (r ≡ x) × (r < cost-base) ⌝ }
+    ensures { λ r. ⌜ (r ≡ x) × (r < entry-base) ⌝ }
 {
     x as u64
 }
@@ -34,7 +34,7 @@ pub fn entry(p: usize, q: usize) -> usize
 // The cost or choice of the stretch from the sibling of number q up to sibling j.
 pub fn read_entry(w: &[u32], numbers: &[usize], q: usize, j: usize) -> u64
     requires { ⌜ Held (now numbers) q j (length (now w)) ⌝ }
-    ensures { λ r. ⌜ (r ≡ entry-from (now (w .entry)) (now (numbers .entry)) q j) × (r < cost-base) ⌝ }
+    ensures { λ r. ⌜ (r ≡ entry-from (now (w .entry)) (now (numbers .entry)) q j) × (r < entry-base) ⌝ }
 {
     widen(w[entry(numbers[j], q)])
 }
@@ -50,7 +50,7 @@ pub fn store_row(
 )
     requires { ⌜ Falling (now numbers) (i + n) (length (now costs)) × Falling (now numbers) (i + n) (length (now choices)) ⌝ }
     requires { ⌜ n < length (now keys) ⌝ }
-    requires { ⌜ ((d : ℕ) → 0 < d → d ≤ n → getD (now keys) d 0 < key cost-base 0) ⌝ }
+    requires { ⌜ ((d : ℕ) → 0 < d → d ≤ n → getD (now keys) d 0 < stored-key) ⌝ }
     ensures costs { λ _. ⌜ Stored (now (numbers .entry)) i n (λ d. cost-digit (getD (now (keys .entry)) d 0)) (now (costs .entry)) (now (costs .exit)) ⌝ }
     ensures choices { λ _. ⌜ Stored (now (numbers .entry)) i n (λ d. choice-digits (getD (now (keys .entry)) d 0)) (now (choices .entry)) (now (choices .exit)) ⌝ }
 {

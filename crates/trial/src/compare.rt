@@ -1,5 +1,6 @@
-// The folder against the trial of every fold: the best of all folds of a run, by cost and then by byte order, at several
-// prices and limits.
+// The folder against the trial of every fold: the best of all folds of a run, by cost, then by the number of repeats and then by
+// byte order, at several prices and limits.
+use format::Format;
 use format::wide;
 use harness::Checked;
 use harness::begins;
@@ -86,11 +87,47 @@ fn before(a: &[u8], b: &[u8]) -> bool {
     false
 }
 
-// The best fold so far: whether there is one, which of the pool, and its cost.
+// How many repeats stand in a fold: its commands 20, each once, whatever it stands in. The commands are walked by their sizes,
+// since a label, a count or a width may have that byte too.
+fn repeats_in(fold: &[u8]) -> usize {
+    let mut repeats: usize = 0;
+    let mut at = 0;
+    while at < fold.len() {
+        if fold[at] == Format::REPEAT {
+            repeats += 1;
+            at += 5;
+        } else {
+            if fold[at] < Format::GROUP_END {
+                at += 2;
+            } else {
+                at += 1;
+            }
+        }
+    }
+    repeats
+}
+
+// The best fold so far: whether there is one, which of the pool, its cost, and its repeats.
 struct Best {
     some: bool,
     k: usize,
     cost: u64,
+    repeats: usize,
+}
+
+// Whether a fold goes before the best so far: it costs less; or as much, with fewer repeats; or as much with as many, and its
+// bytes come first.
+fn goes_before(this: Best, fold: &[u8], best: Best, best_fold: &[u8]) -> bool {
+    if !best.some {
+        return true;
+    }
+    if this.cost != best.cost {
+        return this.cost < best.cost;
+    }
+    if this.repeats != best.repeats {
+        return this.repeats < best.repeats;
+    }
+    before(fold, best_fold)
 }
 
 // The better of the best so far and fold k, which counts only if it is within the limit.
@@ -106,24 +143,16 @@ fn better(
 ) -> Best {
     let fold = fold_at(pool, k);
     let r = read_fold(fold, limit, steps, groups, first, each);
+    if r.refusal != 0 {
+        return best;
+    }
     let this = Best {
         some: true,
         k,
         cost: r.cost,
+        repeats: repeats_in(fold),
     };
-    if r.refusal != 0 {
-        return best;
-    }
-    if !best.some {
-        return this;
-    }
-    if r.cost < best.cost {
-        return this;
-    }
-    if best.cost < r.cost {
-        return best;
-    }
-    if before(fold, fold_at(pool, best.k)) {
+    if goes_before(this, fold, best, fold_at(pool, best.k)) {
         return this;
     }
     best
@@ -143,6 +172,7 @@ fn best_of(
         some: false,
         k: 0,
         cost: 0,
+        repeats: 0,
     };
     let mut k = 0;
     while k < found {

@@ -14,9 +14,10 @@ use Rattle.optimum.proofs.Cut.{front-whole, siblings-le-nodes, run-front, run-b
 use Rattle.optimum.proofs.Powers.{reach, spans-usual}
 use Rattle.optimum.proofs.Least.{least-one}
 use Rattle.optimum.proofs.Cheapest.{cheapest-short, is-cheapest, least-builds, optimal-end}
-use Rattle.table.specs.Keys.{packed, count-digit, width-digit}
-use Rattle.table.specs.Table.{Entry, cell, number}
+use Rattle.table.specs.Keys.{packed, rejoined, pair-digits, count-digit, width-digit}
+use Rattle.table.specs.Table.{BestKey, cell, number}
 use Rattle.table.specs.Used.{to-end, itself}
+use Rattle.table.proofs.Digits.{pair-is}
 use Rattle.table.proofs.Cells.{cell-in, cells-mono}
 use Rattle.table.proofs.Tables.{number-last, number-fall}
 use Rattle.table.proofs.Uses.{used-body, used-group}
@@ -62,7 +63,7 @@ module _ (A : Allowed) (P : Prices) where
   cheapest-power t zero w r n i l = absurd (omega arith)
   cheapest-power t (suc h) w r n i l = by-least t (suc h) w r n l
 
--- The choice 0 is the plain node, and any other a repeat with its count and width as digits.
+-- The pair 0 is the plain node, and any other a repeat with its count and width as digits.
 least-plain : (A : Allowed) (P : Prices) (t : Forest) (h w : ℕ) → packed h w ≡ 0 → Least A P usual (best-cost A P) t h w
     → Least A P usual (best-cost A P) t 0 0
 least-plain A P t h w e l =
@@ -188,17 +189,20 @@ module _ {run places nexts choices : List ℕ} {q : ℕ} (n : NodeReady run plac
           spelled = spelled-power l (fold-bytes (body .ready)) (fold-bytes (rest .ready)) (body .same) (rest .same);
         }
 
-  -- The table's choice.
-  module _ (c : ℕ) (e : c ≡ getD choices (cell (n .behind) q) 0) where
-    entry : (cost : ℕ) × Entry A P tree cost c
+  -- The table's pair.
+  module _ (c : ℕ) (e : c ≡ pair-digits (getD choices (cell (n .behind) q) 0)) where
+    entry : (cost : ℕ) × BestKey A P tree (rejoined cost (getD choices (cell (n .behind) q) 0))
     unfolding back
     entry =
         let b = n .behind in
         let x = n .ready .filled .entry b tree itself 0 size some (omega arith) (to-end (omega arith)) in
         let zero-size : 0 + size ≡ size = omega arith in (
           getD (n .ready .costs) (cell b q) 0,
-          rw e (rw (front-whole size tree (is-run .plain) refl, zero-size, number-last b tree (is-run .plain), ← first-number) at x),
+          rw (front-whole size tree (is-run .plain) refl, zero-size, number-last b tree (is-run .plain), ← first-number) at (x .best),
         )
+
+    is-pair : c ≡ packed (entry .1 .count) (entry .1 .width)
+    is-pair = omega (arith, e, pair-is (entry .1) (spans-usual A tree (few (n .ready))))
 
     pub node-plain : c ≡ 0 → Plainly n
     unfolding follow
@@ -211,7 +215,7 @@ module _ {run places nexts choices : List ℕ} {q : ℕ} (n : NodeReady run plac
           rest = rest .ready;
           falls = omega (arith, number-fall A b 0 1 tree is-run (omega arith) (omega (arith, some)), first-number);
           spelled =
-              ap bytes (cheapest-plain A P tree is-run (few (n .ready)) (least-plain A P tree (x .count) (x .width) (omega (arith, x .chosen)) (x .least)))
+              ap bytes (cheapest-plain A P tree is-run (few (n .ready)) (least-plain A P tree (x .count) (x .width) (omega (arith, is-pair)) (x .least)))
               ∙ bytes-join (cheapest A P (front 1 tree)) (cheapest A P (back 1 tree))
               ∙ rw (rest .same);
         }
@@ -219,13 +223,13 @@ module _ {run places nexts choices : List ℕ} {q : ℕ} (n : NodeReady run plac
     -- A repeat, with its count and width as digits.
     module _ (other : c ≡ 0 → ⊥) where
       chosen : Power A tree (entry .1 .count) (entry .1 .width)
-      chosen = power-of (λ y. other (omega (arith, entry .1 .chosen))) (entry .1 .least .candidate)
+      chosen = power-of (λ y. other (omega (arith, is-pair))) (entry .1 .least .candidate)
 
       is-count : count-digit c ≡ entry .1 .count
-      is-count = let r = reach chosen in omega (arith, entry .1 .chosen, few (n .ready))
+      is-count = let r = reach chosen in omega (arith, is-pair, few (n .ready))
 
       is-width : width-digit c ≡ entry .1 .width
-      is-width = let r = reach chosen in omega (arith, entry .1 .chosen, few (n .ready))
+      is-width = let r = reach chosen in omega (arith, is-pair, few (n .ready))
 
       pub node-body : (w : ℕ) → w ≡ width-digit c → Follows nexts q w
       node-body w e = let r = reach chosen in rw (e, is-width) (followed 0 (entry .1 .width) q (omega arith) first-number .1)

@@ -8,7 +8,7 @@ use lib.ListN.{length, length-append, length-set, length-drop, getD, set, take, 
 use lib.Seq.{sets, length-sets, set-out, take-all}
 use borrow.Rule.Slice.PartMut.{putMid}
 use Rattle.format.proofs.Lists.{sets-append}
-use Rattle.table.specs.Keys.{count-digit, width-digit, covered}
+use Rattle.table.specs.Keys.{pair-digits, count-digit, width-digit, covered}
 use Rattle.table.specs.Table.{cell}
 use Rattle.writer.specs.Writing.{WriteReady, NodeReady, SpanFits, NodeFits, FoldWritten, SpanWritten, NodeWritten, Written, fold-bytes, node-bytes, most-bytes, open-bytes, Follows, follow}
 use Rattle.writer.proofs.Spans.{Plainly, Repeated, fold-small, fold-none, node-cell, node-plain, node-body, node-power, node-start, node-two, node-step, node-group}
@@ -112,12 +112,12 @@ module _ {run places nexts choices : List ℕ} {first behind to : ℕ} (before :
         let z = x .left (m .ready) .rest in
         (h, z .total, node-cell (record { behind = behind; ready = z; some = h }))
 
--- The node of number q is next, and c is the table's choice.
+-- The node of number q is next, and c is the table's pair.
 pub record Turn (run places nexts choices : List ℕ) (first behind to : ℕ) (before : List ℕ) (q p : ℕ) (now : List ℕ) (c : ℕ) : Type 0 where
   pub fits : SpanFits run places nexts choices first behind to
   pub putting : Putting run places nexts choices first behind to before q p now
   pub more : behind < q
-  pub looked : c ≡ getD choices (cell behind q) 0
+  pub looked : c ≡ pair-digits (getD choices (cell behind q) 0)
 
 module _ {run places nexts choices : List ℕ} {first behind to : ℕ} {before : List ℕ} {q p : ℕ} {now : List ℕ} {c : ℕ}
     (x : Turn run places nexts choices first behind to before q p now c) where

@@ -5,6 +5,7 @@ use format::Format;
 use table::count_digit;
 use table::covered;
 use table::entry;
+use table::pair_digits;
 use table::smaller;
 use table::widen;
 use table::width_digit;
@@ -14,6 +15,7 @@ ghost use Prim.Native.Nat.{_+_, _<_, _≤_};
 ghost use lib.ListN.{length, getD, set};
 ghost use lib.Seq.{sets};
 ghost use Rattle.format.specs.Forest.{two-bytes};
+ghost use Rattle.table.specs.Keys.{pair-digits};
 ghost use Rattle.table.specs.Table.{cell};
 ghost use Rattle.writer.specs.Writing.{WriteReady, SpanFits, NodeFits, FoldLength, FoldWritten, SpanWritten, NodeWritten, Follows, follow, most-bytes, open-bytes};
 
@@ -67,18 +69,18 @@ fn put_span(
     let mut q = first;
     let mut p = to;
     while behind < q {
-        let choice = choice_at(choices, behind, q);
-        if choice == 0 {
+        let pair = pair_at(choices, behind, q);
+        if pair == 0 {
             p = put_node(run, places, nexts, choices, q, out, p);
             q = nexts[q];
         } else {
-            let w = width_digit(choice);
+            let w = width_digit(pair);
             let end = skip(nexts, q, w);
-            put_open(out, p, count_digit(choice), w);
+            put_open(out, p, count_digit(pair), w);
             p = put_span(run, places, nexts, choices, q, end, out, p + 5);
             put_byte(out, p, Format::REPEAT_END);
             p += 1;
-            q = skip(nexts, end, covered(choice) - w);
+            q = skip(nexts, end, covered(pair) - w);
         }
     }
     p
@@ -119,12 +121,12 @@ fn put_node(
     start + n + 1
 }
 
-// The choice for the sequence from number q on that ends at number `behind`, as the table has it.
-fn choice_at(choices: &[u32], behind: usize, q: usize) -> u64
+// The pair that comes first in the sequence from number q on that ends at number `behind`, as the table has it.
+fn pair_at(choices: &[u32], behind: usize, q: usize) -> u64
     requires { ⌜ (behind < q) × (q ≤ 1024) × (cell behind q < length (now choices)) ⌝ }
-    ensures { λ r. ⌜ r ≡ getD (now (choices .entry)) (cell behind q) 0 ⌝ }
+    ensures { λ r. ⌜ r ≡ pair-digits (getD (now (choices .entry)) (cell behind q) 0) ⌝ }
 {
-    widen(choices[entry(behind, q)])
+    pair_digits(widen(choices[entry(behind, q)]))
 }
 
 // The number of the sibling k further on than that of number q, or of the end where there are no more.

@@ -24,7 +24,7 @@ use Rattle.table.proofs.count_digit.Reads as count-digit-of
 use Rattle.table.proofs.covered.Reads as covered
 use Rattle.table.proofs.width_digit.Reads as width-digit-of
 use Rattle.table.proofs.smaller.Reads as smaller
-use Rattle.writer.proofs.choice_at.Reads as choice-at
+use Rattle.writer.proofs.pair_at.Reads as pair-at
 use Rattle.writer.proofs.put_byte.Reads as put-byte
 use Rattle.writer.proofs.put_open.Reads as put-open
 use Rattle.writer.proofs.skip.Reads as skip
@@ -68,8 +68,8 @@ module _ (t : ℕ) where
 
   abbrev span-calls : span.Claims
   span-calls = (
-    choice-at.Asked,
-    choice-at.Learnt,
+    pair-at.Asked,
+    pair-at.Learnt,
     below put-node-kinds.ps μ-node put-node.Pre t,
     put-node.Post,
     width-digit-of.Asked,
@@ -248,23 +248,23 @@ module _ (t : ℕ) where
   abbrev span-covered : Span span.After-covered → Span span.After-count-digit
   span-covered c = span-opened (span-closed (c .before .before .before))
 
-  turn : (c : Span span.After-choice-at)
+  turn : (c : Span span.After-pair-at)
       → (let a = span-start (c .before .before) .args in
       let l = c .before .before .loop in
-      Turn (a .run .now) (a .places .now) (a .nexts .now) (a .choices .now) (a .first) (a .behind) (a .to) (a .out .now) (l .q) (l .p) (l .out) (c .choice-at .result))
+      Turn (a .run .now) (a .places .now) (a .nexts .now) (a .choices .now) (a .first) (a .behind) (a .to) (a .out .now) (l .q) (l .p) (l .out) (c .pair-at .result))
   turn c =
       record {
         fits = span-start (c .before .before) .pre .1;
         putting = c .before .before .loop .inv;
         more = c .before .loop-test .taken;
-        looked = c .choice-at .ensures;
+        looked = c .pair-at .ensures;
       }
 
   span-loop-holds : Span span.Need-loop-holds
   span-loop-holds c = let S = c .before .before .before .before .before in putting-none (S .args .out .now) (S .pre .1)
 
-  span-choice-at-requires : Span span.Need-choice-at-requires
-  span-choice-at-requires c κs =
+  span-pair-at-requires : Span span.Need-pair-at-requires
+  span-pair-at-requires c κs =
       let S = span-start (c .before) in left-held (S .args .out .now) (S .pre .1) (c .before .loop .inv) (c .loop-test .taken)
 
   span-put-node-requires : Span span.Need-put-node-requires
@@ -300,7 +300,7 @@ module _ (t : ℕ) where
       → (let c₁ = c .before .before .before .before in
       let a = span-start (c₁ .before .before .before) .args in
       let l = c₁ .before .before .before .loop in
-      Power (a .run .now) (a .places .now) (a .nexts .now) (a .choices .now) (a .first) (a .behind) (a .to) (a .out .now) (l .q) (l .p) (l .out) (c₁ .before .choice-at .result)
+      Power (a .run .now) (a .places .now) (a .nexts .now) (a .choices .now) (a .first) (a .behind) (a .to) (a .out .now) (l .q) (l .p) (l .out) (c₁ .before .pair-at .result)
       (c .count-digit .result) (c .before .before .before .width-digit .result) (c .before .before .skip .result))
   power c =
       let c₁ = c .before .before .before .before in
@@ -411,7 +411,7 @@ pub +put-fold+put-node+put-span-spec : {M : Type 1} → statement M
     (node-returns-2 t))
     λ t. span.spec (span-calls t) (ranked put-span-kinds.ps μ-span put-span.Pre t) put-span.Post Inv μ-loop
     (span-loop-holds t)
-    (span-choice-at-requires t)
+    (span-pair-at-requires t)
     (span-put-node-requires t)
     (span-mul-q t)
     (span-shared-slice-read-q t)

@@ -13,7 +13,7 @@ use Rattle.filling.proofs.level.enter_level.Reads as enter-level-reads
 use Rattle.filling.proofs.level.inside.Reads as inside-reads
 use Rattle.table.proofs.part_of.Reads as part-of-reads
 use Rattle.format.specs.Forest.{at-most}
-use Rattle.filling.specs.Filling.{prices-of, Scratch}
+use Rattle.filling.specs.Filling.{counted-of, Scratch}
 use Rattle.filling.proofs.Entries.{kept-then}
 use Rattle.filling.proofs.Recursion.{Through, Opening, through-none, through-listed, through-less, passing, through-step, group-long, opening, through-group, through-all, through-ready}
 use Rattle.filling.proofs.level.+enter_tree.{statement}
@@ -42,7 +42,7 @@ calls t = (
 
 abbrev Inv-loop : lts.InvT-loop
 Inv-loop places nexts s level steps groups prices offsets₀ numbers₀ kinds₀ matches₀ extents₀ tails₀ stops₀ seen₀ keys₀ costs₀ choices₀ span q₀ offsets numbers kinds matches extents tails stops seen keys costs choices q =
-    Through (at-most (level .limit)) (prices-of steps groups prices) s (level .span .behind) costs₀ choices₀ costs choices q
+    Through (at-most (level .limit)) (counted-of steps groups prices) s (level .span .behind) costs₀ choices₀ costs choices q
     × Scratch offsets numbers kinds matches extents tails stops seen keys
 
 abbrev μ-loop : lts.MeasureT-loop
@@ -84,7 +84,7 @@ module _ (t : ℕ) where
       let S = begun c in
       let a = S .args in
       let A = at-most (a .level .limit) in
-      let P = prices-of (a .steps .now) (a .groups .now) (a .prices .now) in (
+      let P = counted-of (a .steps .now) (a .groups .now) (a .prices .now) in (
         through-none A P (a .s .now) (a .level .span .behind) (a .costs .now) (a .choices .now) (a .level .span .first) (S .pre .1 .1 .1 .listed .numbered),
         S .pre .1 .1 .0,
       )

@@ -32,9 +32,9 @@ classed c = c .before .before .before
 abbrev start : tie.At-loop Inv-loop μ-loop → tie.Start Inv-loop μ-loop
 start c = begun (listed (classed c))
 
--- From where the cost of the sibling is known: what the row is drawn from, the matches grown, and the inside of the loop.
-abbrev drawn : tie.After-own-cost Inv-loop μ-loop → tie.After-draw Inv-loop μ-loop
-drawn c = c .before .before .before .before
+-- From where cost and repeats of the sibling are known: what the row is drawn from, the matches grown, and the inside of the loop.
+abbrev drawn : tie.After-own-combined Inv-loop μ-loop → tie.After-draw Inv-loop μ-loop
+drawn c = c .before .before .before .before .before
 
 abbrev grown : tie.After-draw Inv-loop μ-loop → tie.After-grow Inv-loop μ-loop
 grown c = c .before .before .before .before .before
@@ -43,7 +43,7 @@ abbrev inside : tie.After-grow Inv-loop μ-loop → tie.In-loop Inv-loop μ-loop
 inside c = c .before .before .before
 
 -- That, from where the row is entered.
-abbrev costed : tie.After-enter-row Inv-loop μ-loop → tie.After-own-cost Inv-loop μ-loop
+abbrev costed : tie.After-enter-row Inv-loop μ-loop → tie.After-own-combined Inv-loop μ-loop
 costed c = c .before .before .before .before .before .before .before .before .before
 
 abbrev entered : tie.After-slice-known21 Inv-loop μ-loop → tie.After-enter-row Inv-loop μ-loop
@@ -132,9 +132,9 @@ draw-requires c κs =
       (G .grow .ensures .low, rw (next I) (extent-few (start H .pre .0) (omega arith) (H .loop .inv .1))),
     )
 
-own-cost-requires : tie.Need-own-cost-requires Inv-loop μ-loop
-own-cost-requires c κs =
-    let I = inside (grown (c .before .before .before)) in
+own-combined-requires : tie.Need-own-combined-requires Inv-loop μ-loop
+own-combined-requires c κs =
+    let I = inside (grown (c .before .before .before .before)) in
     let H = I .before in
     let l = listed (classed H) .list-siblings .ensures in
     own-asks (start H .pre .0) (H .loop .i - 1) (sym (l .0)) (next I) (H .loop .inv .0) (l .1 .1 .0) (l .1 .1 .1) (H .loop .inv .1) (l .1 .0)
@@ -160,7 +160,7 @@ enter-row-requires c κs =
     let g = G .grow .ensures in
     let w = H .loop .inv .2 in
     row-asks (p .0) (H .loop .i - 1) (sym (l .0)) (next I) (H .loop .inv .0) (l .1 .1 .0) (l .1 .1 .1) (H .loop .inv .1)
-    (D .draw .result) (O .own-cost .ensures) (p .1 .0) (K .classify .ensures .1) g (D .draw .ensures) (H .loop .seen) (w .keys-ready) (w .tails-ready) (w .long-stops) (w .long-seen)
+    (D .draw .result) (O .own-combined .ensures) (p .1 .0) (K .classify .ensures .1) g (D .draw .ensures) (H .loop .seen) (w .keys-ready) (w .tails-ready) (w .long-stops) (w .long-seen)
 
 loop-less : tie.Need-loop-less Inv-loop μ-loop
 loop-less c = let more = inside (grown (drawn (costed (entered c)))) .loop-test .taken in omega arith
@@ -182,7 +182,7 @@ loop-again c =
     let near = H .loop .inv .0 in (
       omega arith,
       descended-more (p .0) (H .loop .i - 1) (sym (l .0)) (next I) near (l .1 .1 .0) (l .1 .1 .1) (H .loop .inv .1)
-          (D .draw .result) (O .own-cost .ensures) (p .1 .0) (K .classify .ensures .1) g (D .draw .ensures)
+          (D .draw .result) (O .own-combined .ensures) (p .1 .0) (K .classify .ensures .1) g (D .draw .ensures)
           {costs′ = E .enter-row .last .0}
           {choices′ = E .enter-row .last .1 .0}
           {tails′ = E .enter-row .last .1 .1 .1 .1 .1 .1 .0}
@@ -258,7 +258,7 @@ enter-level-spec =
     sub-i
     grow-requires
     draw-requires
-    own-cost-requires
+    own-combined-requires
     mul-extents-2
     slice-write-extents-2
     enter-row-requires

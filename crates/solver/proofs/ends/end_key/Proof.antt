@@ -91,8 +91,8 @@ followed-requires c κs =
     let p = begun H .pre .0 in
     (p .1 .low (H .loop .d), p .3 .low (begun H .args .row .at + H .loop .d))
 
-cost-digit-requires : tie.Need-cost-digit-requires Inv-loop μ-loop
-cost-digit-requires c κs = tt
+combined-digits-requires : tie.Need-combined-digits-requires Inv-loop μ-loop
+combined-digits-requires c κs = tt
 
 mul-as-index : tie.Need-mul-as-index Inv-loop μ-loop
 mul-as-index c = omega (arith, in-row (inside (c .before)))
@@ -110,7 +110,7 @@ repeated-requires c κs =
     let H = I .before in
     let p = begun H .pre in
     let r = in-row I in (
-      (p .0 .0, p .0 .2, p .0 .3, omega (arith, D .cost-digit .ensures, p .0 .1 .low (H .loop .d))),
+      (p .0 .0, p .0 .2, p .0 .3, omega (arith, D .combined-digits .ensures, p .0 .1 .low (H .loop .d))),
       (r .0, r .1, omega (arith, c .as-index .ensures, p .1 (H .loop .d) (r .0) (r .2))),
     )
 
@@ -130,7 +130,7 @@ loop-again c =
     let more = I .loop-test .taken in
     let e : L .d + 1 - 1 ≡ L .d = omega arith in
     let f = F .followed .ensures in
-    let r = rw (D .cost-digit .ensures, X .as-index .ensures) at (c .repeated .ensures) in
+    let r = rw (D .combined-digits .ensures, X .as-index .ensures) at (c .repeated .ensures) in
     (omega arith, omega arith, rw e (ending-more _ _ _ _ _ (L .d - 1) (L .d) _ _ _ (omega (arith, L .inv .0)) (L .inv .2) (f .0) (f .1) (f .2) (r .0) (r .1)))
 
 returns-2 : tie.Need-returns-2 Inv-loop μ-loop
@@ -161,7 +161,7 @@ end-key-spec =
     mul-followed
     shared-slice-read-followed
     followed-requires
-    cost-digit-requires
+    combined-digits-requires
     mul-as-index
     shared-slice-read-as-index
     as-index-requires

@@ -10,17 +10,17 @@ use Rattle.solver.proofs.ends.offer_end.Statement.{statement}
 use Rattle.solver.proofs.ends.offer_end.Tie as tie
 
 abbrev Inv-loop : tie.InvT-loop
-Inv-loop row prices tails cost d span from last best₀ h₀ best h = EndUpto row prices tails cost d span from last h best
+Inv-loop row prices tails body d span from last best₀ h₀ best h = EndUpto row prices tails body d span from last h best
 
 abbrev μ-loop : tie.MeasureT-loop
-μ-loop row prices tails cost d span from last best₀ h₀ best h = 1026 - h
+μ-loop row prices tails body d span from last best₀ h₀ best h = 1026 - h
 
 -- The function's start, from the loop's head, and that head, from where a key is known.
 abbrev start : tie.At-loop Inv-loop μ-loop → tie.Start Inv-loop μ-loop
 start c = c .before .before .before
 
-abbrev inside : tie.After-key-of Inv-loop μ-loop → tie.In-loop Inv-loop μ-loop
-inside c = c .before .before .before
+abbrev inside : tie.After-offer-key Inv-loop μ-loop → tie.In-loop Inv-loop μ-loop
+inside c = c .before
 
 -- What is in reach fits the lists, and covers more than the row has solved.
 within : (c : tie.In-loop Inv-loop μ-loop)
@@ -53,22 +53,10 @@ mul-loop c =
     let m : start c .args .d ≤ 1024 = omega (arith, start c .pre .0 .0 .few) in
     omega (arith, mul-le-mul l m)
 
-mul-key-of : tie.Need-mul-key-of Inv-loop μ-loop
-mul-key-of c = omega (arith, within c)
-
-shared-slice-read-key-of : tie.Need-shared-slice-read-key-of Inv-loop μ-loop
-shared-slice-read-key-of c = omega (arith, within (c .before), start (c .before .before) .pre .0 .1 .long)
-
-add-key-of : tie.Need-add-key-of Inv-loop μ-loop
-add-key-of c = omega (arith, start (c .before .before) .pre .0 .1 .low (c .before .before .loop .h))
-
-choice-of-requires : tie.Need-choice-of-requires Inv-loop μ-loop
-choice-of-requires c κs = let w = within (c .before) in (w .0, omega (arith, start (c .before .before) .pre .0 .0 .few))
-
-key-of-requires : tie.Need-key-of-requires Inv-loop μ-loop
-key-of-requires c κs =
-    let L = c .before .before .before in
-    (omega (arith, start L .pre .0 .1 .low (L .loop .h)), omega (arith, c .choice-of .ensures))
+offer-key-requires : tie.Need-offer-key-requires Inv-loop μ-loop
+offer-key-requires c κs =
+    let S = start (c .before) in
+    (S .pre .0 .1, S .pre .0 .3, omega (arith, S .pre .0 .0 .few, S .pre .1), within c .0)
 
 mul-lesser : tie.Need-mul-lesser Inv-loop μ-loop
 mul-lesser c = omega (arith, within (inside c))
@@ -90,8 +78,8 @@ add-lesser-2 c =
     let h = I .before .loop .h in
     omega (
       arith,
-      K .key-of .ensures,
-      K .before .choice-of .ensures,
+      K .offer-key .ensures,
+      within I,
       S .pre .0 .1 .low h,
       S .pre .0 .2 .low (S .args .row .at + h * S .args .d),
       S .pre .0 .3,
@@ -112,9 +100,8 @@ loop-again c =
     let I = inside K in
     let L = I .before .loop in
     let r = c .lesser .ensures in
-    let e = K .key-of .ensures in
-    let f = K .before .choice-of .ensures .0 in
-    end-more _ _ _ _ _ _ _ _ (L .h) (L .best) (L .inv) _ (within I .0) (beyond I) (rw (e, f) at (r .0)) (r .1) (rw (e, f) at (r .2))
+    let e = K .offer-key .ensures in
+    end-more _ _ _ _ _ _ _ _ (L .h) (L .best) (L .inv) _ (within I .0) (beyond I) (rw e at (r .0)) (r .1) (rw e at (r .2))
 
 returns : tie.Need-returns Inv-loop μ-loop
 returns c =
@@ -130,11 +117,7 @@ offer-end-spec =
     loop-holds
     sub-loop
     mul-loop
-    mul-key-of
-    shared-slice-read-key-of
-    add-key-of
-    choice-of-requires
-    key-of-requires
+    offer-key-requires
     mul-lesser
     add-lesser
     mul-lesser-2

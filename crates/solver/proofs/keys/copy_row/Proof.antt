@@ -60,7 +60,8 @@ loop-again c =
     let k = c .key-at .ensures in
     let p = start (c .before .before) .pre .1 in
     let f = p .0 in
-    (omega (arith, f .few, f .taken), put-more _ _ _ _ _ (L .inv .1) _ (omega (arith, p .1 .long, f .few, f .taken)) (omega (arith, k .1), k .0))
+    let low = start (c .before .before) .pre .0 .2 .taken (L .d) (L .inv .1 .late) (omega arith) in
+    (omega (arith, f .few, f .taken), put-more _ _ _ _ _ (L .inv .1) _ (omega (arith, p .1 .long, f .few, f .taken)) (omega (arith, k, low), k))
 
 same-length : tie.Need-same-length Inv-loop μ-loop
 same-length c = c .before .loop .inv .1 .same-length

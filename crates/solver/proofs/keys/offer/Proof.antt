@@ -10,17 +10,17 @@ use Rattle.solver.proofs.keys.offer.Statement.{statement}
 use Rattle.solver.proofs.keys.offer.Tie as tie
 
 abbrev Inv-loop : tie.InvT-loop
-Inv-loop prices cost d span from keys₀ h₀ keys h = Upto prices cost d span from keys₀ keys h
+Inv-loop prices body d span from keys₀ h₀ keys h = Upto prices body d span from keys₀ keys h
 
 abbrev μ-loop : tie.MeasureT-loop
-μ-loop prices cost d span from keys₀ h₀ keys h = 1026 - h
+μ-loop prices body d span from keys₀ h₀ keys h = 1026 - h
 
 -- The function's start, from the loop's head, and the inside of the loop, from where its branches join.
 abbrev start : tie.At-loop Inv-loop μ-loop → tie.Start Inv-loop μ-loop
 start c = c .before .before .before
 
 abbrev inside : tie.Joined1 Inv-loop μ-loop → tie.In-loop Inv-loop μ-loop
-inside c = c .before .before .before .before .before
+inside c = c .before .before .before
 
 -- What is in span fits the lists.
 within : (c : tie.In-loop Inv-loop μ-loop) → (c .before .loop .h * start (c .before) .args .d ≤ 1024) × (c .before .loop .h ≤ 1024)
@@ -46,38 +46,26 @@ mul-loop c =
 mul-c : tie.Need-mul-c Inv-loop μ-loop
 mul-c c = let w = within c in omega arith
 
-mul-key-of : tie.Need-mul-key-of Inv-loop μ-loop
-mul-key-of c = let w = within c in omega arith
-
-shared-slice-read-key-of : tie.Need-shared-slice-read-key-of Inv-loop μ-loop
-shared-slice-read-key-of c = let w = within (c .before) in omega arith
-
-add-key-of : tie.Need-add-key-of Inv-loop μ-loop
-add-key-of c = omega (arith, start (c .before .before) .pre .0 .0 .low (c .before .before .loop .h))
-
-choice-of-requires : tie.Need-choice-of-requires Inv-loop μ-loop
-choice-of-requires c κs = let w = within (c .before) in (w .1, omega arith)
-
-key-of-requires : tie.Need-key-of-requires Inv-loop μ-loop
-key-of-requires c κs =
-    let L = c .before .before .before in
-    (omega (arith, start L .pre .0 .0 .low (L .loop .h)), omega (arith, c .choice-of .ensures))
+offer-key-requires : tie.Need-offer-key-requires Inv-loop μ-loop
+offer-key-requires c κs =
+    let S = start (c .before) in
+    (S .pre .0 .0, S .pre .1 .0, omega (arith, S .pre .1), within c .1)
 
 mul-if1 : tie.Need-mul-if1 Inv-loop μ-loop
-mul-if1 c = let w = within (c .before .before .before) in omega arith
+mul-if1 c = let w = within (c .before) in omega arith
 
 slice-read-if1 : tie.Need-slice-read-if1 Inv-loop μ-loop
 slice-read-if1 c =
-    let I = c .before .before .before .before in
+    let I = c .before .before in
     let w = within I in
     omega (arith, I .before .loop .inv .same-length)
 
 mul-keys : tie.Need-mul-keys Inv-loop μ-loop
-mul-keys c = let w = within (c .before .before .before .before .before) in omega arith
+mul-keys c = let w = within (c .before .before .before) in omega arith
 
 slice-write-keys : tie.Need-slice-write-keys Inv-loop μ-loop
 slice-write-keys c =
-    let I = c .before .before .before .before .before in
+    let I = c .before .before .before in
     let w = within I in
     omega (arith, I .before .loop .inv .same-length)
 
@@ -94,11 +82,10 @@ loop-again c =
     let u = L .inv in
     let near = inside c .loop-test .taken in
     let fits : L .h * start (inside c .before) .args .d < length (L .keys) = omega (arith, u .same-length) in
-    let k = c .before .before .key-of .ensures in
-    let x = c .before .before .before .choice-of .ensures .0 in
+    let k = c .before .before .offer-key .ensures in
     ⊎-elim
-    (λ y. rw (y .1, k, x) (upto-set _ _ _ _ _ _ (L .keys) (L .h) u (w .1) near fits (omega (arith, y .0 .taken, k, x))))
-    (λ y. rw (y .1) (upto-kept _ _ _ _ _ _ (L .keys) (L .h) u (w .1) (omega (arith, y .0 .left, k, x))))
+    (λ y. rw (y .1, k) (upto-set _ _ _ _ _ _ (L .keys) (L .h) u (w .1) near fits (omega (arith, y .0 .taken, k))))
+    (λ y. rw (y .1) (upto-kept _ _ _ _ _ _ (L .keys) (L .h) u (w .1) (omega (arith, y .0 .left, k))))
     (c .if1 .came)
 
 same-length : tie.Need-same-length Inv-loop μ-loop
@@ -117,11 +104,7 @@ offer-spec =
     sub-loop
     mul-loop
     mul-c
-    mul-key-of
-    shared-slice-read-key-of
-    add-key-of
-    choice-of-requires
-    key-of-requires
+    offer-key-requires
     mul-if1
     slice-read-if1
     mul-keys

@@ -1,6 +1,8 @@
 -- `solver::keys::plain_row` meets its contract. The loop's invariant: the places from `from` up to below d have the keys of the plain node.
 use native.Mathlib.Omega.{arith}
-use Prim.Native.Nat.{_-_, _≤_}
+use Prim.Native.Nat.{_+_, _-_, _<_, _≤_}
+use Rattle.table.specs.Keys.{stored-key}
+use Rattle.table.specs.Table.{key-at}
 use Rattle.table.proofs.Tables.{falling-read}
 use Rattle.solver.proofs.Putting.{Put, OfPlain, put-none, put-more, plainly-all}
 use Rattle.solver.proofs.keys.plain_row.Statement.{statement}
@@ -34,6 +36,13 @@ key-of-requires c κs =
 loop-holds : tie.Need-loop-holds Inv-loop μ-loop
 loop-holds c = (omega arith, put-none _ _ _)
 
+-- What follows the plain node is low.
+low : (c : tie.In-loop Inv-loop μ-loop)
+    → (let a = start (c .before) .args in key-at (a .costs .now) (a .choices .now) (a .numbers .now) (a .row .at + 1) (a .row .at + c .before .loop .d) < stored-key)
+low c =
+    let S = start (c .before) in
+    S .pre .0 .2 .rests 1 (c .before .loop .d) (omega arith) (omega (arith, c .before .loop .inv .1 .late, S .pre .1 .2)) (c .loop-test .taken)
+
 add-rest-key : tie.Need-add-rest-key Inv-loop μ-loop
 add-rest-key c = let f = start (c .before .before) .pre .1 .0 in omega (arith, f .few, f .some)
 
@@ -48,7 +57,7 @@ rest-key-requires c κs =
 add-keys : tie.Need-add-keys Inv-loop μ-loop
 add-keys c =
     let L = c .before .before .before in
-    omega (arith, L .before .key-of .ensures, c .rest-key .ensures, start L .pre .1 .0 .low)
+    omega (arith, L .before .key-of .ensures, c .rest-key .ensures, low (c .before .before), start L .pre .1 .0 .low)
 
 mul-keys : tie.Need-mul-keys Inv-loop μ-loop
 mul-keys c = omega arith
@@ -73,7 +82,7 @@ loop-again c =
     let rest = c .rest-key .ensures in
     let f = p .0 in (
       omega (arith, f .few, f .some),
-      put-more _ _ _ _ _ (L .loop .inv .1) _ (omega (arith, p .1 .long, f .few, f .some)) (omega (arith, plain, rest, f .low), omega (arith, plain, rest)),
+      put-more _ _ _ _ _ (L .loop .inv .1) _ (omega (arith, p .1 .long, f .few, f .some)) (omega (arith, plain, rest, low (c .before .before), f .low), omega (arith, plain, rest)),
     )
 
 same-length : tie.Need-same-length Inv-loop μ-loop

@@ -3,7 +3,7 @@ use mathlib.Core.Path.{refl, sym, _∙_}
 use native.Mathlib.Omega.{arith}
 use Rattle.table.proofs.Tables.{falling-less}
 use Rattle.solver.proofs.Putting.{tails-ready}
-use Rattle.solver.proofs.Solving.{row-fits, match-low, started-rowed, solved-low}
+use Rattle.solver.proofs.Solving.{row-fits, row-low, match-low, started-rowed, solved-low}
 use Rattle.solver.proofs.Entering.{last-low, row-entered}
 use borrow.Author.Needs.{needs}
 use Rattle.solver.proofs.row.enter_row.Statement.{statement}
@@ -17,7 +17,7 @@ abbrev first : tie.After-mark → tie.After-start-row
 first c = c .before .before .before .before .before
 
 abbrev marked : tie.After-solve → tie.After-mark
-marked c = c .before .before .before .before .before .before .before .before
+marked c = c .before .before .before .before .before .before .before .before .before
 
 abbrev solved : tie.After-end-key → tie.After-solve
 solved c = c .before .before .before .before .before
@@ -35,7 +35,7 @@ stored c = c .before .before .before .before .before .before .before .before .be
 start-row-requires : tie.Need-start-row-requires
 start-row-requires c κs =
     let p = c .before .before .before .before .before .before .before .before .before .before .before .before .pre in
-    (p .0, (row-fits (p .1 .1), p .1 .0 .0))
+    ((p .0 .0, p .0 .1, row-low (p .1 .1)), (row-fits (p .1 .1), p .1 .0 .0))
 
 mark-requires : tie.Need-mark-requires
 mark-requires c κs =
@@ -45,24 +45,24 @@ mark-requires c κs =
 
 solve-requires : tie.Need-solve-requires
 solve-requires c κs =
-    let M = c .before .before .before .before .before .before .before in
+    let M = c .before .before .before .before .before .before .before .before in
     let F = first M in
     let p = start F .pre in
     let z = p .1 .1 in
-    (p .0, (row-fits z, F .start-row .ensures .ready, z .priced .ready, p .1 .0 .2, p .1 .0 .3, M .mark .ensures))
+    ((p .0 .0, p .0 .1, row-low z), (row-fits z, F .start-row .ensures .ready, z .priced .ready, p .1 .0 .2, p .1 .0 .3, M .mark .ensures, p .1 .0 .1))
 
 end-key-requires : tie.Need-end-key-requires
 end-key-requires c κs =
     let D = c .before .before .before .before in
     let p = begun D .pre in
     let z = p .1 .1 in
-    ((row-fits z, D .solve .ensures (begun D .args .tails .now) .ready, z .priced .ready, p .1 .0 .1, p .1 .0 .2), match-low z)
+    ((row-fits z, D .solve .ensures .ready, z .priced .ready, p .1 .0 .1, p .1 .0 .2), match-low z)
 
 add-stops : tie.Need-add-stops
 add-stops c =
     let D = solved c in
     let f = row-fits (begun D .pre .1 .1) in
-    omega (arith, f .some, f .few, D .solve .ensures (begun D .args .tails .now) .low)
+    omega (arith, f .some, f .few, D .solve .ensures .low)
 
 mul-stops : tie.Need-mul-stops
 mul-stops c = let f = row-fits (begun (solved c) .pre .1 .1) in omega (arith, f .some, f .few)
@@ -91,10 +91,10 @@ store-row-requires c κs =
     let p = begun D .pre in
     let z = p .1 .1 in
     let f = row-fits z in
-    let a = D .solve .ensures (begun D .args .tails .now) in
+    let a = D .solve .ensures in
     let rowed = a .rowed z (started-rowed z _ (first (marked D) .start-row .ensures)) in (
       (falling-less _ (f .within) (p .0 .0), falling-less _ (f .within) (p .0 .1)),
-      (omega (arith, f .few, f .within, a .ready .long), λ d l h. omega (arith, solved-low z _ rowed d l h)),
+      (omega (arith, f .few, f .within, a .ready .long), λ d l h. solved-low z _ rowed d l h),
     )
 
 store-entry-requires : tie.Need-store-entry-requires
@@ -106,7 +106,7 @@ store-entry-requires c κs =
     let z = p .1 .1 in
     let s = T .store-row .ensures in (
       (rw (s .0 .same-length) (p .0 .0), rw (s .1 .same-length) (p .0 .1)),
-      (z .some, last-low (first (marked D) .start-row .ensures) (D .solve .ensures (begun D .args .tails .now)) (E .end-key .ensures .0) (E .end-key .ensures .1) z),
+      (z .some, last-low (first (marked D) .start-row .ensures) (D .solve .ensures) (E .end-key .ensures .0) (E .end-key .ensures .1) z),
     )
 
 same-length : tie.Need-same-length
@@ -129,7 +129,7 @@ same-length-5 c =
 same-length-6 : tie.Need-same-length-6
 same-length-6 c =
     let D = solved (ended (stored c)) in
-    D .solve .ensures (begun D .args .tails .now) .ready .long ∙ sym (begun D .pre .1 .0 .0 .long)
+    D .solve .ensures .ready .long ∙ sym (begun D .pre .1 .0 .0 .long)
 
 returns : tie.Need-returns
 returns c =
@@ -144,7 +144,7 @@ returns c =
     let f = row-fits z in
     let some = z .some in
     let s = first M .start-row .ensures in
-    let a = D .solve .ensures (begun D .args .tails .now) in
+    let a = D .solve .ensures in
     let e = E .end-key .ensures in
     let r = R .rest-of .ensures in
     let o = O .store-entry .ensures in (

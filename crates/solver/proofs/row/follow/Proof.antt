@@ -8,7 +8,7 @@ use Rattle.solver.proofs.row.follow.Tie as tie
 
 -- The function's start, from where the cover is known, and that, from where the stretch may be first.
 abbrev start : tie.After-covered → tie.Start
-start c = c .before .before .before .before .before .before .before .before
+start c = c .before .before .before .before .before .before .before .before .before
 
 abbrev known : tie.Then2 → tie.After-covered
 known c = c .before .before .before
@@ -37,7 +37,7 @@ push-requires c κs =
     let X = c .before in
     let S = start (known (X .before)) in
     let e = X .past .ensures in
-    (S .pre .0, (S .pre .1 .0, S .pre .1 .1, S .pre .1 .3, S .pre .1 .1 .low (S .args .d), e .0, e .2))
+    (S .pre .0, (S .pre .1 .0, S .pre .1 .1, S .pre .1 .3, S .pre .1 .1 .low (S .args .d), e .0, e .2, S .pre .1 .2, S .pre .1 .6))
 
 same-length : tie.Need-same-length
 same-length c = search needs

@@ -1,8 +1,7 @@
 -- `solver::row::solve` meets its contract. The loop's invariant: the stretches of fewer than d siblings have done their part, and the
 -- keys taken over stay, so that their marks do. The measure is what is left of the row.
 use mathlib.Core.Path.{_≡_, sym, _∙_}
-use mathlib.Core.List.{List, []}
-use Prim.Native.Nat.{ℕ, _+_, _-_, _<_, _≤_}
+use Prim.Native.Nat.{_+_, _-_, _<_, _≤_}
 use native.Mathlib.Omega.{arith}
 use Rattle.solver.specs.Rows.{Advanced}
 use Rattle.solver.proofs.Marks.{marked-still}
@@ -11,15 +10,15 @@ use Rattle.solver.proofs.row.solve.Statement.{statement}
 use Rattle.solver.proofs.row.solve.Tie as tie
 
 abbrev Inv-loop : tie.InvT-loop
-Inv-loop costs choices numbers row prices matches stops seen keys₀ longest₀ d₀ keys longest d =
-    (1 ≤ d) × (d ≤ row .extent + 1) × ((tails : List ℕ) → Advanced costs choices numbers row prices matches tails stops (d - 1) keys₀ keys longest)
+Inv-loop costs choices numbers row prices matches tails stops seen keys₀ longest₀ d₀ keys longest d =
+    (1 ≤ d) × (d ≤ row .extent + 1) × Advanced costs choices numbers row prices matches tails stops (d - 1) keys₀ keys longest
 
 abbrev μ-loop : tie.MeasureT-loop
-μ-loop costs choices numbers row prices matches stops seen keys₀ longest₀ d₀ keys longest d = row .extent + 1 - d
+μ-loop costs choices numbers row prices matches tails stops seen keys₀ longest₀ d₀ keys longest d = row .extent + 1 - d
 
 -- The function's start, from the loop's head, and that head, from its inside.
 abbrev start : tie.At-loop Inv-loop μ-loop → tie.Start Inv-loop μ-loop
-start c = c .before .before .before .before .before .before .before .before .before
+start c = c .before .before .before .before .before .before .before .before .before .before
 
 abbrev head : tie.Then1 Inv-loop μ-loop → tie.At-loop Inv-loop μ-loop
 head c = c .before .before
@@ -38,13 +37,13 @@ in-row c = let f = start (head c) .pre .1 .0 in (head c .loop .inv .0, c .if1 .t
 
 loop-holds : tie.Need-loop-holds Inv-loop μ-loop
 loop-holds c =
-    (omega arith, omega arith, λ tails. advanced-none (c .before .before .before .before .before .before .before .before .pre .1 .1))
+    (omega arith, omega arith, advanced-none (c .before .before .before .before .before .before .before .before .before .pre .1 .1))
 
 mul-covered : tie.Need-mul-covered Inv-loop μ-loop
 mul-covered c = omega (arith, in-row c)
 
 slice-read-covered : tie.Need-slice-read-covered Inv-loop μ-loop
-slice-read-covered c = omega (arith, in-row (c .before), head (c .before) .loop .inv .2 [] .ready .long)
+slice-read-covered c = omega (arith, in-row (c .before), head (c .before) .loop .inv .2 .ready .long)
 
 covered-requires : tie.Need-covered-requires Inv-loop μ-loop
 covered-requires c κs = tt
@@ -57,9 +56,9 @@ follow-requires c κs =
     let I = inside (c .before) in
     let H = head I in
     let p = start H .pre in
-    let a = H .loop .inv .2 [] in
+    let a = H .loop .inv .2 in
     let r = in-row I in
-    (p .0, (p .1 .0, a .ready, r .0, r .1, p .1 .4, marked-still (a .taken) (p .1 .5)))
+    (p .0, (p .1 .0, a .ready, r .0, r .1, p .1 .4, marked-still (a .taken) (p .1 .5), p .1 .6))
 
 mul-as-index : tie.Need-mul-as-index Inv-loop μ-loop
 mul-as-index c = omega (arith, in-row (inside (c .before .before .before .before)))
@@ -108,11 +107,11 @@ loop-again c =
     let e : L .d + 1 - 1 ≡ L .d = omega arith in (
       omega arith,
       omega arith,
-      λ tails. rw e
-          (advanced-more (L .d - 1) (L .d) _ _ _ _ (omega (arith, L .inv .0)) (r .1) (L .inv .2 tails) (G .larger .ensures .0)
+      rw e
+          (advanced-more (L .d - 1) (L .d) _ _ _ _ (omega (arith, L .inv .0)) (r .1) (L .inv .2) (G .larger .ensures .0)
           (omega (arith, G .larger .ensures .1, cover)) (λ x y v. G .larger .ensures .2 x y (omega (arith, cover))) (w .0)
           (record {
-            between = F .follow .last .1 .1 .1 .1 .1 .1 .1 .0;
+            between = F .follow .last .1 .1 .1 .1 .1 .1 .1 .1 .0;
             room = M .smaller .result;
             roomy = record { less = omega arith; inside = omega arith; most = λ k a b. room .2 k (omega arith) (omega arith) };
             pushed = f .1;
@@ -121,13 +120,13 @@ loop-again c =
     )
 
 same-length : tie.Need-same-length Inv-loop μ-loop
-same-length c = c .before .before .loop .inv .2 [] .ready .long ∙ sym (start (c .before .before) .pre .1 .1 .long)
+same-length c = c .before .before .loop .inv .2 .ready .long ∙ sym (start (c .before .before) .pre .1 .1 .long)
 
 returns : tie.Need-returns Inv-loop μ-loop
 returns c =
     let H = c .before .before in
     let e : H .loop .d - 1 ≡ start H .args .row .extent = omega (arith, c .if1 .left, H .loop .inv .0, H .loop .inv .1) in
-    λ tails. rw e at (H .loop .inv .2 tails)
+    rw e at (H .loop .inv .2)
 
 pub solve-spec : {M : Type 1} → statement M
 solve-spec =

@@ -19,14 +19,14 @@ known c = c .before .before .before .before
 matched-within-requires : tie.Need-matched-within-requires
 matched-within-requires c κs = search needs
 
-mul-cost-digit : tie.Need-mul-cost-digit
-mul-cost-digit c = search needs
+mul-combined-digits : tie.Need-mul-combined-digits
+mul-combined-digits c = search needs
 
-slice-read-cost-digit : tie.Need-slice-read-cost-digit
-slice-read-cost-digit c = search needs
+slice-read-combined-digits : tie.Need-slice-read-combined-digits
+slice-read-combined-digits c = search needs
 
-cost-digit-requires : tie.Need-cost-digit-requires
-cost-digit-requires c κs = search needs
+combined-digits-requires : tie.Need-combined-digits-requires
+combined-digits-requires c κs = search needs
 
 count-past-requires : tie.Need-count-past-requires
 count-past-requires c κs = search needs
@@ -37,7 +37,7 @@ offer-requires c κs =
     let S = start (known X) in
     let p = S .pre in
     let k = X .count-past .ensures in
-    ((p .2, p .1), (omega (arith, X .before .cost-digit .ensures, p .1 .low (S .args .d)), p .3, omega (arith, p .0 .few, p .0 .within), k .0, k .1))
+    ((p .2, p .1), (omega (arith, X .before .combined-digits .ensures, p .1 .low (S .args .d)), p .3, omega (arith, p .0 .few, p .0 .within), k .0, k .1))
 
 same-length : tie.Need-same-length
 same-length c = search needs
@@ -54,7 +54,7 @@ returns c =
       | yes l ↦ l
       | no l ↦ absurd (omega (arith, K .matched-within .ensures .1 (omega arith)))
     ] in
-    let w = offer (k .result) (k .ensures .0) (k .ensures .2) (k .ensures .3) within (rw (X .before .cost-digit .ensures) at (O .offer .ensures)) in
+    let w = offer (k .result) (k .ensures .0) (k .ensures .2) (k .ensures .3) within (rw (X .before .combined-digits .ensures) at (O .offer .ensures)) in
     (widened-ready (S .pre .1) w, w)
 
 returns-2 : tie.Need-returns-2
@@ -73,9 +73,9 @@ widen-spec =
     tie.close
     (tie.spec
     matched-within-requires
-    mul-cost-digit
-    slice-read-cost-digit
-    cost-digit-requires
+    mul-combined-digits
+    slice-read-combined-digits
+    combined-digits-requires
     count-past-requires
     offer-requires
     same-length

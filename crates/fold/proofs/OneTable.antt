@@ -1,4 +1,4 @@
--- The fold program prints what it printed when it lent one table for the labels of steps and groups alike.
+-- The fold program prints what one table for the labels of steps and groups alike gives.
 use mathlib.Core.Path.{_≡_, ap}
 use mathlib.Core.List.{List}
 use Prim.Native.Nat.{ℕ}
@@ -8,6 +8,6 @@ use Rattle.folder.specs.OneTable.{one-table-folding}
 use Rattle.folder.proofs.OneTable.{equal-tables-folding}
 use Rattle.fold.specs.Printed.{lines-of, printed}
 
-pub printed-as-before : (run : List ℕ) → printed run ≡ lines-of (one-table-folding run (limits .width) (replicate 256 1) 1 0)
+pub printed-by-one-table : (run : List ℕ) → printed run ≡ lines-of (one-table-folding run (limits .width) (replicate 256 1) 1 0)
 unfolding printed
-printed-as-before run = ap lines-of (equal-tables-folding run (limits .width) (replicate 256 1) 1 0)
+printed-by-one-table run = ap lines-of (equal-tables-folding run (limits .width) (replicate 256 1) 1 0)
