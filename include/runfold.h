@@ -77,7 +77,7 @@ extern "C" {
 
 /* The version of the library, as numbers and as text. */
 #define RUNFOLD_VERSION_MAJOR 0
-#define RUNFOLD_VERSION_MINOR 4
+#define RUNFOLD_VERSION_MINOR 5
 #define RUNFOLD_VERSION_PATCH 0
 #define RUNFOLD_VERSION \
     RUNFOLD_QUOTE(RUNFOLD_VERSION_MAJOR) "." RUNFOLD_QUOTE(RUNFOLD_VERSION_MINOR) "." RUNFOLD_QUOTE(RUNFOLD_VERSION_PATCH)
@@ -219,9 +219,10 @@ uint8_t runfold_unroll(const uint8_t *fold, size_t fold_len, size_t limit, uint8
                        size_t answer_len);
 
 /* The folder: refusals 1 to 5, 8, 10 to 15, or the length and the cost of the cheapest fold of the run at these prices whose
- * widths are within the limit; of several, the one whose bytes come first. `costs` and `choices` are work, of at least
- * RUNFOLD_WORK(nodes) entries each and with any contents; they hold no prices. RUNFOLD_ROOM(nodes) bytes of output are always
- * enough: refusal 14 does not say how many are missing.
+ * widths are within the limit; of several, the one with the fewest 20 commands, each counted once; and of several such, the
+ * one whose bytes come first. `costs` and `choices` are work, of at least RUNFOLD_WORK(nodes) entries each and with any
+ * contents; they hold no prices. RUNFOLD_ROOM(nodes) bytes of output are always enough: refusal 14 does not say how many are
+ * missing.
  * On success the fold stands in the first bytes of `out`, as many as the length says, and the others stay as they are; after a
  * refusal `out` stays as it is. On success and after refusal 14 the first RUNFOLD_WORK(nodes) entries of both work slices are
  * 0 and the others stay as they are; after any other refusal both stay as they are. */

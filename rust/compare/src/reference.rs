@@ -1,7 +1,7 @@
 //! An independent implementation, to compare the library with: readers, unroller, folder, index builder and finder, written
 //! from the rules of docs/FORMAT.md and from the report, and not from the Rattle code. It is plain and slow. The folder is the
-//! report's dynamic programme over the intervals of each sequence; ties are settled by comparing the bytes of whole folds. The
-//! finder writes out all nodes of the run.
+//! report's dynamic programme over the intervals of each sequence; ties are settled by the repeats of whole folds, and then by
+//! comparing their bytes. The finder writes out all nodes of the run.
 
 use std::cmp::Ordering;
 
@@ -111,6 +111,18 @@ pub fn count_nodes(items: &[Item]) -> usize {
             Item::Step(_) => 1,
             Item::Group(_, body) => 1 + count_nodes(body),
             Item::Repeat(count, _, body) => count * count_nodes(body),
+        })
+        .sum()
+}
+
+/// How many repeats stand in a sequence, each counted once: in groups and in other repeats too.
+pub fn count_repeats(items: &[Item]) -> usize {
+    items
+        .iter()
+        .map(|item| match item {
+            Item::Step(_) => 0,
+            Item::Group(_, body) => count_repeats(body),
+            Item::Repeat(_, _, body) => 1 + count_repeats(body),
         })
         .sum()
 }
@@ -451,25 +463,35 @@ pub fn part(run: &[u8], at: usize) -> &[u8] {
     }
 }
 
-/// The cheapest fold of a sequence of nodes, with its cost: the report's dynamic programme. A stretch of siblings is the one
-/// node, or one repetition of a shorter stretch (case 1), or two stretches one after the other (case 2).
-pub fn cheapest(nodes: &[Item], limit: usize, prices: &Prices) -> (u64, Vec<u8>) {
+/// A fold and what it is chosen by. The order of the fields is the order of choice: the lower cost, then fewer repeats, then the
+/// bytes that come first.
+#[derive(Clone, Debug, PartialEq, Eq, PartialOrd, Ord)]
+pub struct Ranked {
+    pub cost: u64,
+    pub repeats: usize,
+    pub bytes: Vec<u8>,
+}
+
+/// The cheapest fold of a sequence of nodes: the report's dynamic programme. A stretch of siblings is the one node, or one
+/// repetition of a shorter stretch (case 1), or two stretches one after the other (case 2).
+pub fn cheapest(nodes: &[Item], limit: usize, prices: &Prices) -> Ranked {
     let n = nodes.len();
     if n == 0 {
-        return (0, Vec::new());
+        return Ranked { cost: 0, repeats: 0, bytes: Vec::new() };
     }
     // best[i][d - 1] is the cheapest fold of d siblings from i on.
-    let mut best: Vec<Vec<(u64, Vec<u8>)>> = nodes
+    let mut best: Vec<Vec<Ranked>> = nodes
         .iter()
         .map(|node| {
             vec![match node {
-                Item::Step(label) => (prices.step(*label), vec![0x10, *label]),
+                Item::Step(label) => Ranked { cost: prices.step(*label), repeats: 0, bytes: vec![0x10, *label] },
                 Item::Group(label, body) => {
-                    let (cost, bytes) = cheapest(body, limit, prices);
-                    let mut whole = vec![0x11, *label];
-                    whole.extend(bytes);
-                    whole.push(0x12);
-                    (prices.group(*label) + cost, whole)
+                    let inside = cheapest(body, limit, prices);
+                    Ranked {
+                        cost: prices.group(*label) + inside.cost,
+                        repeats: inside.repeats,
+                        bytes: [&[0x11, *label], &inside.bytes[..], &[0x12]].concat(),
+                    }
                 }
                 Item::Repeat(..) => unreachable!("a run has no repeats"),
             }]
@@ -484,30 +506,36 @@ pub fn cheapest(nodes: &[Item], limit: usize, prices: &Prices) -> (u64, Vec<u8>)
     best[0].pop().unwrap()
 }
 
-/// The cost of the cheapest fold alone, by the same programme: for runs too long to keep the bytes of every stretch.
-pub fn cheapest_cost(nodes: &[Item], limit: usize, prices: &Prices) -> u64 {
+/// The cost of the cheapest fold and its repeats alone, by the same programme: for runs too long to keep the bytes of every
+/// stretch.
+pub fn lowest(nodes: &[Item], limit: usize, prices: &Prices) -> (u64, usize) {
     let n = nodes.len();
     if n == 0 {
-        return 0;
+        return (0, 0);
     }
     // Equal siblings have equal classes.
     let class: Vec<usize> = nodes.iter().map(|node| nodes.iter().position(|other| other == node).unwrap()).collect();
-    let mut best = vec![vec![u64::MAX; n + 1]; n];
+    let mut best = vec![vec![(u64::MAX, 0); n + 1]; n];
     for (i, node) in nodes.iter().enumerate() {
         best[i][1] = match node {
-            Item::Step(label) => prices.step(*label),
-            Item::Group(label, body) => prices.group(*label) + cheapest_cost(body, limit, prices),
+            Item::Step(label) => (prices.step(*label), 0),
+            Item::Group(label, body) => {
+                let (cost, repeats) = lowest(body, limit, prices);
+                (prices.group(*label) + cost, repeats)
+            }
             Item::Repeat(..) => unreachable!("a run has no repeats"),
         };
     }
     for d in 1..=n {
         for i in 0..=n - d {
-            let split = (1..d).map(|e| best[i][e] + best[i + e][d - e]).min();
-            best[i][d] = best[i][d].min(split.unwrap_or(u64::MAX));
+            let two = |e: usize| (best[i][e].0 + best[i + e][d - e].0, best[i][e].1 + best[i + e][d - e].1);
+            let split = (1..d).map(two).min();
+            best[i][d] = best[i][d].min(split.unwrap_or((u64::MAX, 0)));
             // This stretch repeated, as far as its copies go.
             let mut count = 2;
             while d <= limit && i + count * d <= n && class[i..i + d] == class[i + (count - 1) * d..i + count * d] {
-                best[i][count * d] = best[i][count * d].min(best[i][d] + prices.repeat(count));
+                let (cost, repeats) = best[i][d];
+                best[i][count * d] = best[i][count * d].min((cost + prices.repeat(count), repeats + 1));
                 count += 1;
             }
         }
@@ -515,41 +543,32 @@ pub fn cheapest_cost(nodes: &[Item], limit: usize, prices: &Prices) -> u64 {
     best[0][n]
 }
 
-fn cheapest_stretch(
-    nodes: &[Item],
-    best: &[Vec<(u64, Vec<u8>)>],
-    i: usize,
-    d: usize,
-    limit: usize,
-    prices: &Prices,
-) -> (u64, Vec<u8>) {
+fn cheapest_stretch(nodes: &[Item], best: &[Vec<Ranked>], i: usize, d: usize, limit: usize, prices: &Prices) -> Ranked {
     let two = |e: usize| (&best[i][e - 1], &best[i + e][d - e - 1]);
-    let lowest = (1..d).map(|e| two(e).0 .0 + two(e).1 .0).min().unwrap();
+    let both = |e: usize| (two(e).0.cost + two(e).1.cost, two(e).0.repeats + two(e).1.repeats);
+    let lowest = (1..d).map(both).min().unwrap();
     let mut split: Option<(&[u8], &[u8])> = None;
     for e in 1..d {
-        let (left, right) = two(e);
-        if left.0 + right.0 == lowest {
-            let pair = (&left.1[..], &right.1[..]);
+        if both(e) == lowest {
+            let (left, right) = two(e);
+            let pair = (&left.bytes[..], &right.bytes[..]);
             if split.is_none_or(|other| compare_pairs(pair, other) == Ordering::Less) {
                 split = Some(pair);
             }
         }
     }
     let (left, right) = split.unwrap();
-    let mut found = (lowest, [left, right].concat());
+    let mut found = Ranked { cost: lowest.0, repeats: lowest.1, bytes: [left, right].concat() };
     for width in 1..=limit.min(d / 2) {
         if d.is_multiple_of(width) && (width..d).all(|k| nodes[i + k] == nodes[i + k - width]) {
             let count = d / width;
-            let (body_cost, body) = &best[i][width - 1];
+            let body = &best[i][width - 1];
             let mut bytes = vec![0x20];
             bytes.extend((count as u16).to_be_bytes());
             bytes.extend((width as u16).to_be_bytes());
-            bytes.extend(body);
+            bytes.extend(&body.bytes);
             bytes.push(0x21);
-            let candidate = (body_cost + prices.repeat(count), bytes);
-            if candidate < found {
-                found = candidate;
-            }
+            found = found.min(Ranked { cost: body.cost + prices.repeat(count), repeats: body.repeats + 1, bytes });
         }
     }
     found
@@ -586,7 +605,7 @@ pub struct Solved {
 pub fn solve(run: &[u8], limit: usize, prices: &Prices) -> Result<Solved, Answer> {
     terms(limit, Some(prices))?;
     let nodes = read(run, None, None)?.nodes;
-    let (cost, bytes) = cheapest(&decode(run), limit, prices);
+    let Ranked { cost, bytes, .. } = cheapest(&decode(run), limit, prices);
     Ok(Solved { nodes, cost, bytes })
 }
 

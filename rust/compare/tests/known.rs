@@ -44,8 +44,9 @@ fn known_folds() {
     check(&word("aa"), 1024, unit, &word("aa"), 2);
     check(&word("aaa"), 1024, unit, &bytes("20 0003 0001 1001 21"), 2);
     check(&word("aaa"), 0, unit, &word("aaa"), 3);
-    check(&word("aaaa"), 1024, prices(0, 0), &bytes("20 0002 0002 20 0002 0001 1001 21 21"), 1);
+    check(&word("aaaa"), 1024, prices(0, 0), &bytes("20 0004 0001 1001 21"), 1);
     check(&word("aaaa"), 1024, prices(1, 5), &bytes("20 0002 0002 1001 1001 21"), 3);
+    check(&word("aaaabab"), 1024, unit, &[bytes("20 0004 0001 1001 21"), word("bab")].concat(), 5);
     let group = bytes("1105 1001 1001 1001 12");
     let twice = bytes("20 0002 0001 1105 20 0003 0001 1001 21 12 21");
     check(&group.repeat(2), 1024, unit, &twice, 4);
@@ -68,6 +69,53 @@ fn groups_priced_apart() {
     (groups[1], groups[2], groups[5]) = (5, 1, 9);
     let run = bytes("1105 1001 1101 1002 12 12 1102 1001 12");
     check(&run, 1024, Prices { steps: &steps, groups: &groups, first: 1, each: 0 }, &run, 22);
+}
+
+/// The fold that wins a tie, and the others of its cost: how many repeats each has, in the order in which they lose.
+fn check_tie(run: &[u8], prices: Prices, cost: u64, folds: &[(usize, &str)]) {
+    let Prices { steps, groups, first, each } = prices;
+    let same = reference::Prices { steps: steps.to_vec(), groups: groups.to_vec(), first, each };
+    let mut tied: Vec<_> = reference::every_fold(&reference::decode(run), 1024)
+        .into_iter()
+        .filter(|fold| reference::read_fold(fold, 1024, &same).cost == cost)
+        .map(|fold| (reference::count_repeats(&reference::decode(&fold)), fold))
+        .collect();
+    tied.sort();
+    let expected: Vec<_> = folds.iter().map(|&(repeats, hex)| (repeats, bytes(hex))).collect();
+    assert_eq!(tied, expected);
+    check(run, 1024, prices, &expected[0].1, cost);
+}
+
+#[test]
+fn ties() {
+    // One repeat goes before two, although the two begin with a smaller count: one inside the other, side by side, in a group.
+    let (one, nested) = ("20 0004 0001 1001 21", "20 0002 0002 20 0002 0001 1001 21 21");
+    check_tie(&word("aaaa"), prices(0, 0), 1, &[(1, one), (2, nested)]);
+    let side_by_side = "20 0003 0001 1001 21 20 0002 0002 1001 1002 21";
+    check_tie(&word("aaaabab"), prices(1, 0), 5, &[(1, "20 0004 0001 1001 21 1002 1001 1002"), (2, side_by_side)]);
+    let [one, nested] = [one, nested].map(|fold| format!("1105 {fold} 12"));
+    check_tie(&bytes("1105 1001 1001 1001 1001 12"), prices(0, 0), 2, &[(1, &one), (2, &nested)]);
+    // What a repeat holds counts once and not for each pass: two inside each other are as many as two side by side.
+    let twice = "20 0002 0002 1001 1002 21";
+    let [second, third, fourth] = ["1002 20 0002 0001 1002 21", "20 0002 0001 1002 21 1002", "20 0003 0001 1002 21"]
+        .map(|rest| format!("{twice} {rest}"));
+    let nested = "1001 1002 1001 20 0002 0002 20 0002 0001 1002 21 21";
+    check_tie(&word("ababbbb"), prices(0, 1), 4, &[(2, nested), (2, &second), (2, &third), (2, &fourth)]);
+    // What a group holds counts too: a repeat of the groups holds it once, a group beside a repeat makes it stand there twice.
+    let group = "1105 20 0002 0001 1001 21 12";
+    let thrice = format!("20 0003 0001 {group} 21");
+    let [left, right] = [format!("{group} 20 0002 0001 {group} 21"), format!("20 0002 0001 {group} 21 {group}")];
+    let run = bytes("1105 1001 1001 12").repeat(3);
+    check_tie(&run, prices(0, 2), 4, &[(2, &thrice), (3, &left), (3, &right)]);
+    // As many repeats: a plain node first, though that fold is the longer one; then the smaller count; then the smaller width.
+    let folds = ["1001 20 0002 0001 1001 21", "20 0002 0001 1001 21 1001", "20 0003 0001 1001 21"];
+    check_tie(&word("aaa"), prices(0, 1), 2, &folds.map(|fold| (1, fold)));
+    let two = Prices { steps: &[2; 256], ..prices(2, 1) };
+    let nested = "20 0002 0002 20 0002 0001 1001 21 21";
+    check_tie(&word("aaaa"), two, 6, &[(1, "20 0002 0002 1001 1001 21"), (1, "20 0004 0001 1001 21"), (2, nested)]);
+    let aa = "20 0002 0001 1001 21";
+    let [narrow, wide] = [format!("{aa} 20 0002 0003 1002 {aa} 21"), format!("20 0002 0003 {aa} 1002 21 {aa}")];
+    check_tie(&word("aabaabaa"), prices(0, 0), 3, &[(3, &narrow), (3, &wide)]);
 }
 
 #[test]

@@ -29,8 +29,9 @@
 //! The functions behind this crate are compiled from proved Rattle code. Their contracts stand in `crates/embed/src/lib.rt`,
 //! their proofs in `crates/embed/proofs` and the crates below it, and `docs/CERTIFICATE.md` lists what they promise: every
 //! input has an answer, the one that the definitions give; a fold that the folder writes is a fold of its run, and no other
-//! within the width limit is cheaper; of several cheapest it is the one whose bytes come first; the finder gives the node that
-//! unrolling writes at the position; no function reads or writes outside the slices that it is lent.
+//! within the width limit is cheaper; of several cheapest it has the fewest repeats, and of several such it is the one whose
+//! bytes come first; the finder gives the node that unrolling writes at the position; no function reads or writes outside the
+//! slices that it is lent.
 //!
 //! The library asks one thing of a caller: a slice that is written overlaps no other. That follows from the types here, so
 //! every function is safe to call with any arguments. None keeps state, and they may run in several threads at once. With the
@@ -227,7 +228,8 @@ pub fn unroll(fold: &[u8], limit: usize, out: &mut [u8]) -> Result<usize, Refusa
     Ok(answer[raw::LENGTH] as usize)
 }
 
-/// Folds a run: gives the cheapest fold whose widths are at most `limit` and, of several, the one whose bytes come first.
+/// Folds a run: gives the cheapest fold whose widths are at most `limit`; of several, the one with the fewest `20` commands,
+/// each counted once; and of several such, the one whose bytes come first.
 ///
 /// `costs` and `choices` are work, of any contents; each needs [`work_entries`] of the run's nodes. [`fold_room`] of them is
 /// always enough for `out`.

@@ -4,7 +4,7 @@
 //! Usage: `differential [SEED [SCALE]]`. One seed and scale give one run. The first difference ends it and prints its input.
 
 use compare::inputs::{self, depth, Random};
-use compare::reference::{self, Answer, Item, Listed, Prices, Solved};
+use compare::reference::{self, decode, Answer, Item, Listed, Prices, Ranked, Solved};
 use runfold::raw::{self, ENTRIES, SHORT};
 use runfold::{work_entries, MAX_NODES, MAX_WIDTH, RUN_ROOM};
 use std::fmt::Write;
@@ -40,8 +40,15 @@ const POSSIBLE: [&[u8]; 7] = [
     &[1, 3, 4, 5, 6, 8, 9, 10, 16, 17],
 ];
 
-/// What index builder and finder have to be compared on: a case that never came up is a failure.
-const CASES: [&str; 31] = [
+/// What the folder, by a trial of every fold, and index builder and finder have to be compared on: a case that never came up is
+/// a failure.
+const CASES: [&str; 37] = [
+    "a tie that fewer repeats decide against byte order",
+    "such a tie inside a group",
+    "a tie of as many repeats, which byte order decides",
+    "a tie that falls otherwise by the most repeats",
+    "a tie that falls otherwise by a body's repeats times the count",
+    "a tie that falls otherwise without the repeats in groups",
     "index written to slices just long enough",
     "index written to longer slices",
     "index of 1,024 entries written",
@@ -85,7 +92,7 @@ struct Compare {
     against_trial: u64,
     written: u64,
     unlike_tables: u64,
-    against_cost: u64,
+    against_lowest: u64,
     longest: usize,
     deepest: usize,
     /// The fold before, whose index is another one.
@@ -123,6 +130,49 @@ fn nodes_of(run: &[u8]) -> Vec<[u8; 2]> {
         }
     }
     nodes
+}
+
+/// How many groups are open behind these commands, the first of a fold.
+fn groups_open(commands: &[u8]) -> usize {
+    let (mut open, mut at) = (0, 0);
+    while at < commands.len() {
+        at += match commands[at] {
+            0x10 => 2,
+            0x11 => {
+                open += 1;
+                2
+            }
+            0x12 => {
+                open -= 1;
+                1
+            }
+            0x20 => 5,
+            _ => 1,
+        };
+    }
+    open
+}
+
+/// Wrong numbers of repeats: those that a repeat holds count as often as it goes over them; those in groups count for nothing.
+fn multiplied(items: &[Item]) -> usize {
+    items
+        .iter()
+        .map(|item| match item {
+            Item::Step(_) => 0,
+            Item::Group(_, body) => multiplied(body),
+            Item::Repeat(count, _, body) => 1 + count * multiplied(body),
+        })
+        .sum()
+}
+
+fn outside_groups(items: &[Item]) -> usize {
+    items
+        .iter()
+        .map(|item| match item {
+            Item::Repeat(_, _, body) => 1 + outside_groups(body),
+            _ => 0,
+        })
+        .sum()
 }
 
 /// Entries that no call writes by chance: each says where it stands.
@@ -273,8 +323,8 @@ impl Compare {
         }
     }
 
-    /// The folder, held to the solution that the independent implementation found.
-    fn folder(&mut self, run: &[u8], limit: usize, prices: &Prices, solved: &Result<Solved, Answer>) {
+    /// The folder, held to the solution that the independent implementation found; says whether a fold was written.
+    fn folder(&mut self, run: &[u8], limit: usize, prices: &Prices, solved: &Result<Solved, Answer>) -> bool {
         let (nodes, length) = solved.as_ref().map_or((2, 9), |s| (s.nodes, s.bytes.len()));
         let needed = work_entries(nodes);
         let (a, b, room) = (self.lent(needed), self.lent(needed), self.lent(length));
@@ -310,7 +360,8 @@ impl Compare {
         self.check_slice(Entry::Folder, run, &call, "output", &out, &after);
         self.check_slice(Entry::Folder, run, &call, "first work slice", &costs, &costs_after);
         self.check_slice(Entry::Folder, run, &call, "second work slice", &choices, &choices_after);
-        if enough && expected.refusal == 0 {
+        let written = enough && expected.refusal == 0;
+        if written {
             self.written += 1;
             if prices.steps != prices.groups {
                 let read = reference::read_run(run);
@@ -318,6 +369,7 @@ impl Compare {
             }
             self.longest = self.longest.max(nodes);
         }
+        written
     }
 
     fn limit(&mut self) -> usize {
@@ -385,33 +437,73 @@ impl Compare {
         }
     }
 
-    /// Every fold of a run, tried: the cheapest of them, the first in byte order of these, is what the folder writes.
+    /// Every fold of a run, tried: of the cheapest of them the one with the fewest repeats, and of several such the first in byte
+    /// order, is what the folder writes.
     fn trial(&mut self, items: &[Item], limit: usize, prices: &Prices) {
         let run = inputs::bytes_of(items);
-        let folds = reference::every_fold(items, limit);
-        let (cost, bytes) = folds
+        let mut folds: Vec<Ranked> = reference::every_fold(items, limit)
             .into_iter()
-            .map(|fold| {
-                let read = reference::read_fold(&fold, limit, prices);
-                assert!(read.refusal == 0 && reference::run_of(&fold) == run, "no fold: {}", hex(&fold));
-                (read.cost, fold)
+            .map(|bytes| {
+                let read = reference::read_fold(&bytes, limit, prices);
+                assert!(read.refusal == 0 && reference::run_of(&bytes) == run, "no fold: {}", hex(&bytes));
+                Ranked { cost: read.cost, repeats: reference::count_repeats(&decode(&bytes)), bytes }
             })
-            .min()
-            .unwrap();
-        let nodes = reference::count_nodes(items);
-        self.folder(&run, limit, prices, &Ok(Solved { nodes, cost, bytes }));
+            .collect();
+        folds.sort();
+        let cost = folds[0].cost;
+        folds.retain(|fold| fold.cost == cost);
+        let solved = Solved { nodes: reference::count_nodes(items), cost, bytes: folds[0].bytes.clone() };
+        if self.folder(&run, limit, prices, &Ok(solved)) {
+            self.tie(&folds);
+        }
         self.against_trial += 1;
     }
 
+    /// The same where repeats cost little, and many folds the same.
+    fn trials_of_ties(&mut self, items: &[Item]) {
+        for each in [0, 1] {
+            self.trial(items, MAX_WIDTH, &Prices::by_label(vec![1; 256], 0, each));
+        }
+    }
+
+    /// What decides between the folds of lowest cost, which are given in their order.
+    fn tie(&mut self, folds: &[Ranked]) {
+        let (best, last) = (&folds[0], &folds[folds.len() - 1]);
+        // The one that comes first by another number than that of repeats.
+        let by = |number: fn(&[Item]) -> usize| {
+            folds.iter().min_by_key(|fold| (number(&decode(&fold.bytes)), &fold.bytes)).unwrap()
+        };
+        let by_bytes = by(|_| 0);
+        if by_bytes != best {
+            self.reached("a tie that fewer repeats decide against byte order");
+            let at = (0..).find(|&k| best.bytes[k] != by_bytes.bytes[k]).unwrap();
+            if groups_open(&best.bytes[..at]) > 0 {
+                self.reached("such a tie inside a group");
+            }
+        }
+        if folds.len() > 1 && folds[1].repeats == best.repeats {
+            self.reached("a tie of as many repeats, which byte order decides");
+        }
+        if last.repeats > best.repeats {
+            self.reached("a tie that falls otherwise by the most repeats");
+        }
+        if by(multiplied) != best {
+            self.reached("a tie that falls otherwise by a body's repeats times the count");
+        }
+        if by(outside_groups) != best {
+            self.reached("a tie that falls otherwise without the repeats in groups");
+        }
+    }
+
     /// A long run: the fold that the folder writes is a fold of the run within the limit, of the cost that it says, and that
-    /// is the lowest.
-    fn cost_alone(&mut self, items: &[Item], limit: usize, prices: &Prices) {
+    /// is the lowest; and no fold of that cost has fewer repeats.
+    fn cost_and_repeats(&mut self, items: &[Item], limit: usize, prices: &Prices) {
         let run = inputs::bytes_of(items);
         let Prices { steps, groups, first, each } = prices;
         let lent = runfold::Prices { steps, groups, first: *first, each: *each };
         let (bytes, cost) = runfold::folded(&run, limit, lent).expect("the run is sound");
         let call = || format!("limit {limit}, {}", shown(prices));
-        let lowest = reference::cheapest_cost(items, limit, prices);
+        let (lowest, fewest) = reference::lowest(items, limit, prices);
         if cost != lowest {
             self.differ(Entry::Folder, &run, &call, "cost", &cost.to_string(), &lowest.to_string());
         }
@@ -419,9 +511,13 @@ impl Compare {
         if read.refusal != 0 || read.cost != cost || reference::run_of(&bytes) != run {
             self.differ(Entry::Folder, &run, &call, "fold", &hex(&bytes), "a fold of the run, of the cost said");
         }
+        let repeats = reference::count_repeats(&decode(&bytes));
+        if repeats != fewest {
+            self.differ(Entry::Folder, &run, &call, "repeats", &repeats.to_string(), &fewest.to_string());
+        }
         self.calls[Entry::Folder as usize] += 1;
         self.refusals[Entry::Folder as usize][0] += 1;
-        self.against_cost += 1;
+        self.against_lowest += 1;
         self.longest = self.longest.max(reference::count_nodes(items));
         self.deepest = self.deepest.max(depth(items));
         self.fold_reader(&bytes, limit, prices);
@@ -763,7 +859,7 @@ fn main() {
         short_answers: 0,
         against_trial: 0,
         written: 0,
-        against_cost: 0,
+        against_lowest: 0,
         longest: 0,
         deepest: 0,
         last: Listed::default(),
@@ -816,12 +912,14 @@ fn main() {
                 let (limit, prices) = (c.limit().min(1024), c.sound_prices());
                 c.trial(items, limit, &prices);
             }
+            c.trials_of_ties(items);
         });
     }
     for n in 7..=10 {
         inputs::every_word(n, &mut |items| {
             let (limit, prices) = (c.limit().min(1024), c.sound_prices());
             c.trial(items, limit, &prices);
+            c.trials_of_ties(items);
         });
     }
     done("a trial of every fold of short runs");
@@ -860,9 +958,9 @@ fn main() {
             _ => inputs::regular_run(&mut c.random, nodes),
         };
         let (limit, prices) = (c.limit().min(1024), c.sound_prices());
-        c.cost_alone(&items, limit, &prices);
+        c.cost_and_repeats(&items, limit, &prices);
     }
-    done("long runs, by cost");
+    done("long runs, by cost and repeats");
 
     for k in 0..200 * scale {
         let nodes = match k {
@@ -928,9 +1026,9 @@ fn main() {
         println!("NO FOLD WITH GROUPS PRICED UNLIKE STEPS");
         exit(1);
     }
-    println!("\nindexes and positions");
+    println!("\nties, indexes and positions");
     for (case, count) in CASES.iter().zip(c.cases) {
-        println!("  {case:55} {count:8}");
+        println!("  {case:62} {count:8}");
     }
     let missing: Vec<&str> = CASES.into_iter().zip(c.cases).filter(|case| case.1 == 0).map(|case| case.0).collect();
     if !missing.is_empty() {
@@ -942,8 +1040,8 @@ fn main() {
         println!("  {name:15} {calls:9}");
     }
     println!(
-        "  folds written and compared byte for byte: {}, {} of them with groups priced unlike steps; runs held to a trial of every fold: {}; long runs held to the lowest cost: {}",
-        c.written, c.unlike_tables, c.against_trial, c.against_cost
+        "  folds written and compared byte for byte: {}, {} of them with groups priced unlike steps; runs held to a trial of every fold: {}; long runs held to the lowest cost and the fewest repeats: {}",
+        c.written, c.unlike_tables, c.against_trial, c.against_lowest
     );
     println!("  longest run {} nodes, deepest group {} levels", c.longest, c.deepest);
     println!(
