@@ -22,7 +22,7 @@ use Rattle.optimum.specs.Optimal.{FoldOf}
 use Rattle.optimum.specs.Cheapest.{Run}
 use Rattle.optimum.specs.Fewest.{repeats-in, ComesFirst, fewer, as-many, Leads, by-cost, by-repeats, itself, by-bytes, Preferred, preferred}
 use Rattle.optimum.specs.Demands.{FoldWithin, CheapestWithin}
-use Rattle.optimum.proofs.Fewest.{repeats-bytes, preferred-first, preferred-short}
+use Rattle.optimum.proofs.Fewest.{repeats-bytes, leads-cost, preferred-first, preferred-short}
 
 -- What a joined sequence has, its parts have.
 coded-parts : (f g : Forest) → Coded (join f g) → Coded f × Coded g
@@ -128,12 +128,6 @@ module _ (k : ℕ) (narrow : k ≤ limits .width) (P : Prices) (u : Forest) (run
   against : (g : List ℕ) (c : ℕ) (z : Bytes g) (w : FoldWithin (bytes u) k (format-rules P) g c) → Leads P (preferred A P u) (form k P u g c z w .tree)
   against g c z w = best .leads (form k P u g c z w .tree) (tree-fold k P u g c z w)
 
-  no-dearer : {f : Forest} (c : ℕ) → cost P f ≡ c → Leads P (preferred A P u) f → cost P (preferred A P u) ≤ c
-  no-dearer c e (by-cost l) = omega arith
-  no-dearer c e (by-repeats l r) = omega arith
-  no-dearer c e (itself q) = omega (arith, ap (cost P) q)
-  no-dearer c e (by-bytes l r b) = omega arith
-
   before : {f : Forest} (g : List ℕ) → bytes f ≡ g → (g ≡ bytes (preferred A P u) → ⊥) → cost P f ≡ cost P (preferred A P u) → Leads P (preferred A P u) f
       → ComesFirst (bytes (preferred A P u)) g
   before g m n e (by-cost l) = absurd (omega arith)
@@ -145,7 +139,7 @@ module _ (k : ℕ) (narrow : k ≤ limits .width) (P : Prices) (u : Forest) (run
   cheapest-within =
       record {
         fold = is-fold (preferred A P u) (best .fold);
-        no-cheaper = λ g c z w. no-dearer c (tree-cost k P u g c z w) (against g c z w);
+        no-cheaper = λ g c z w. omega (arith, tree-cost k P u g c z w, leads-cost (against g c z w));
         first = λ g c z w e n. before g (form k P u g c z w .form) n (tree-cost k P u g c z w ∙ e) (against g c z w);
       }
 

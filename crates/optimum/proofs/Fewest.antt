@@ -16,7 +16,7 @@ use Rattle.optimum.specs.Optimal.{FoldOf, NoWorse, cheaper, same, earlie
 use Rattle.optimum.specs.Cheapest.{Run, cheapest, best-cost}
 use Rattle.optimum.specs.Fewest.{repeats-from, repeats-in, repeats-of, Leads, by-cost, by-repeats, itself, by-bytes, Preferred, combined, counting, preferred}
 use Rattle.optimum.proofs.Rank.{high-le, high-lt}
-use Rattle.optimum.proofs.Cheapest.{cheapest-optimal, cheapest-short, is-cheapest}
+use Rattle.optimum.proofs.Cheapest.{cheapest-optimal, cheapest-short, is-cheapest, best-cost-fold}
 
 -- The `20` commands of a tree's bytes are its repeats.
 repeats-before : (f : Forest) (s : List ℕ) → repeats-from (bytes f ++ s) 0 ≡ repeats-of f + repeats-from s 0
@@ -118,6 +118,13 @@ module _ (A : Allowed) (P : Prices) (t : Forest) (N : ℕ) (enough : nodes t < 2
     λ o. record { fold = o .fold; best = λ g q. no-worse f g (o .fold) q (o .leads g q) },
   )
 
+-- What leads is not dearer.
+pub leads-cost : {P : Prices} {f g : Forest} → Leads P f g → cost P f ≤ cost P g
+leads-cost (by-cost l) = omega arith
+leads-cost (by-repeats e l) = omega arith
+leads-cost {P} (itself e) = omega (arith, ap (cost P) e)
+leads-cost (by-bytes e d b) = omega arith
+
 -- So the preferred fold is there, and the factor does not matter.
 module _ (A : Allowed) (P : Prices) (t : Forest) (r : Run A t) where
   pub preferred-first : Preferred A P t (preferred A P t)
@@ -130,6 +137,13 @@ module _ (A : Allowed) (P : Prices) (t : Forest) (r : Run A t) where
   unfolding preferred
   any-factor N enough =
       sym (is-cheapest A (counting N P) (preferred-exactly A P t N enough (preferred A P t) .1 preferred-first))
+
+  -- NO COST MOVES: it costs what the cheapest fold costs, whatever decides between folds of the same cost.
+  pub preferred-cost : cost P (preferred A P t) ≡ best-cost A P t
+  unfolding best-cost
+  preferred-cost =
+      let least = cheapest-optimal A P t (r .plain) (r .sound) in
+      omega (arith, leads-cost (preferred-first .leads (cheapest A P t) (least .fold)), best-cost-fold A P (preferred-first .fold))
 
   -- The least cost at prices that count repeats: its cost and its repeats, which are below the factor.
   pub best-counted : (N : ℕ) → nodes t < 2 * N → best-cost A (counting N P) t ≡ combined N (cost P (preferred A P t)) (repeats-of (preferred A P t))
