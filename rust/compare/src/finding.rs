@@ -2,10 +2,9 @@
 //! independent implementation.
 
 use crate::figure1::seconds;
-use crate::inputs::{bytes_of, families, siblings, Random};
+use crate::inputs::{bytes_of, families, price_sets, siblings, Random};
 use crate::measured::Finding;
 use crate::reference::{self, Item, Prices};
-use crate::timing::price_sets;
 use runfold::{folded, raw, MAX_NODES, MAX_WIDTH, RUN_ROOM};
 
 /// In a round each function is timed once, and the finder once at each position.

@@ -1,6 +1,6 @@
 //! Inputs for the comparisons and the benchmark. All follow from a seed.
 
-use crate::reference::{count_nodes, encode, expand, Item};
+use crate::reference::{count_nodes, encode, expand, Item, Prices};
 
 /// A small generator of pseudo-random numbers: a counter with a fixed odd stride, whose bits are mixed by shifts and products
 /// (stride and factors are the first bits of the golden ratio, of pi and of e).
@@ -347,6 +347,27 @@ pub fn notation(items: &[Item]) -> String {
         }
     }
     text.trim().replace("  ", " ")
+}
+
+/// The prices that everything is measured at.
+pub fn price_sets() -> [(&'static str, Prices); 4] {
+    let r = &mut Random::new(2008);
+    let ones = vec![1; 256];
+    [
+        ("unit", Prices::by_label(ones.clone(), 1, 0)),
+        ("first 0, each 0", Prices::by_label(ones.clone(), 0, 0)),
+        ("first 0, each 1", Prices::by_label(ones, 0, 1)),
+        (
+            "random",
+            // The groups' costs are drawn last, so that steps and repeats cost what they did without them.
+            {
+                let steps = (0..256).map(|_| 1 + r.below(1000) as u16).collect();
+                let (first, each) = (r.below(2000) as u16, r.below(100) as u16);
+                let groups = (0..256).map(|_| 1 + r.below(1000) as u16).collect();
+                Prices { steps, groups, first, each }
+            },
+        ),
+    ]
 }
 
 /// The runs of the benchmark.

@@ -2,7 +2,6 @@
 //! and every fold is read back and unrolled.
 
 use crate::figure1::{seconds, Method, Tables};
-use crate::inputs::Random;
 use crate::measured::Times;
 use crate::reference::{self, Prices};
 use runfold::{fold_room, raw, work_entries, MAX_NODES, MAX_WIDTH};
@@ -123,25 +122,4 @@ impl Bench {
         }
         least
     }
-}
-
-/// The prices that everything is measured at.
-pub fn price_sets() -> [(&'static str, Prices); 4] {
-    let r = &mut Random::new(2008);
-    let ones = vec![1; 256];
-    [
-        ("unit", Prices::by_label(ones.clone(), 1, 0)),
-        ("first 0, each 0", Prices::by_label(ones.clone(), 0, 0)),
-        ("first 0, each 1", Prices::by_label(ones, 0, 1)),
-        (
-            "random",
-            // The groups' costs are drawn last, so that steps and repeats cost what they did without them.
-            {
-                let steps = (0..256).map(|_| 1 + r.below(1000) as u16).collect();
-                let (first, each) = (r.below(2000) as u16, r.below(100) as u16);
-                let groups = (0..256).map(|_| 1 + r.below(1000) as u16).collect();
-                Prices { steps, groups, first, each }
-            },
-        ),
-    ]
 }

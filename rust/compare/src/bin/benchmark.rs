@@ -7,14 +7,14 @@
 //! prints finding beside unrolling alone.
 
 use compare::finding;
-use compare::inputs::bytes_of;
 use compare::inputs::families::{self, Kind};
+use compare::inputs::{bytes_of, price_sets};
 use compare::machine::machine;
 use compare::measured::{Finding, Row, Times, SIZES};
 use compare::page::{finding_losses, finding_table, page_text, summary_table, Code, Results};
 use compare::plot::plot_text;
 use compare::reference::Prices;
-use compare::timing::{price_sets, Bench};
+use compare::timing::Bench;
 use runfold::MAX_NODES;
 
 /// The mean over the runs of the family at a place.

@@ -7,9 +7,9 @@
 
 use compare::figure1::Method;
 use compare::inputs::families::steps;
-use compare::inputs::{bytes_of, notation, word, Random};
+use compare::inputs::{bytes_of, notation, price_sets, word, Random};
 use compare::reference::{decode, Prices};
-use compare::timing::{price_sets, Bench};
+use compare::timing::Bench;
 use runfold::MAX_NODES;
 use std::time::Instant;
 

@@ -1,0 +1,56 @@
+#!/usr/bin/env bash
+# Measures the folder beside that of another archive of the library, as the one before a change, whose folder takes the same
+# arguments, in one program: for each family of runs of the benchmark at each prices the two times in microseconds and the part
+# that this one takes of the other's, the highest parts first. CC names the C compiler.
+# Usage: scripts/beside.sh ARCHIVE [MILLISECONDS]   the least time for a run at one prices, 20 by default
+set -euo pipefail
+if [ $# -lt 1 ] || [ $# -gt 2 ]; then
+    echo "usage: scripts/beside.sh ARCHIVE [MILLISECONDS]" >&2
+    exit 2
+fi
+archive=$(realpath "$1")
+cd "$(dirname "$0")/.."
+
+scripts/library.sh
+export CARGO_TARGET_DIR=$PWD/target/cargo
+(cd rust && cargo build --quiet --offline --locked --release --package compare --bin inputs)
+
+cc=${CC:-cc}
+out=target/beside
+rm -rf "$out"
+mkdir -p "$out"
+target/cargo/release/inputs >"$out/inputs"
+"$cc" -std=c11 -Wall -Wextra -Wpedantic -Wconversion -Wsign-conversion -Wshadow -Werror -O2 -Iinclude -c tests/c/beside.c \
+    -o "$out/beside.o"
+# The folder of an archive under another name, and nothing else of it.
+rename() { # ARCHIVE NAME
+    ld -r --whole-archive "$1" -o "$out/whole.o"
+    objcopy --redefine-sym runfold_fold="$2" --keep-global-symbol="$2" "$out/whole.o" "$out/$2.o"
+}
+rename "$archive" other_fold
+rename target/lib/librunfold.a this_fold
+
+# Where a short loop lies in a line of the cache can be worth a third of its time. So both are measured at each of four places in a
+# line of 64 bytes, and the lowest time of each counts.
+for place in 0 16 32 48; do
+    for name in other this; do
+        printf '.text\n.p2align 6\n.skip %d\n.section .note.GNU-stack,"",@progbits\n' $((64 + place)) >"$out/pad.s"
+        "$cc" -c "$out/pad.s" -o "$out/pad_$name.o"
+    done
+    "$cc" "$out/beside.o" "$out/pad_other.o" "$out/other_fold.o" "$out/pad_this.o" "$out/this_fold.o" -o "$out/beside_$place"
+    "$out/beside_$place" "${2:-20}" <"$out/inputs" >"$out/times_$place"
+done
+
+# The lowest of the four times of each run, and the mean over the runs of a family.
+paste "$out"/times_{0,16,32,48} | awk -F '\t' '
+    function least(a, b, c, d, m) { m = a + 0; if (b < m) m = b + 0; if (c < m) m = c + 0; if (d < m) m = d + 0; return m }
+    {
+        key = $1 ", " $2
+        runs[key]++
+        other[key] += least($3, $7, $11, $15)
+        this[key] += least($4, $8, $12, $16)
+    }
+    END {
+        for (key in runs)
+            printf "%.3f  %9.1f  %9.1f  %s\n", this[key] / other[key], other[key] / runs[key] / 1e3, this[key] / runs[key] / 1e3, key
+    }' | sort -rn | sed '1i part      other       this  family, prices'
