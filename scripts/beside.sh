@@ -2,7 +2,7 @@
 # Measures the folder beside that of another archive of the library, as the one before a change, whose folder takes the same
 # arguments, in one program: for each family of runs of the benchmark at each prices the two times in microseconds and the part
 # that this one takes of the other's, the highest parts first. CC names the C compiler.
-# Usage: scripts/beside.sh ARCHIVE [MILLISECONDS]   the least time for a run at one prices, 20 by default
+# Usage: scripts/beside.sh ARCHIVE [MILLISECONDS]   the least time for a run at one prices, of twelve such, 20 by default
 set -euo pipefail
 if [ $# -lt 1 ] || [ $# -gt 2 ]; then
     echo "usage: scripts/beside.sh ARCHIVE [MILLISECONDS]" >&2
@@ -30,27 +30,39 @@ rename() { # ARCHIVE NAME
 rename "$archive" other_fold
 rename target/lib/librunfold.a this_fold
 
-# Where a short loop lies in a line of the cache can be worth a third of its time. So both are measured at each of four places in a
-# line of 64 bytes, and the lowest time of each counts.
-for place in 0 16 32 48; do
-    for name in other this; do
-        printf '.text\n.p2align 6\n.skip %d\n.section .note.GNU-stack,"",@progbits\n' $((64 + place)) >"$out/pad.s"
-        "$cc" -c "$out/pad.s" -o "$out/pad_$name.o"
-    done
-    "$cc" "$out/beside.o" "$out/pad_other.o" "$out/other_fold.o" "$out/pad_this.o" "$out/this_fold.o" -o "$out/beside_$place"
-    "$out/beside_$place" "${2:-20}" <"$out/inputs" >"$out/times_$place"
+# Where a short loop lies in a line of the cache can be worth two fifths of its time. So both are measured at each of four places in a
+# line of 64 bytes.
+places="0 16 32 48"
+for place in $places; do
+    printf '.text\n.p2align 6\n.skip %d\n.section .note.GNU-stack,"",@progbits\n' $((64 + place)) >"$out/pad.s"
+    "$cc" -c "$out/pad.s" -o "$out/pad.o"
+    "$cc" "$out/beside.o" "$out/pad.o" "$out/other_fold.o" "$out/pad.o" "$out/this_fold.o" -o "$out/beside_$place"
 done
+# A machine that is shared is slow for a while, now and then. So each is measured three times, with the others between.
+for round in 1 2 3; do
+    for place in $places; do
+        "$out/beside_$place" "${2:-20}" <"$out/inputs" >"$out/times_${place}_$round" 2>"$out/said" || {
+            cat "$out/said" >&2
+            exit 1
+        }
+    done
+done
+cat "$out/said"
 
-# The lowest of the four times of each run, and the mean over the runs of a family.
-paste "$out"/times_{0,16,32,48} | awk -F '\t' '
-    function least(a, b, c, d, m) { m = a + 0; if (b < m) m = b + 0; if (c < m) m = c + 0; if (d < m) m = d + 0; return m }
+# The lowest of the times of each run, and the mean over the runs of a family.
+awk -F '\t' '
     {
-        key = $1 ", " $2
-        runs[key]++
-        other[key] += least($3, $7, $11, $15)
-        this[key] += least($4, $8, $12, $16)
+        family[FNR] = $1 ", " $2
+        if (FNR == NR || $3 + 0 < other[FNR]) other[FNR] = $3 + 0
+        if (FNR == NR || $4 + 0 < this[FNR]) this[FNR] = $4 + 0
     }
     END {
+        for (run in family) {
+            key = family[run]
+            runs[key]++
+            others[key] += other[run]
+            these[key] += this[run]
+        }
         for (key in runs)
-            printf "%.3f  %9.1f  %9.1f  %s\n", this[key] / other[key], other[key] / runs[key] / 1e3, this[key] / runs[key] / 1e3, key
-    }' | sort -rn | sed '1i part      other       this  family, prices'
+            printf "%.3f  %9.1f  %9.1f  %s\n", these[key] / others[key], others[key] / runs[key] / 1e3, these[key] / runs[key] / 1e3, key
+    }' "$out"/times_* | sort -rn | sed '1i part      other       this  family, prices'
