@@ -451,14 +451,14 @@ pub mod families {
     /// The slowest run that the climber found at each price. To make it again: `scripts/climb.sh SECONDS`, whose last lines
     /// take the place of this constant and the next one.
     pub const FOUND: &[Family] = &[
-        begun(Powers, "found, unit", "(ba)^3 (accb)^253 a^6"),
-        begun(Powers, "found, first 0, each 0", "c (aab)^339 b^6"),
-        begun(Powers, "found, first 0, each 1", "b (bab)^339 (bba)^2"),
-        begun(Powers, "found, random", "acb (cbaa)^255 b"),
+        begun(Powers, "found, unit", "(caab)^254 a^8"),
+        begun(Powers, "found, first 0, each 0", "(ba)^511 cc"),
+        begun(Powers, "found, first 0, each 1", "a (a^3 b)^255 baa"),
+        begun(Powers, "found, random", "(cbbc)^254 a^3 c^5"),
     ];
 
     /// How many seconds the climber had, and how many runs it tried.
-    pub const SEARCHED: (u64, u64) = (420, 29109);
+    pub const SEARCHED: (u64, u64) = (420, 25562);
 
     /// All families: those listed, then those that the climber found.
     pub fn all() -> Vec<&'static Family> {
