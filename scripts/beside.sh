@@ -30,8 +30,8 @@ rename() { # ARCHIVE NAME
 rename "$archive" other_fold
 rename target/lib/librunfold.a this_fold
 
-# Where a short loop lies in a line of the cache can be worth two fifths of its time. So both are measured at each of four places in a
-# line of 64 bytes.
+# Where a short loop lies in a line of the cache can be worth two fifths of its time. So both are measured at each of four places
+# in a line of 64 bytes.
 places="0 16 32 48"
 for place in $places; do
     printf '.text\n.p2align 6\n.skip %d\n.section .note.GNU-stack,"",@progbits\n' $((64 + place)) >"$out/pad.s"
