@@ -13,7 +13,7 @@ ghost use mathlib.Core.Path.{_≡_};
 ghost use mathlib.Core.List.{_++_};
 ghost use Prim.Native.Nat.{_≤_};
 ghost use lib.ListN.{length, getD, take, drop};
-ghost use Rattle.format.specs.Limits.{tariff, priced};
+ghost use Rattle.format.specs.Limits.{tariff, at-most};
 ghost use Rattle.format.specs.Readings.{format-rules, run-reading, measured, fold-alone, fold-reading};
 ghost use Rattle.format.specs.Meaning.{Means, MeansAtCost};
 ghost use Rattle.format.specs.Parts.{part-of};
@@ -89,26 +89,27 @@ pub extern "C" fn runfold_part(run: &[u8], at: usize) -> usize
     part(run, at).len()
 }
 
-// The fold reader at a width limit and costs, of which `steps` and `groups` are the tables: the nodes and the bytes of the run,
-// the fold's cost, and the run's steps and depth.
+// The fold reader at a width limit and costs, of which `steps` and `groups` are the tables and `marks` says which labels may stand
+// in no repeat: the nodes and the bytes of the run, the fold's cost, and the run's steps and depth.
 #[no_mangle]
 pub extern "C" fn runfold_read_fold(
     fold: &[u8],
     limit: usize,
     steps: &[u16],
     groups: &[u16],
+    marks: &[u8],
     first: u16,
     each: u16,
     answer: &mut [u64],
 ) -> u8
-    ensures returned { λ r. ⌜ r ≡ status (now (answer .entry)) (fold-reading (now (fold .entry)) limit (tariff (now (steps .entry)) (now (groups .entry)) first each) .refusal) ⌝ }
-    ensures answered { λ _. ⌜ now (answer .exit) ≡ entries (now (answer .entry)) (of-fold (fold-reading (now (fold .entry)) limit (tariff (now (steps .entry)) (now (groups .entry)) first each))) ⌝ }
-    ensures meant { λ r. ⌜ (r ≡ 0 → MeansAtCost limit (priced (tariff (now (steps .entry)) (now (groups .entry)) first each)) (now (fold .entry)) (getD (now (answer .exit)) 3 0) (getD (now (answer .exit)) 4 0)) ⌝ }
+    ensures returned { λ r. ⌜ r ≡ status (now (answer .entry)) (fold-reading (now (fold .entry)) limit (tariff (now (steps .entry)) (now (groups .entry)) (now (marks .entry)) first each) .refusal) ⌝ }
+    ensures answered { λ _. ⌜ now (answer .exit) ≡ entries (now (answer .entry)) (of-fold (fold-reading (now (fold .entry)) limit (tariff (now (steps .entry)) (now (groups .entry)) (now (marks .entry)) first each))) ⌝ }
+    ensures meant { λ r. ⌜ (r ≡ 0 → MeansAtCost limit (tariff (now (steps .entry)) (now (groups .entry)) (now (marks .entry)) first each) (now (fold .entry)) (getD (now (answer .exit)) 3 0) (getD (now (answer .exit)) 4 0)) ⌝ }
 {
     if answer.len() < ENTRIES {
         return SHORT;
     }
-    let r = read_fold(fold, limit, steps, groups, first, each);
+    let r = read_fold(fold, limit, steps, groups, marks, first, each);
     store(
         answer,
         Answer {
@@ -135,7 +136,7 @@ pub extern "C" fn runfold_unroll(
     ensures returned { λ r. ⌜ r ≡ status (now (answer .entry)) (unroll-answer (measured (now (fold .entry)) limit) (length (now (out .entry))) .refusal) ⌝ }
     ensures answered { λ _. ⌜ now (answer .exit) ≡ entries (now (answer .entry)) (of-unrolled (unroll-answer (measured (now (fold .entry)) limit) (length (now (out .entry))))) ⌝ }
     ensures written { λ _. ⌜ now (out .exit) ≡ kept (now (answer .entry)) (now (out .entry)) (unroll-output (measured (now (fold .entry)) limit) (now (out .entry))) ⌝ }
-    ensures meant { λ r. ⌜ (r ≡ 0 → Means limit (now (fold .entry)) (take (getD (now (answer .exit)) 3 0) (now (out .exit)))) ⌝ }
+    ensures meant { λ r. ⌜ (r ≡ 0 → Means (at-most limit) (now (fold .entry)) (take (getD (now (answer .exit)) 3 0) (now (out .exit)))) ⌝ }
 {
     if answer.len() < ENTRIES {
         return SHORT;
@@ -163,6 +164,7 @@ pub extern "C" fn runfold_fold(
     limit: usize,
     steps: &[u16],
     groups: &[u16],
+    marks: &[u8],
     first: u16,
     each: u16,
     costs: &mut [u32],
@@ -170,19 +172,30 @@ pub extern "C" fn runfold_fold(
     out: &mut [u8],
     answer: &mut [u64],
 ) -> u8
-    ensures returned { λ r. ⌜ r ≡ status (now (answer .entry)) (fold-answer (folding (now (run .entry)) limit (tariff (now (steps .entry)) (now (groups .entry)) first each)) (length (now (costs .entry))) (length (now (choices .entry))) (length (now (out .entry))) .refusal) ⌝ }
-    ensures answered { λ _. ⌜ now (answer .exit) ≡ entries (now (answer .entry)) (of-folded (fold-answer (folding (now (run .entry)) limit (tariff (now (steps .entry)) (now (groups .entry)) first each)) (length (now (costs .entry))) (length (now (choices .entry))) (length (now (out .entry))))) ⌝ }
-    ensures written { λ _. ⌜ now (out .exit) ≡ kept (now (answer .entry)) (now (out .entry)) (fold-output (folding (now (run .entry)) limit (tariff (now (steps .entry)) (now (groups .entry)) first each)) (length (now (costs .entry))) (length (now (choices .entry))) (now (out .entry))) ⌝ }
-    ensures costs_cleared { λ _. ⌜ now (costs .exit) ≡ kept (now (answer .entry)) (now (costs .entry)) (fold-work (folding (now (run .entry)) limit (tariff (now (steps .entry)) (now (groups .entry)) first each)) (length (now (costs .entry))) (length (now (choices .entry))) (now (costs .entry))) ⌝ }
-    ensures choices_cleared { λ _. ⌜ now (choices .exit) ≡ kept (now (answer .entry)) (now (choices .entry)) (fold-work (folding (now (run .entry)) limit (tariff (now (steps .entry)) (now (groups .entry)) first each)) (length (now (costs .entry))) (length (now (choices .entry))) (now (choices .entry))) ⌝ }
-    ensures cheapest { λ r. ⌜ (r ≡ 0 → CheapestWithin (now (run .entry)) limit (format-rules (priced (tariff (now (steps .entry)) (now (groups .entry)) first each))) (take (getD (now (answer .exit)) 3 0) (now (out .exit))) (getD (now (answer .exit)) 4 0)) ⌝ }
-    ensures minimum { λ r. ⌜ (r ≡ 0 → MinimumTree (now (run .entry)) limit (priced (tariff (now (steps .entry)) (now (groups .entry)) first each)) (take (getD (now (answer .exit)) 3 0) (now (out .exit)))) ⌝ }
-    ensures too_long { λ r. ⌜ (r ≡ 14 → CheapestOver (length (now (out .entry))) (now (run .entry)) limit (format-rules (priced (tariff (now (steps .entry)) (now (groups .entry)) first each)))) ⌝ }
+    ensures returned { λ r. ⌜ r ≡ status (now (answer .entry)) (fold-answer (folding (now (run .entry)) limit (tariff (now (steps .entry)) (now (groups .entry)) (now (marks .entry)) first each)) (length (now (costs .entry))) (length (now (choices .entry))) (length (now (out .entry))) .refusal) ⌝ }
+    ensures answered { λ _. ⌜ now (answer .exit) ≡ entries (now (answer .entry)) (of-folded (fold-answer (folding (now (run .entry)) limit (tariff (now (steps .entry)) (now (groups .entry)) (now (marks .entry)) first each)) (length (now (costs .entry))) (length (now (choices .entry))) (length (now (out .entry))))) ⌝ }
+    ensures written { λ _. ⌜ now (out .exit) ≡ kept (now (answer .entry)) (now (out .entry)) (fold-output (folding (now (run .entry)) limit (tariff (now (steps .entry)) (now (groups .entry)) (now (marks .entry)) first each)) (length (now (costs .entry))) (length (now (choices .entry))) (now (out .entry))) ⌝ }
+    ensures costs_cleared { λ _. ⌜ now (costs .exit) ≡ kept (now (answer .entry)) (now (costs .entry)) (fold-work (folding (now (run .entry)) limit (tariff (now (steps .entry)) (now (groups .entry)) (now (marks .entry)) first each)) (length (now (costs .entry))) (length (now (choices .entry))) (now (costs .entry))) ⌝ }
+    ensures choices_cleared { λ _. ⌜ now (choices .exit) ≡ kept (now (answer .entry)) (now (choices .entry)) (fold-work (folding (now (run .entry)) limit (tariff (now (steps .entry)) (now (groups .entry)) (now (marks .entry)) first each)) (length (now (costs .entry))) (length (now (choices .entry))) (now (choices .entry))) ⌝ }
+    ensures cheapest { λ r. ⌜ (r ≡ 0 → CheapestWithin (now (run .entry)) limit (format-rules (tariff (now (steps .entry)) (now (groups .entry)) (now (marks .entry)) first each)) (take (getD (now (answer .exit)) 3 0) (now (out .exit))) (getD (now (answer .exit)) 4 0)) ⌝ }
+    ensures minimum { λ r. ⌜ (r ≡ 0 → MinimumTree (now (run .entry)) limit (tariff (now (steps .entry)) (now (groups .entry)) (now (marks .entry)) first each) (take (getD (now (answer .exit)) 3 0) (now (out .exit)))) ⌝ }
+    ensures too_long { λ r. ⌜ (r ≡ 14 → CheapestOver (length (now (out .entry))) (now (run .entry)) limit (format-rules (tariff (now (steps .entry)) (now (groups .entry)) (now (marks .entry)) first each))) ⌝ }
 {
     if answer.len() < ENTRIES {
         return SHORT;
     }
-    let folded = fold(run, limit, steps, groups, first, each, costs, choices, out);
+    let folded = fold(
+        run,
+        limit,
+        steps,
+        groups,
+        marks,
+        first,
+        each,
+        costs,
+        choices,
+        out,
+    );
     store(
         answer,
         Answer {

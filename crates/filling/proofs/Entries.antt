@@ -80,7 +80,7 @@ module _ (A : Allowed) (b : ℕ) (t : Forest) (numbers : List ℕ) (i n : ℕ) (
       here d p l x = rw (stored-at row-costs costs costs′ sc d p l, stored-at row-choices choices choices′ sk d p l) x
 
 -- Where the rows from the first on are solved, what a fold can use is entered.
-pub entered-used : (A : Allowed) (P : Prices) (b : ℕ) (t : Forest) (extents costs choices : List ℕ) → Extending t 0 extents
+pub entered-used : (A : Allowed) (P : Prices) (b : ℕ) (t : Forest) (extents costs choices : List ℕ) → Extending (A .marked) t 0 extents
     → Entered A P b t 0 extents costs choices → UsedEntered A P b t costs choices
 entered-used A P b t extents costs choices x e i d p q (to-end h) = e .whole i d (omega arith) p h
 entered-used A P b t extents costs choices x e i d p q (again w l h f) =

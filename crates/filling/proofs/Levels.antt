@@ -9,7 +9,7 @@ use Rattle.format.specs.Forest.{siblings, nodes, at-most}
 use Rattle.format.specs.Tree.{tree-of}
 use Rattle.optimum.specs.Cheapest.{Run, back}
 use Rattle.optimum.proofs.Cut.{siblings-le-nodes, siblings-back}
-use Rattle.format.specs.Limits.{cells}
+use Rattle.format.specs.Limits.{cells, allowed}
 use Rattle.solver.specs.Rows.{Matches, Growing, Drawn, RowHeld, RowReady, RowEntered, KeysReady, TailsReady}
 use Rattle.solver.proofs.Extents.{extending-more}
 use Rattle.filling.specs.Filling.{Below, Filled, counted-of, Single, LevelReady, Scratch}
@@ -49,20 +49,20 @@ scratch-none =
     }
 
 -- The loop from the last sibling to the first: what is known of the rows from sibling i on, and the matches from there on.
-pub record Descended (s : List ℕ) (b limit : ℕ) (steps groups prices costs₀ choices₀ : List ℕ) (i : ℕ) (costs choices matches extents tails stops : List ℕ) : Type 0 where
-  pub known : Known (at-most limit) (counted-of steps groups prices) b (tree-of s) i extents tails stops costs choices
+pub record Descended (s : List ℕ) (b limit : ℕ) (steps groups marks prices costs₀ choices₀ : List ℕ) (i : ℕ) (costs choices matches extents tails stops : List ℕ) : Type 0 where
+  pub known : Known (allowed limit marks) (counted-of steps groups prices) b (tree-of s) i extents tails stops costs choices
   pub kept-costs : KeptOthers b (tree-of s) costs₀ costs
   pub kept-choices : KeptOthers b (tree-of s) choices₀ choices
-  pub matched : Matches (back i (tree-of s)) matches
+  pub matched : Matches (allowed limit marks .marked) (back i (tree-of s)) matches
   pub low : (w : ℕ) → 0 < w → i + w ≤ siblings (tree-of s) → getD matches w 0 + i ≤ 1024
 
-module _ {s : List ℕ} {b limit : ℕ} {steps groups prices costs₀ choices₀ : List ℕ} (ready : LevelReady s b limit steps groups prices costs₀ choices₀) where
-  run : Run (at-most limit) (tree-of s)
-  run = ready .spelled .run (at-most limit)
+module _ {s : List ℕ} {b limit : ℕ} {steps groups prices costs₀ choices₀ : List ℕ} (marks : List ℕ) (ready : LevelReady s b limit steps groups prices costs₀ choices₀) where
+  run : Run (allowed limit marks) (tree-of s)
+  run = ready .spelled .run (allowed limit marks)
 
   -- Past the last sibling nothing is left to enter or to match.
   pub descended-none : (m : ℕ) (matches extents tails stops : List ℕ) → m ≡ siblings (tree-of s) → length extents ≡ 1025 → length tails ≡ 1025
-      → Descended s b limit steps groups prices costs₀ choices₀ m costs₀ choices₀ matches (set extents m 0) (set tails m 0) stops
+      → Descended s b limit steps groups marks prices costs₀ choices₀ m costs₀ choices₀ matches (set extents m 0) (set tails m 0) stops
   descended-none m matches extents tails stops e le lt =
       let few = siblings-few ready in
       record {
@@ -75,25 +75,25 @@ module _ {s : List ℕ} {b limit : ℕ} {steps groups prices costs₀ choices₀
 
   -- The rows entered are solved within the lists.
   pub extent-few : {i : ℕ} {costs choices matches extents tails stops : List ℕ} → i ≤ siblings (tree-of s)
-      → Descended s b limit steps groups prices costs₀ choices₀ i costs choices matches extents tails stops → getD extents i 0 ≤ 1024
+      → Descended s b limit steps groups marks prices costs₀ choices₀ i costs choices matches extents tails stops → getD extents i 0 ≤ 1024
   extent-few {i} h d = omega (arith, siblings-few ready, d .known .extending .within i (omega arith) h)
 
   -- The next row, of sibling j: what it is solved from, and what it leaves.
   module _ {m i : ℕ} (j : ℕ) {costs choices matches extents tails stops numbers : List ℕ} (all : siblings (tree-of s) ≡ m) (next : j + 1 ≡ i) (near : i ≤ m)
       (long : length numbers ≡ 1025) (numbered : Numbered b (tree-of s) numbers)
-      (d : Descended s b limit steps groups prices costs₀ choices₀ i costs choices matches extents tails stops) where
+      (d : Descended s b limit steps groups marks prices costs₀ choices₀ i costs choices matches extents tails stops) where
     last : getD numbers (siblings (tree-of s)) 0 ≡ b
     last = numbered .numbered (siblings (tree-of s)) (omega arith) ∙ number-last b (tree-of s) (run .plain)
 
     falling : {before after : List ℕ} → cells (b + nodes (tree-of s)) ≤ length before → KeptOthers b (tree-of s) before after
         → Falling numbers m (length after)
     falling room kept =
-        falling-numbered (at-most limit) b (tree-of s) numbers _ m (numbered .numbered) run (ready .total) (rw (kept .same-length) room) long
+        falling-numbered (allowed limit marks) b (tree-of s) numbers _ m (numbered .numbered) run (ready .total) (rw (kept .same-length) room) long
         (siblings-few ready) (omega arith)
 
     row-kept : {f : ℕ → ℕ} {before after : List ℕ} → Stored numbers j (m - j) f before after → KeptOthers b (tree-of s) before after
     row-kept {f} {before} {after} =
-        stored-kept (at-most limit) b (tree-of s) numbers j (m - j) run (omega arith) (numbered .numbered) f before after
+        stored-kept (allowed limit marks) b (tree-of s) numbers j (m - j) run (omega arith) (numbered .numbered) f before after
 
     -- What cost and repeats of that sibling by itself rest on.
     pub own-asks : {offsets : List ℕ} → (length offsets ≡ 1025) × Placed s offsets
@@ -114,15 +114,15 @@ module _ {s : List ℕ} {b limit : ℕ} {steps groups prices costs₀ choices₀
     )
 
     module _ {own : ℕ} {kinds matches′ : List ℕ} (g : Source) (single : Single s steps groups costs choices numbers j own)
-        (below : Below (at-most limit) (counted-of steps groups prices) b (tree-of s) costs₀ choices₀) (classed : Classed (tree-of s) m kinds)
+        (below : Below (allowed limit marks) (counted-of steps groups prices) b (tree-of s) costs₀ choices₀) (classed : Classed (allowed limit marks .marked) (tree-of s) m kinds)
         (grown : Growing kinds j m matches matches′) (drawn : Drawn extents j m matches′ g) where
       abbrev row : Row
       row = record { at = j; end = m; limit = limit; own = own; shift = g .shift; span = g .span; extent = g .extent }
 
-      matched-again : Matches (back j (tree-of s)) matches′
-      matched-again = grown .matches (at-most limit) (tree-of s) run all classed (rw next (d .matched))
+      matched-again : Matches (allowed limit marks .marked) (back j (tree-of s)) matches′
+      matched-again = grown .matches (allowed limit marks) (tree-of s) run all classed (rw next (d .matched))
 
-      known-next : Known (at-most limit) (counted-of steps groups prices) b (tree-of s) (j + 1) extents tails stops costs choices
+      known-next : Known (allowed limit marks) (counted-of steps groups prices) b (tree-of s) (j + 1) extents tails stops costs choices
       known-next = rw next (d .known)
 
       row-ready : RowReady costs choices numbers row prices matches′ tails stops
@@ -130,7 +130,7 @@ module _ {s : List ℕ} {b limit : ℕ} {steps groups prices costs₀ choices₀
           let now = below-others _ _ _ run _ _ _ _ _ (d .kept-costs) (d .kept-choices) below in
           record {
             tree = tree-of s;
-            allowed = at-most limit;
+            allowed = allowed limit marks;
             prices-are = counted-of steps groups prices;
             base = b;
             extents = extents;
@@ -147,7 +147,7 @@ module _ {s : List ℕ} {b limit : ℕ} {steps groups prices costs₀ choices₀
             rows-below = known-next .entered;
             tailing = known-next .tailing;
             stopping = known-next .stopping;
-            own-cost = single .costs-it (at-most limit) (counted-of steps groups prices) (λ l. refl) (λ l. refl) (omega (arith, ready .total)) (rw last now);
+            own-cost = single .costs-it (allowed limit marks) (counted-of steps groups prices) (λ l. refl) (λ l. refl) (omega (arith, ready .total)) (rw last now);
             matches = matched-again;
             drawn = drawn;
           }
@@ -164,13 +164,13 @@ module _ {s : List ℕ} {b limit : ℕ} {steps groups prices costs₀ choices₀
       -- The row entered: one more sibling is done, and nothing but stretches of this sequence has changed.
       pub descended-more : {costs′ choices′ tails′ stops′ : List ℕ} → length extents ≡ 1025 → length tails ≡ 1025 → length stops ≡ 1025
           → RowEntered costs choices numbers row prices matches′ tails stops costs′ choices′ tails′ stops′
-          → Descended s b limit steps groups prices costs₀ choices₀ j costs′ choices′ matches′ (set extents j (g .extent)) tails′ stops′
+          → Descended s b limit steps groups marks prices costs₀ choices₀ j costs′ choices′ matches′ (set extents j (g .extent)) tails′ stops′
       unfolding row-ready
       descended-more {costs′} {choices′} {tails′} {stops′} le lt ls e =
           let few = siblings-few ready in
           let here : getD (set extents j (g .extent)) j 0 ≡ g .extent = getD-set-same extents j (g .extent) 0 (omega arith) in
           let t = tree-of s in
-          let A = at-most limit in
+          let A = allowed limit marks in
           let P = counted-of steps groups prices in
           record {
             known = record {
@@ -194,9 +194,9 @@ module _ {s : List ℕ} {b limit : ℕ} {steps groups prices costs₀ choices₀
           }
 
   -- Down to the first sibling the level is filled, and nothing outside its interval has changed.
-  module _ {costs choices matches extents tails stops : List ℕ} (d : Descended s b limit steps groups prices costs₀ choices₀ 0 costs choices matches extents tails stops) where
-    pub level-filled : Below (at-most limit) (counted-of steps groups prices) b (tree-of s) costs₀ choices₀
-        → Filled (at-most limit) (counted-of steps groups prices) b (tree-of s) costs choices
+  module _ {costs choices matches extents tails stops : List ℕ} (d : Descended s b limit steps groups marks prices costs₀ choices₀ 0 costs choices matches extents tails stops) where
+    pub level-filled : Below (allowed limit marks) (counted-of steps groups prices) b (tree-of s) costs₀ choices₀
+        → Filled (allowed limit marks) (counted-of steps groups prices) b (tree-of s) costs choices
     level-filled w = record { top = entered-used _ _ _ _ _ _ _ (d .known .extending) (d .known .entered); below = below-others _ _ _ run _ _ _ _ _ (d .kept-costs) (d .kept-choices) w }
 
     pub level-kept : Kept b (nodes (tree-of s)) costs₀ costs × Kept b (nodes (tree-of s)) choices₀ choices

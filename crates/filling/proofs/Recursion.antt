@@ -6,8 +6,8 @@ use Prim.Native.Nat.{ℕ, _+_, _-_, _<_, _≤_}
 use native.Mathlib.Omega.{arith}
 use lib.ListN.{length, getD, take, drop, length-append}
 use lib.Seq.{take-at}
-use Rattle.format.specs.Limits.{Prices}
-use Rattle.format.specs.Forest.{Forest, group, bytes, siblings, nodes, Allowed, at-most}
+use Rattle.format.specs.Limits.{Prices, allowed}
+use Rattle.format.specs.Forest.{Forest, group, bytes, siblings, nodes, Allowed}
 use Rattle.format.specs.Tree.{tree-of}
 use Rattle.format.proofs.Tree.{tree-of-bytes}
 use Rattle.optimum.specs.Cheapest.{Run, front, back, node}
@@ -63,8 +63,8 @@ record GroupAt (s : List ℕ) (i : ℕ) (part : List ℕ) : Type 0 where
   spells : inside part ≡ bytes children
 
 module _ {places nexts s : List ℕ} {level : Level} {steps groups prices costs₀ choices₀ costs choices : List ℕ} {q : ℕ}
-    (l : LevelReady s (level .span .behind) (level .limit) steps groups prices costs₀ choices₀) (z : LevelListed places nexts s level)
-    (w : Through (at-most (level .limit)) (counted-of steps groups prices) s (level .span .behind) costs₀ choices₀ costs choices q) where
+    (marks : List ℕ) (l : LevelReady s (level .span .behind) (level .limit) steps groups prices costs₀ choices₀) (z : LevelListed places nexts s level)
+    (w : Through (allowed (level .limit) marks) (counted-of steps groups prices) s (level .span .behind) costs₀ choices₀ costs choices q) where
   abbrev t : Forest
   t = tree-of s
 
@@ -72,7 +72,7 @@ module _ {places nexts s : List ℕ} {level : Level} {steps groups prices costs�
   b = level .span .behind
 
   abbrev A : Allowed
-  A = at-most (level .limit)
+  A = allowed (level .limit) marks
 
   abbrev P : Prices
   P = counted-of steps groups prices
@@ -203,7 +203,7 @@ module _ {places nexts s : List ℕ} {level : Level} {steps groups prices costs�
               }
 
           pub through-group : {costs′ choices′ : List ℕ}
-              → Filled (at-most (r .limit)) P (r .span .behind) (tree-of (inside part)) costs′ choices′
+              → Filled (allowed (r .limit) marks) P (r .span .behind) (tree-of (inside part)) costs′ choices′
               → Kept (r .span .behind) (nodes (tree-of (inside part))) costs costs′
               → Kept (r .span .behind) (nodes (tree-of (inside part))) choices choices′
               → Through A P s b costs₀ choices₀ costs′ choices′ (getD nexts q 0)

@@ -17,7 +17,7 @@ use Rattle.solver.specs.Rows.{Extending, Entered, Tailing, Stopping}
 
 -- How far the rows are solved, their entries, what they add as tails, and where their first items end.
 pub record Known (A : Allowed) (P : Prices) (b : ℕ) (t : Forest) (i : ℕ) (extents tails stops costs choices : List ℕ) : Type 0 where
-  pub extending : Extending t i extents
+  pub extending : Extending (A .marked) t i extents
   pub entered : Entered A P b t i extents costs choices
   pub tailing : Tailing A P t i tails
   pub stopping : Stopping A P t i extents stops

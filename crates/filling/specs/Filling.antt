@@ -3,8 +3,8 @@ use mathlib.Core.Path.{_≡_}
 use mathlib.Core.List.{List}
 use Prim.Native.Nat.{ℕ, _+_, _-_, _*_, _<_, _≤_}
 use lib.ListN.{length, getD}
-use Rattle.format.specs.Limits.{Prices, cells}
-use Rattle.format.specs.Forest.{Forest, end, step, group, repeat, Allowed, at-most, siblings, nodes}
+use Rattle.format.specs.Limits.{Prices, cells, allowed}
+use Rattle.format.specs.Forest.{Forest, end, step, group, repeat, Allowed, siblings, nodes}
 use Rattle.format.specs.Tree.{tree-of}
 use Rattle.optimum.specs.Cheapest.{node, best-cost}
 use Rattle.optimum.specs.Fewest.{counting}
@@ -71,9 +71,9 @@ pub record LevelInside (places : List ℕ) (q next limit : ℕ) (r : Level) : Ty
   pub limited : r .limit ≡ limit
 
 -- The sequence is entered with all below it, and nothing outside its interval has changed.
-abbrev pub LevelFilled : (s : List ℕ) (level : Level) (steps groups prices costs choices : List ℕ) → Type 0
-LevelFilled s level steps groups prices costs choices =
-    Filled (at-most (level .limit)) (counted-of steps groups prices) (level .span .behind) (tree-of s) costs choices
+abbrev pub LevelFilled : (s : List ℕ) (level : Level) (steps groups marks prices costs choices : List ℕ) → Type 0
+LevelFilled s level steps groups marks prices costs choices =
+    Filled (allowed (level .limit) marks) (counted-of steps groups prices) (level .span .behind) (tree-of s) costs choices
 
 abbrev pub LevelKept : (s : List ℕ) (level : Level) (before after : List ℕ) → Type 0
 LevelKept s level before after = Kept (level .span .behind) (nodes (tree-of s)) before after

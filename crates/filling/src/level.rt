@@ -11,7 +11,7 @@ use table::list_siblings;
 use table::part_of;
 ghost use Prim.Native.Nat.{_<_};
 ghost use lib.ListN.{length};
-ghost use Rattle.format.specs.Forest.{at-most};
+ghost use Rattle.format.specs.Limits.{allowed};
 ghost use Rattle.format.specs.Tree.{tree-of};
 ghost use Rattle.filling.specs.Filling.{Below, counted-of, LevelReady, LevelListed, LevelInside, LevelFilled, LevelKept, Scratch};
 
@@ -30,6 +30,7 @@ pub fn enter_level(
     level: Level,
     steps: &[u16],
     groups: &[u16],
+    marks: &[u8],
     prices: &[u64],
     offsets: &mut [usize],
     numbers: &mut [usize],
@@ -44,16 +45,16 @@ pub fn enter_level(
     choices: &mut [u32],
 )
     requires { ⌜ LevelReady (now s) (level .span .behind) (level .limit) (now steps) (now groups) (now prices) (now costs) (now choices) ⌝ }
-    requires { ⌜ Below (at-most (level .limit)) (counted-of (now steps) (now groups) (now prices)) (level .span .behind) (tree-of (now s)) (now costs) (now choices) ⌝ }
+    requires { ⌜ Below (allowed (level .limit) (now marks)) (counted-of (now steps) (now groups) (now prices)) (level .span .behind) (tree-of (now s)) (now costs) (now choices) ⌝ }
     requires { ⌜ Scratch (now offsets) (now numbers) (now kinds) (now matches) (now extents) (now tails) (now stops) (now seen) (now keys) ⌝ }
     requires { ⌜ LevelListed (now places) (now nexts) (now s) level ⌝ }
     ensures scratch { λ _. ⌜ Scratch (now (offsets .exit)) (now (numbers .exit)) (now (kinds .exit)) (now (matches .exit)) (now (extents .exit)) (now (tails .exit)) (now (stops .exit)) (now (seen .exit)) (now (keys .exit)) ⌝ }
-    ensures entered { λ _. ⌜ LevelFilled (now (s .entry)) level (now (steps .entry)) (now (groups .entry)) (now (prices .entry)) (now (costs .exit)) (now (choices .exit)) ⌝ }
+    ensures entered { λ _. ⌜ LevelFilled (now (s .entry)) level (now (steps .entry)) (now (groups .entry)) (now (marks .entry)) (now (prices .entry)) (now (costs .exit)) (now (choices .exit)) ⌝ }
     ensures kept { λ _. ⌜ LevelKept (now (s .entry)) level (now (costs .entry)) (now (costs .exit)) × LevelKept (now (s .entry)) level (now (choices .entry)) (now (choices .exit)) ⌝ }
 {
     let stands = level.span;
     let m = list_siblings(places, nexts, s, stands, offsets, numbers);
-    classify(s, offsets, m, kinds);
+    classify(s, offsets, marks, m, kinds);
     extents[m] = 0;
     tails[m] = 0;
     let mut i = m;
@@ -108,6 +109,7 @@ pub fn enter_tree(
     level: Level,
     steps: &[u16],
     groups: &[u16],
+    marks: &[u8],
     prices: &[u64],
     offsets: &mut [usize],
     numbers: &mut [usize],
@@ -125,7 +127,7 @@ pub fn enter_tree(
     requires { ⌜ Scratch (now offsets) (now numbers) (now kinds) (now matches) (now extents) (now tails) (now stops) (now seen) (now keys) ⌝ }
     requires { ⌜ LevelListed (now places) (now nexts) (now s) level ⌝ }
     ensures scratch { λ _. ⌜ Scratch (now (offsets .exit)) (now (numbers .exit)) (now (kinds .exit)) (now (matches .exit)) (now (extents .exit)) (now (tails .exit)) (now (stops .exit)) (now (seen .exit)) (now (keys .exit)) ⌝ }
-    ensures entered { λ _. ⌜ LevelFilled (now (s .entry)) level (now (steps .entry)) (now (groups .entry)) (now (prices .entry)) (now (costs .exit)) (now (choices .exit)) ⌝ }
+    ensures entered { λ _. ⌜ LevelFilled (now (s .entry)) level (now (steps .entry)) (now (groups .entry)) (now (marks .entry)) (now (prices .entry)) (now (costs .exit)) (now (choices .exit)) ⌝ }
     ensures kept { λ _. ⌜ LevelKept (now (s .entry)) level (now (costs .entry)) (now (costs .exit)) × LevelKept (now (s .entry)) level (now (choices .entry)) (now (choices .exit)) ⌝ }
 {
     let span = level.span;
@@ -141,6 +143,7 @@ pub fn enter_tree(
                 inside(places, q, next, level.limit),
                 steps,
                 groups,
+                marks,
                 prices,
                 offsets,
                 numbers,
@@ -164,6 +167,7 @@ pub fn enter_tree(
         level,
         steps,
         groups,
+        marks,
         prices,
         offsets,
         numbers,

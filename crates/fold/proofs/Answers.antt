@@ -8,9 +8,10 @@ use native.Mathlib.Omega.{arith}
 use borrow.Author.Tests.{lt-ltb, le-ltb}
 use lib.ListN.{length, take, drop, replicate}
 use lib.Seq.{take-append-seam}
-use Rattle.format.specs.Limits.{limits, Tariff, tariff, priced}
+use Rattle.format.specs.Limits.{limits, Tariff, tariff, priced, allowed}
 use Rattle.format.specs.Order.{Bytes}
-use Rattle.format.specs.Forest.{at-most}
+use Rattle.format.specs.Head.{marks-in-order}
+use Rattle.format.specs.Marks.{free-marks}
 use Rattle.format.specs.Machine.{Outcome, refused, accepted, read}
 use Rattle.format.specs.Readings.{run-rules, as-run-reading, run-reading}
 use Rattle.format.specs.declared.RunReading.{RunReading}
@@ -25,7 +26,7 @@ use Rattle.fold.proofs.Room.{enough-work, too-little-work}
 
 -- What the program lends.
 abbrev unit : Tariff
-unit = tariff (replicate 256 1) (replicate 256 1) 1 0
+unit = tariff (replicate 256 1) (replicate 256 1) free-marks 1 0
 
 -- The verdict on a run: a refusal with its number, or a fold with the nodes that the run reader counts.
 data Decided (nodes : ℕ) : Verdict → Type 0 where
@@ -33,13 +34,13 @@ data Decided (nodes : ℕ) : Verdict → Type 0 where
   folded : (f : List ℕ) (c : ℕ) → length f ≤ 4 * nodes → Decided nodes (folds nodes f c)
 
 decided : (s : List ℕ) → Bytes s → Decided (run-reading s .nodes) (folding s (limits .width) unit)
-unfolding run-reading folding
+unfolding run-reading folding marks-in-order
 decided s small = by-outcome (read run-rules s) refl
   where
-    by-outcome : (o : Outcome) → read run-rules s ≡ o → Decided (as-run-reading o .nodes) (verdict (at-most (limits .width)) (priced unit) s o)
+    by-outcome : (o : Outcome) → read run-rules s ≡ o → Decided (as-run-reading o .nodes) (verdict (allowed (limits .width) free-marks) (priced unit) s o)
     by-outcome (refused n p) e = refusing n p (refused-some run-rules s n p e)
     by-outcome (accepted t x) e =
-        folded _ _ (cheapest-room s small t x e (limits .width) (priced unit))
+        folded _ _ (cheapest-room s small t x e (allowed (limits .width) free-marks) (priced unit))
 
 -- What the folder answers and writes with this work and this output.
 abbrev answered : Verdict → Folded

@@ -5,3 +5,4 @@ pub mod Room
 pub mod Answers
 pub mod More
 pub mod OneTable
+pub mod FreeMarks

@@ -7,6 +7,7 @@ use native.Mathlib.Omega.{arith}
 use lib.ListN.{length, take, drop, length-take, take-append-drop}
 use lib.Seq.{take-all}
 use Rattle.format.specs.Machine.{refused, read}
+use Rattle.format.specs.Head.{marks-in-order}
 use Rattle.format.specs.Readings.{run-rules}
 use Rattle.format.proofs.More.{refused-stays, long-settled}
 use Rattle.fold.specs.Text.{refusal-line}
@@ -14,7 +15,7 @@ use Rattle.fold.specs.Printed.{printed}
 
 -- A run that is refused is printed by its refusal alone.
 printed-refused : (s : List ℕ) (n p : ℕ) → read run-rules s ≡ refused n p → printed s ≡ refusal-line n p
-unfolding printed
+unfolding printed marks-in-order
 printed-refused s n p out = rw out
 
 pub more-input : (s : List ℕ) → printed (take 4096 s) ≡ printed s

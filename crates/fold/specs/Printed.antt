@@ -5,6 +5,7 @@ use Prim.Native.Nat.{ℕ}
 use lib.Dec.{ltb}
 use lib.ListN.{replicate}
 use Rattle.format.specs.Limits.{limits, tariff}
+use Rattle.format.specs.Marks.{free-marks}
 use Rattle.optimum.specs.Verdict.{Verdict, refuses, folds}
 use Rattle.folder.specs.Folding.{folding}
 use Rattle.fold.specs.Text.{three-lines, refusal-line}
@@ -16,7 +17,7 @@ lines-of (refuses n p) = refusal-line n p
 lines-of (folds n f c) =
     cond (ltb 100 n) (refusal-line 13 0) (three-lines n c f)
 
--- At unit costs, every label 1 for steps and groups, first 1 and each 0, and the largest width limit.
+-- At unit costs, every label 1 for steps and groups and free, first 1 and each 0, and the largest width limit.
 unfoldable pub printed : List ℕ → List ℕ
 unfolding folding
-printed run = lines-of (folding run (limits .width) (tariff (replicate 256 1) (replicate 256 1) 1 0))
+printed run = lines-of (folding run (limits .width) (tariff (replicate 256 1) (replicate 256 1) free-marks 1 0))

@@ -15,12 +15,14 @@ ghost use lib.ListN.{length};
 ghost use Rattle.fold.specs.PutText.{PutText};
 ghost use Rattle.fold.specs.Printed.{printed};
 
-// The text that is printed for a run. Unit costs: every label 1 for steps and groups, first 1, each 0. The work serves 100 nodes.
+// The text that is printed for a run. Unit costs: every label 1 for steps and groups and none marked, first 1, each 0. The work
+// serves 100 nodes.
 fn answer(run: &[u8], text: &mut [u8]) -> usize
     requires { ⌜ 8252 ≤ length (now text) ⌝ }
     ensures { λ r. ⌜ PutText (now (text .entry)) (now (text .exit)) 0 (printed (now (run .entry))) r ⌝ }
 {
     let labels = [1u16; 256];
+    let marks = [0u8; 256];
     let mut costs = [0u32; 5050];
     let mut choices = [0u32; 5050];
     let mut out = [0u8; 4096];
@@ -29,6 +31,7 @@ fn answer(run: &[u8], text: &mut [u8]) -> usize
         Format::WIDTH,
         &labels,
         &labels,
+        &marks,
         1,
         0,
         &mut costs,

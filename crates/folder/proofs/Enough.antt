@@ -5,9 +5,9 @@ use Prim.Native.Nat.{ℕ, _*_, _≤_}
 use native.Mathlib.Omega.{arith}
 use lib.ListN.{length}
 use borrow.Author.Tests.{le-ltb}
-use Rattle.format.specs.Limits.{Tariff, priced, cells}
+use Rattle.format.specs.Limits.{Tariff, priced, allowed, cells}
 use Rattle.format.specs.Order.{Bytes}
-use Rattle.format.specs.Forest.{bytes, at-most}
+use Rattle.format.specs.Forest.{bytes}
 use Rattle.format.specs.Head.{full-head}
 use Rattle.format.specs.Readings.{as-run-reading, run-outcome}
 use Rattle.format.specs.Tree.{tree-of}
@@ -30,7 +30,7 @@ lent-enough s small k T z costs choices room x y o =
     let r = admission s k T in
     let a = accepted-run s k T r refl z in
     let n = r .nodes in
-    let f = bytes (preferred (at-most k) (priced T) (tree-of s)) in
+    let f = bytes (preferred (allowed k (T .marks)) (priced T) (tree-of s)) in
     let short : length f ≤ room =
-    omega (arith, cheapest-room s small (a .tally) (a .text) (accepts s k T r refl a) k (priced T), a .all) in
+    omega (arith, cheapest-room s small (a .tally) (a .text) (accepts s k T r refl a) (allowed k (T .marks)) (priced T), a .all) in
     rw (verdict-folds s k T r refl a, le-ltb costs (cells n) x, le-ltb choices (cells n) y, le-ltb room (length f) short)

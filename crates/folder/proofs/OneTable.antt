@@ -4,9 +4,9 @@ use mathlib.Core.Path.{_≡_, refl, sym, ap, _∙_}
 use mathlib.Core.List.{List}
 use Prim.Native.Nat.{ℕ, suc}
 use native.Mathlib.Omega.{arith}
-use Rattle.format.specs.Limits.{limits, Tariff, tariff, Prices, priced}
+use Rattle.format.specs.Limits.{limits, Tariff, tariff, Prices, priced, Allowed, allowed}
 use Rattle.format.specs.Order.{Bytes}
-use Rattle.format.specs.Forest.{at-most, bytes, cost}
+use Rattle.format.specs.Forest.{bytes, cost}
 use Rattle.format.specs.Machine.{Outcome, refused, accepted, read}
 use Rattle.format.specs.Head.{full-head}
 use Rattle.format.specs.Readings.{run-rules, run-outcome}
@@ -22,32 +22,35 @@ use Rattle.optimum.proofs.OneTable.{equal-tables-cheapest}
 use Rattle.folder.specs.Folding.{folding}
 use Rattle.folder.specs.OneTable.{one-table-folding}
 
-module _ (s : List ℕ) (k : ℕ) (table : List ℕ) (first each : ℕ) where
+module _ (s : List ℕ) (k : ℕ) (table marks : List ℕ) (first each : ℕ) where
   abbrev T : Tariff
-  T = tariff table table first each
+  T = tariff table table marks first each
 
-  pub equal-tables-folding : folding s k T ≡ one-table-folding s k table first each
+  abbrev A : Allowed
+  A = allowed k marks
+
+  pub equal-tables-folding : folding s k T ≡ one-table-folding s k table marks first each
   unfolding folding run-outcome one-table-folding
   equal-tables-folding =
-      ap (verdict (at-most k) (by-label table first each) s) (equal-tables-headed table first each k (read run-rules s))
+      ap (verdict A (by-label table first each) s) (equal-tables-headed table marks first each k (read run-rules s))
 
-  pub equal-tables-fold : Bytes s → (n : ℕ) (f : List ℕ) (c : ℕ) → folding s k T ≡ folds n f c → CheapestByLabel s k table first each f c
+  pub equal-tables-fold : Bytes s → (n : ℕ) (f : List ℕ) (c : ℕ) → folding s k T ≡ folds n f c → CheapestByLabel s k table marks first each f c
   unfolding folding run-outcome
   equal-tables-fold small n f c decided = by-outcome (run-outcome (full-head T k) s) refl
     where
-      by-outcome : (o : Outcome) → run-outcome (full-head T k) s ≡ o → CheapestByLabel s k table first each f c
+      by-outcome : (o : Outcome) → run-outcome (full-head T k) s ≡ o → CheapestByLabel s k table marks first each f c
       by-outcome (refused m p) e =
-          let none : n ≡ suc n = cc (decided, ap (verdict (at-most k) (priced T) s) e) in
+          let none : n ≡ suc n = cc (decided, ap (verdict A (priced T) s) e) in
           absurd (omega arith)
       by-outcome (accepted t x) e =
           let P : Prices = priced T in
-          let g = bytes (preferred (at-most k) P (tree-of s)) in
+          let g = bytes (preferred A P (tree-of s)) in
           let accepts = headed-accepted limits (full-head T k) (read run-rules s) t x e in
           let narrow = headed-narrow limits (full-head T k) (read run-rules s) t x e in
-          let best = cheapest-bytes s small t x accepts k narrow P in
-          let coded = cheapest-small s small t x accepts k narrow P in
-          let same : folds (t .nodes) g (cost P (preferred (at-most k) P (tree-of s))) ≡ folds n f c =
-          sym (ap (verdict (at-most k) P s) e) ∙ decided in
+          let best = cheapest-bytes s small t x accepts k narrow T in
+          let coded = cheapest-small s small t x accepts A P in
+          let same : folds (t .nodes) g (cost P (preferred A P (tree-of s))) ≡ folds n f c =
+          sym (ap (verdict A P s) e) ∙ decided in
           let fold : g ≡ f = cc same in
-          let costs : cost P (preferred (at-most k) P (tree-of s)) ≡ c = cc same in
-          rw (← fold, ← costs) (equal-tables-cheapest s k table first each _ _ coded .0 best)
+          let costs : cost P (preferred A P (tree-of s)) ≡ c = cc same in
+          rw (← fold, ← costs) (equal-tables-cheapest s k table marks first each _ _ coded .0 best)

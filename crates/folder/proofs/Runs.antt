@@ -9,7 +9,7 @@ use lib.ListN.{length, getD, drop, replicate, length-drop}
 use borrow.Author.Tests.{lt-ltb, le-ltb}
 use lib.Seq.{sets-eq, getD-drop, ext-getD}
 use Rattle.format.specs.Limits as limits
-use Rattle.format.specs.Forest.{Forest, end, Plain, siblings, nodes, cost, bytes, at-most}
+use Rattle.format.specs.Forest.{Forest, end, Plain, siblings, nodes, cost, bytes, Allowed}
 use Rattle.format.specs.Tree.{tree-of}
 use Rattle.format.specs.declared.Folded.{Folded}
 use Rattle.optimum.specs.Cheapest.{back, cheapest, best-cost}
@@ -46,16 +46,16 @@ unfolding back
 whole-stretch t p = front-whole (siblings t) t p refl
 
 -- What the writer rests on, and the cost of the whole.
-module _ {s : List ℕ} {n limit : ℕ} {P : limits.Prices} {costs choices : List ℕ} (w : RunFilled s n limit P costs choices) where
+module _ {s : List ℕ} {n : ℕ} {A : Allowed} {P : limits.Prices} {costs choices : List ℕ} (w : RunFilled s n A P costs choices) where
   abbrev f : List ℕ
-  f = bytes (preferred (at-most limit) P (tree-of s))
+  f = bytes (preferred A P (tree-of s))
 
   -- The cheapest fold at prices that count repeats is the preferred one.
   enough : nodes (tree-of s) < 2 * factor
   enough = omega (arith, w .all, w .few)
 
-  same-fold : cheapest (at-most limit) (counting factor P) (tree-of s) ≡ preferred (at-most limit) P (tree-of s)
-  same-fold = any-factor (at-most limit) P (tree-of s) (w .spelled .run (at-most limit)) factor enough
+  same-fold : cheapest A (counting factor P) (tree-of s) ≡ preferred A P (tree-of s)
+  same-fold = any-factor A P (tree-of s) (w .spelled .run A) factor enough
 
   pub write-ready : {places nexts : List ℕ} → RunListed s places nexts → WriteReady s places nexts choices n 0
   write-ready l =
@@ -71,32 +71,32 @@ module _ {s : List ℕ} {n limit : ℕ} {P : limits.Prices} {costs choices : Lis
         counted = omega (arith, w .all);
         total = w .few;
         room = w .choice-room;
-        allowed = at-most limit;
+        allowed = A;
         prices-are = counting factor P;
         costs = costs;
         filled = w .filled;
       }
 
   -- The entry of the whole run has its cost.
-  whole-cost : (c k : ℕ) → Entry (at-most limit) (counting factor P) (tree-of s) c k → c ≡ cost P (preferred (at-most limit) P (tree-of s))
+  whole-cost : (c k : ℕ) → Entry A (counting factor P) (tree-of s) c k → c ≡ cost P (preferred A P (tree-of s))
   whole-cost c k x =
       let t = tree-of s in
-      let run = w .spelled .run (at-most limit) in
-      let g = preferred (at-most limit) P t in
+      let run = w .spelled .run A in
+      let g = preferred A P t in
       let few : siblings t ≤ 1024 = omega (arith, siblings-le-nodes t (run .plain), w .all, w .few) in
-      omega (arith, digits (x .best) (spans-usual (at-most limit) t few), x .apart, best-counted (at-most limit) P t run factor enough, counted-few (at-most limit) P t run factor enough)
+      omega (arith, digits (x .best) (spans-usual A t few), x .apart, best-counted A P t run factor enough, counted-few A P t run factor enough)
 
-  pub whole-is : (r : ℕ) → (n ≡ 0 → r ≡ 0) → (0 < n → r ≡ getD costs (cell 0 n) 0) → r ≡ cost P (preferred (at-most limit) P (tree-of s))
+  pub whole-is : (r : ℕ) → (n ≡ 0 → r ≡ 0) → (0 < n → r ≡ getD costs (cell 0 n) 0) → r ≡ cost P (preferred A P (tree-of s))
   unfolding cost
   whole-is r none some =
       let t = tree-of s in
-      let run = w .spelled .run (at-most limit) in
+      let run = w .spelled .run A in
       let m = siblings t in
       elim (ℕ-discrete n 0) [
         | yes e ↦
             let z : t ≡ end = no-nodes t (run .plain) (w .all ∙ e) in
-            let free : best-cost (at-most limit) (counting factor P) t ≡ 0 = rw z (best-cost-end (at-most limit) (counting factor P)) in
-            omega (arith, none e, free, best-counted (at-most limit) P t run factor enough)
+            let free : best-cost A (counting factor P) t ≡ 0 = rw z (best-cost-end A (counting factor P)) in
+            omega (arith, none e, free, best-counted A P t run factor enough)
         | no e ↦
             let more : 0 < m = some-siblings t (run .plain) (omega (arith, w .all)) in
             let x = w .filled .entry 0 t itself 0 m more (omega arith) (to-end (omega arith)) in
@@ -117,9 +117,9 @@ module _ {s : List ℕ} {n limit : ℕ} {P : limits.Prices} {costs choices : Lis
         let e = lt-ltb (length out) (length f) (omega (arith, len-is)) in
         (q ∙ rw e, rw e)
 
-    pub answer-whole : len ≤ length out → (c : ℕ) → c ≡ cost P (preferred (at-most limit) P (tree-of s)) → (out′ : List ℕ) (r : ℕ)
+    pub answer-whole : len ≤ length out → (c : ℕ) → c ≡ cost P (preferred A P (tree-of s)) → (out′ : List ℕ) (r : ℕ)
         → FoldWritten s places nexts choices n 0 out out′ r
-        → (record { refusal = 0; place = 0; length = len; cost = c } ≡ room-answer (length out) f (cost P (preferred (at-most limit) P (tree-of s))))
+        → (record { refusal = 0; place = 0; length = len; cost = c } ≡ room-answer (length out) f (cost P (preferred A P (tree-of s))))
         × (out′ ≡ room-output f out)
     unfolding write-ready
     answer-whole l c is-cost out′ r v =
@@ -127,15 +127,15 @@ module _ {s : List ℕ} {n limit : ℕ} {P : limits.Prices} {costs choices : Lis
         let all = sets-eq f out 0 (omega (arith, len-is)) in
         (rw (e, len-is, is-cost), rw e (v .written (write-ready listed) ∙ rw same-fold (rw zero-add at all)))
 
--- The answer holds for whatever limit and prices the table was filled.
+-- The answer holds for whatever repeats and prices the table was filled.
 module _ {s places nexts : List ℕ} (listed : RunListed s places nexts) {n : ℕ} {costs choices : List ℕ} (len : ℕ)
     (is-length : FoldLength s places nexts choices n 0 len) (out : List ℕ) where
   pub written-short : length out < len → (r : Folded) → r ≡ record { refusal = 14; place = 0; length = 0; cost = 0 }
       → RunWritten s n costs choices out out r
   written-short l r q =
       record {
-        answered = λ limit P w. answer-short w listed len is-length out l r q _ .0;
-        written = λ limit P w. answer-short w listed len is-length out l r q 0 .1;
+        answered = λ A P w. answer-short w listed len is-length out l r q _ .0;
+        written = λ A P w. answer-short w listed len is-length out l r q 0 .1;
       }
 
   pub written-whole : len ≤ length out → (c : ℕ) → (n ≡ 0 → c ≡ 0) → (0 < n → c ≡ getD costs (cell 0 n) 0) → (out′ : List ℕ) (r : ℕ)
@@ -143,15 +143,15 @@ module _ {s places nexts : List ℕ} (listed : RunListed s places nexts) {n : �
       → RunWritten s n costs choices out out′ (record { refusal = 0; place = 0; length = len; cost = c })
   written-whole l c none some out′ r v =
       record {
-        answered = λ limit P w. answer-whole w listed len is-length out l c (whole-is w c none some) out′ r v .0;
-        written = λ limit P w. answer-whole w listed len is-length out l c (whole-is w c none some) out′ r v .1;
+        answered = λ A P w. answer-whole w listed len is-length out l c (whole-is w c none some) out′ r v .0;
+        written = λ A P w. answer-whole w listed len is-length out l c (whole-is w c none some) out′ r v .1;
       }
 
 -- The table is filled and the fold written; cleared, it leaves all as the folder says.
-module _ {s : List ℕ} {n limit : ℕ} {steps groups prices costs choices : List ℕ} (ready : LevelReady s 0 limit steps groups prices costs choices) (all : nodes (tree-of s) ≡ n)
-    {costs′ choices′ : List ℕ} (filled : UsedFilled (at-most limit) (counted-of steps groups prices) 0 (tree-of s) costs′ choices′)
+module _ {s : List ℕ} {n limit : ℕ} {steps groups prices costs choices : List ℕ} (A : Allowed) (ready : LevelReady s 0 limit steps groups prices costs choices) (all : nodes (tree-of s) ≡ n)
+    {costs′ choices′ : List ℕ} (filled : UsedFilled A (counted-of steps groups prices) 0 (tree-of s) costs′ choices′)
     (kept : Kept 0 (nodes (tree-of s)) costs costs′ × Kept 0 (nodes (tree-of s)) choices choices′) where
-  pub run-filled : RunFilled s n limit (prices-of steps groups prices) costs′ choices′
+  pub run-filled : RunFilled s n A (prices-of steps groups prices) costs′ choices′
   run-filled =
       record {
         spelled = ready .spelled;
@@ -170,11 +170,11 @@ module _ {s : List ℕ} {n limit : ℕ} {steps groups prices costs choices : Lis
 
     pub run-folded : {out out′ costs″ choices″ : List ℕ} {r : Folded} → RunWritten s n costs′ choices′ out out′ r
         → costs″ ≡ replicate used 0 ++ drop used costs′ → choices″ ≡ replicate used 0 ++ drop used choices′
-        → RunFolded s n limit (prices-of steps groups prices) costs costs″ choices choices″ out out′ r
+        → RunFolded s n A (prices-of steps groups prices) costs costs″ choices choices″ out out′ r
     run-folded w x y =
         record {
-          answered = w .answered limit (prices-of steps groups prices) run-filled;
-          written = w .written limit (prices-of steps groups prices) run-filled;
+          answered = w .answered A (prices-of steps groups prices) run-filled;
+          written = w .written A (prices-of steps groups prices) run-filled;
           costs-cleared = cleared (kept .0) x;
           choices-cleared = cleared (kept .1) y;
         }

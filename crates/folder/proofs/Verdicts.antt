@@ -1,7 +1,7 @@
 -- The folder's answer as a whole: what the run and the prices decide, what fold_run rests on, and what the slices then hold.
 use mathlib.Core.Path.{_≡_, refl, sym, ap, _∙_}
 use mathlib.Core.Bool.{Bool, true, false, true≢false}
-use mathlib.Core.List.{List, _++_}
+use mathlib.Core.List.{List, [], _++_}
 use Prim.Native.Nat.{ℕ, zero, suc, _+_, _-_, _*_, _<_, _≤_}
 use native.Mathlib.Nat.{mul-le-mul, zero-add}
 use native.Mathlib.Decide.{decLe}
@@ -10,7 +10,7 @@ use lib.Dec.{ltb}
 use lib.ListN.{length, getD, take, drop, List·getD-eq-default}
 use lib.Seq.{take-at}
 use borrow.Author.Tests.{ltb-false, ltb-true}
-use Rattle.format.specs.Limits.{limits, Prices, Tariff, tariff, priced, of-repeat, cells}
+use Rattle.format.specs.Limits.{limits, Prices, Tariff, tariff, priced, of-repeat, allowed, cells}
 use Rattle.format.specs.Order.{Bytes}
 use Rattle.format.specs.Forest.{nodes, cost, bytes, at-most}
 use Rattle.format.specs.Machine.{Outcome, refused, accepted, read}
@@ -21,8 +21,8 @@ use Rattle.format.specs.declared.Tally.{Tally}
 use Rattle.format.specs.declared.RunReading.{RunReading}
 use Rattle.format.specs.declared.Folded.{Folded}
 use Rattle.format.proofs.Heads.{headed-accepted, headed-narrow, headed-each}
-use Rattle.format.proofs.Bridge.{sound-widest, sound-within}
-use Rattle.format.proofs.Refusals.{refused-some, refused-small}
+use Rattle.format.proofs.Marks.{sound-plain}
+use Rattle.format.proofs.Refusals.{refused-some, refused-numbered}
 use Rattle.optimum.specs.Fewest.{preferred}
 use Rattle.optimum.specs.Verdict.{Verdict, refuses, folds, verdict}
 use Rattle.optimum.specs.Demands.{CheapestWithin, CheapestOver, MinimumTree}
@@ -44,8 +44,8 @@ module _ (steps groups prices : List ℕ) (first each : ℕ) (p : PriceList firs
   each-is : getD prices 3 0 - getD prices 2 0 ≡ each
   each-is = omega (arith, first-is, p .price-of 3 (omega arith) (omega arith))
 
-  prices-same : prices-of steps groups prices ≡ priced (tariff steps groups first each)
-  prices-same = rw (each-is, first-is)
+  prices-same : (marks : List ℕ) → prices-of steps groups prices ≡ priced (tariff steps groups marks first each)
+  prices-same marks = rw (each-is, first-is)
 
   pub prepared : first < 65536 → each < 65536 → ((l : ℕ) → getD steps l 0 < 65536) → ((l : ℕ) → getD groups l 0 < 65536) → Prepared steps groups prices
   prepared f e low-steps low-groups =
@@ -53,7 +53,7 @@ module _ (steps groups prices : List ℕ) (first each : ℕ) (p : PriceList firs
         priced = record {
           ready = record { long = p .long; low = small };
           price-of = λ h a b.
-              let e : getD prices h 0 ≡ of-repeat (prices-of steps groups prices) h = p .price-of h a b ∙ ap (λ (q : Prices). of-repeat q h) (sym prices-same) in
+              let e : getD prices h 0 ≡ of-repeat (prices-of steps groups prices) h = p .price-of h a b ∙ ap (λ (q : Prices). of-repeat q h) (sym (prices-same [])) in
               rw e (sym (counted-repeat factor (prices-of steps groups prices) h));
         };
         low-steps = low-steps;
@@ -74,13 +74,14 @@ module _ (steps groups prices : List ℕ) (first each : ℕ) (p : PriceList firs
       ]
 
 -- The two lent ones are widened first.
-pub prices-priced : (steps groups prices : List ℕ) (first each wide-first wide-each : ℕ) → wide-first ≡ first → wide-each ≡ each → PriceList wide-first wide-each prices
-    → prices-of steps groups prices ≡ priced (tariff steps groups first each)
-prices-priced steps groups prices first each wide-first wide-each a b p = prices-same steps groups prices wide-first wide-each p ∙ rw (a, b)
+pub prices-priced : (steps groups marks prices : List ℕ) (first each wide-first wide-each : ℕ) → wide-first ≡ first → wide-each ≡ each → PriceList wide-first wide-each prices
+    → prices-of steps groups prices ≡ priced (tariff steps groups marks first each)
+prices-priced steps groups marks prices first each wide-first wide-each a b p =
+    prices-same steps groups prices wide-first wide-each p marks ∙ rw (a, b)
 
 -- The verdict, as the admission decides it.
 module _ (s : List ℕ) (k : ℕ) (T : Tariff) (r : RunReading) (admitted : r ≡ as-run-reading (run-outcome (full-head T k) s)) where
-  verdict-at : (o : Outcome) → run-outcome (full-head T k) s ≡ o → folding s k T ≡ verdict (at-most k) (priced T) s o
+  verdict-at : (o : Outcome) → run-outcome (full-head T k) s ≡ o → folding s k T ≡ verdict (allowed k (T .marks)) (priced T) s o
   unfolding folding
   verdict-at o e = rw e
 
@@ -99,8 +100,8 @@ module _ (s : List ℕ) (k : ℕ) (T : Tariff) (r : RunReading) (admitted : r �
   unfolding run-outcome head-checks
   number-low =
       headed-each limits (full-head T k) (read run-rules s) (λ n. (n ≡ 0 → ⊥) × (n ≡ 14 → ⊥))
-      ((omega arith, omega arith), ((omega arith, omega arith), ((omega arith, omega arith), tt)))
-      (λ n p e. (refused-some run-rules s n p e, λ z. omega (arith, refused-small run-rules s n p e)))
+      ((omega arith, omega arith), ((omega arith, omega arith), ((omega arith, omega arith), ((omega arith, omega arith), tt))))
+      (λ n p e. (refused-some run-rules s n p e, λ z. omega (arith, refused-numbered run-rules s n p e (omega arith))))
 
   pub run-number : r .refusal ≡ 14 → ⊥
   run-number z = by-outcome (run-outcome (full-head T k) s) refl
@@ -132,7 +133,7 @@ module _ (s : List ℕ) (k : ℕ) (T : Tariff) (r : RunReading) (admitted : r �
     unfolding run-outcome
     narrow = headed-narrow limits (full-head T k) (read run-rules s) (a .tally) (a .text) (a .admits)
 
-    pub verdict-folds : folding s k T ≡ folds (r .nodes) (bytes (preferred (at-most k) (priced T) (tree-of s))) (cost (priced T) (preferred (at-most k) (priced T) (tree-of s)))
+    pub verdict-folds : folding s k T ≡ folds (r .nodes) (bytes (preferred (allowed k (T .marks)) (priced T) (tree-of s))) (cost (priced T) (preferred (allowed k (T .marks)) (priced T) (tree-of s)))
     verdict-folds = verdict-at (accepted (a .tally) (a .text)) (a .admits) ∙ rw (a .all)
 
     module _ (small : Bytes s) where
@@ -143,7 +144,7 @@ module _ (s : List ℕ) (k : ℕ) (T : Tariff) (r : RunReading) (admitted : r �
             form = run-form s small (a .tally) (a .text) accepts;
             run = λ A. record {
               plain = h .plain refl;
-              sound = sound-within (at-most 0) A (tree-of s) (omega (arith, sound-widest (at-most 0) (tree-of s) (h .sound))) (h .sound);
+              sound = sound-plain (at-most 0) A (tree-of s) (h .plain refl) (h .sound);
             };
           }
 
@@ -165,13 +166,12 @@ module _ (s : List ℕ) (k : ℕ) (T : Tariff) (r : RunReading) (admitted : r �
           }
 
       -- Demand 3 and the report's problem, of the preferred fold.
-      pub demands : CheapestWithin s k (format-rules (priced T)) (bytes (preferred (at-most k) (priced T) (tree-of s))) (cost (priced T) (preferred (at-most k) (priced T) (tree-of s)))
-          × MinimumTree s k (priced T) (bytes (preferred (at-most k) (priced T) (tree-of s)))
+      pub demands : CheapestWithin s k (format-rules T) (bytes (preferred (allowed k (T .marks)) (priced T) (tree-of s))) (cost (priced T) (preferred (allowed k (T .marks)) (priced T) (tree-of s)))
+          × MinimumTree s k T (bytes (preferred (allowed k (T .marks)) (priced T) (tree-of s)))
       demands =
-          let P = priced T in
-          let best = cheapest-bytes s small (a .tally) (a .text) accepts k narrow P in
-          let coded = cheapest-small s small (a .tally) (a .text) accepts k narrow P in
-          (best, cheapest-minimum s small (a .tally) (a .text) accepts k narrow P _ _ coded best)
+          let best = cheapest-bytes s small (a .tally) (a .text) accepts k narrow T in
+          let coded = cheapest-small s small (a .tally) (a .text) accepts (allowed k (T .marks)) (priced T) in
+          (best, cheapest-minimum s small (a .tally) (a .text) accepts k narrow T _ _ coded best)
 
 -- Work that is not too short has its entries.
 pub long-enough : (n costs choices : ℕ) → short-work n costs choices ≡ false → (cells n ≤ costs) × (cells n ≤ choices)
@@ -190,9 +190,9 @@ module _ (run : List ℕ) (k : ℕ) (T : Tariff) (v : Verdict) (costs choices ou
   -- What holds of the fold, whatever the verdict's words: on success and after 14.
   abbrev Held : (out′ : List ℕ) → Folded → Type 0
   Held out′ r =
-      (r .refusal ≡ 0 → CheapestWithin run k (format-rules P) (take (r .length) out′) (r .cost))
-      × ((r .refusal ≡ 0 → MinimumTree run k P (take (r .length) out′))
-      × (r .refusal ≡ 14 → CheapestOver (length out) run k (format-rules P)))
+      (r .refusal ≡ 0 → CheapestWithin run k (format-rules T) (take (r .length) out′) (r .cost))
+      × ((r .refusal ≡ 0 → MinimumTree run k T (take (r .length) out′))
+      × (r .refusal ≡ 14 → CheapestOver (length out) run k (format-rules T)))
 
   abbrev pub Met : (costs′ choices′ out′ : List ℕ) → Folded → Type 0
   Met costs′ choices′ out′ r =
@@ -219,21 +219,21 @@ module _ (run : List ℕ) (k : ℕ) (T : Tariff) (v : Verdict) (costs choices ou
     met-short x r q = (q ∙ rw (e, x), (rw (e, x), (rw (e, x), (rw (e, x), unheld 13 (omega arith) (omega arith) out r (number 13 0 r q)))))
 
   -- The run is folded.
-  module _ (n : ℕ) (e : v ≡ folds n (bytes (preferred (at-most k) P (tree-of run))) (cost P (preferred (at-most k) P (tree-of run))))
+  module _ (n : ℕ) (e : v ≡ folds n (bytes (preferred (allowed k (T .marks)) P (tree-of run))) (cost P (preferred (allowed k (T .marks)) P (tree-of run))))
       (long : short-work n (length costs) (length choices) ≡ false)
-      (costs′ choices′ out′ : List ℕ) (r : Folded) (folded : RunFolded run n k P costs costs′ choices choices′ out out′ r)
-      (demands : CheapestWithin run k (format-rules P) (bytes (preferred (at-most k) P (tree-of run))) (cost P (preferred (at-most k) P (tree-of run)))
-      × MinimumTree run k P (bytes (preferred (at-most k) P (tree-of run)))) where
+      (costs′ choices′ out′ : List ℕ) (r : Folded) (folded : RunFolded run n (allowed k (T .marks)) P costs costs′ choices choices′ out out′ r)
+      (demands : CheapestWithin run k (format-rules T) (bytes (preferred (allowed k (T .marks)) P (tree-of run))) (cost P (preferred (allowed k (T .marks)) P (tree-of run)))
+      × MinimumTree run k T (bytes (preferred (allowed k (T .marks)) P (tree-of run)))) where
     abbrev f : List ℕ
-    f = bytes (preferred (at-most k) P (tree-of run))
+    f = bytes (preferred (allowed k (T .marks)) P (tree-of run))
 
     held : (b : Bool) → ltb (length out) (length f) ≡ b → Held out′ r
     held true t =
         let q = number 14 0 r (folded .answered ∙ rw t) in
         let l = ltb-true _ _ t in
-        (λ y. absurd (omega arith), (λ y. absurd (omega arith), λ y. record { fold = f; cost = cost P (preferred (at-most k) P (tree-of run)); cheapest = demands .0; longer = l }))
+        (λ y. absurd (omega arith), (λ y. absurd (omega arith), λ y. record { fold = f; cost = cost P (preferred (allowed k (T .marks)) P (tree-of run)); cheapest = demands .0; longer = l }))
     held false t =
-        let q : r ≡ record { refusal = 0; place = 0; length = length f; cost = cost P (preferred (at-most k) P (tree-of run)) } = folded .answered ∙ rw t in
+        let q : r ≡ record { refusal = 0; place = 0; length = length f; cost = cost P (preferred (allowed k (T .marks)) P (tree-of run)) } = folded .answered ∙ rw t in
         let w : out′ ≡ f ++ drop (length f) out = folded .written ∙ rw t in
         let x = take-at f (drop (length f) out) (length f) refl in
         (λ y. rw (q, w, x) (demands .0), (λ y. rw (q, w, x) (demands .1), λ y. let z = ap (λ (u : Folded). u .refusal) q in absurd (omega arith)))

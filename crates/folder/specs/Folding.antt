@@ -4,17 +4,16 @@ use mathlib.Core.List.{List, _++_}
 use Prim.Native.Nat.{ℕ}
 use lib.Dec.{ltb}
 use lib.ListN.{length, drop, replicate}
-use Rattle.format.specs.Limits.{Tariff, priced, cells}
-use Rattle.format.specs.Forest.{at-most}
+use Rattle.format.specs.Limits.{Tariff, priced, allowed, cells}
 use Rattle.format.specs.Head.{full-head}
 use Rattle.format.specs.Readings.{run-outcome}
 use Rattle.format.specs.declared.Folded.{Folded}
 use Rattle.optimum.specs.Verdict.{Verdict, refuses, folds, verdict}
 
--- The checks of tables and limit, then the run's own refusals; or the cheapest fold.
+-- The checks of tables, limit and marks, then the run's own refusals; or the cheapest fold.
 unfoldable pub folding : List ℕ → (limit : ℕ) → Tariff → Verdict
 unfolding run-outcome
-folding s k T = verdict (at-most k) (priced T) s (run-outcome (full-head T k) s)
+folding s k T = verdict (allowed k (T .marks)) (priced T) s (run-outcome (full-head T k) s)
 
 -- A work slice is too short for n nodes.
 abbrev pub short-work : (n costs choices : ℕ) → Bool

@@ -2,13 +2,13 @@
 -- use it.
 use mathlib.Core.List.{List}
 use Prim.Native.Nat.{ℕ}
-use Rattle.format.specs.Forest.{at-most}
+use Rattle.format.specs.Limits.{allowed}
 use Rattle.format.specs.Machine.{read}
 use Rattle.format.specs.Readings.{run-rules}
 use Rattle.format.specs.OneTable.{by-label, one-table-headed}
 use Rattle.optimum.specs.Verdict.{Verdict, verdict}
 
-unfoldable pub one-table-folding : List ℕ → (limit : ℕ) → (table : List ℕ) → (first each : ℕ) → Verdict
+unfoldable pub one-table-folding : List ℕ → (limit : ℕ) → (table marks : List ℕ) → (first each : ℕ) → Verdict
 unfolding one-table-headed read
-one-table-folding s k table first each =
-    verdict (at-most k) (by-label table first each) s (one-table-headed table k (read run-rules s))
+one-table-folding s k table marks first each =
+    verdict (allowed k marks) (by-label table first each) s (one-table-headed table marks k (read run-rules s))

@@ -12,10 +12,10 @@ use table::widen;
 use writer::fold_length;
 use writer::put_fold;
 ghost use mathlib.Core.Path.{_≡_};
-ghost use Prim.Native.Nat.{ℕ, _<_, _≤_};
+ghost use Prim.Native.Nat.{_<_, _≤_};
 ghost use lib.ListN.{length, getD};
-ghost use Rattle.format.specs.Limits.{Prices, cells};
-ghost use Rattle.format.specs.Forest.{nodes, at-most};
+ghost use Rattle.format.specs.Limits.{Prices, Allowed, allowed, cells};
+ghost use Rattle.format.specs.Forest.{nodes};
 ghost use Rattle.format.specs.Tree.{tree-of};
 ghost use Rattle.table.specs.Table.{cell};
 ghost use Rattle.table.specs.Used.{UsedFilled};
@@ -57,13 +57,14 @@ fn fill(
     nexts: &[usize],
     steps: &[u16],
     groups: &[u16],
+    marks: &[u8],
     prices: &[u64],
     costs: &mut [u32],
     choices: &mut [u32],
 )
     requires { ⌜ LevelReady (now run) (level .span .behind) (level .limit) (now steps) (now groups) (now prices) (now costs) (now choices) ⌝ }
     requires { ⌜ LevelListed (now places) (now nexts) (now run) level ⌝ }
-    ensures filled { λ _. ⌜ UsedFilled (at-most (level .limit)) (counted-of (now (steps .entry)) (now (groups .entry)) (now (prices .entry))) (level .span .behind) (tree-of (now (run .entry))) (now (costs .exit)) (now (choices .exit)) ⌝ }
+    ensures filled { λ _. ⌜ UsedFilled (allowed (level .limit) (now (marks .entry))) (counted-of (now (steps .entry)) (now (groups .entry)) (now (prices .entry))) (level .span .behind) (tree-of (now (run .entry))) (now (costs .exit)) (now (choices .exit)) ⌝ }
     ensures kept { λ _. ⌜ LevelKept (now (run .entry)) level (now (costs .entry)) (now (costs .exit)) × LevelKept (now (run .entry)) level (now (choices .entry)) (now (choices .exit)) ⌝ }
 {
     let mut offsets = [0usize; Lists::LENGTH];
@@ -82,6 +83,7 @@ fn fill(
         level,
         steps,
         groups,
+        marks,
         prices,
         &mut offsets,
         &mut numbers,
@@ -134,7 +136,7 @@ fn put_run(
     out: &mut [u8],
 ) -> Folded
     requires { ⌜ RunListed (now run) (now places) (now nexts) ⌝ }
-    requires { ⌜ ((limit : ℕ) × ((P : Prices) × RunFilled (now run) n limit P (now costs) (now choices))) ⌝ }
+    requires { ⌜ ((A : Allowed) × ((P : Prices) × RunFilled (now run) n A P (now costs) (now choices))) ⌝ }
     ensures { λ r. ⌜ RunWritten (now (run .entry)) n (now (costs .entry)) (now (choices .entry)) (now (out .entry)) (now (out .exit)) r ⌝ }
 {
     let length = fold_length(run, places, nexts, choices, n, 0);
@@ -158,6 +160,7 @@ pub fn fold_run(
     limit: usize,
     steps: &[u16],
     groups: &[u16],
+    marks: &[u8],
     prices: &[u64],
     costs: &mut [u32],
     choices: &mut [u32],
@@ -165,7 +168,7 @@ pub fn fold_run(
 ) -> Folded
     requires { ⌜ LevelReady (now run) 0 limit (now steps) (now groups) (now prices) (now costs) (now choices) ⌝ }
     requires { ⌜ nodes (tree-of (now run)) ≡ n ⌝ }
-    ensures { λ r. ⌜ RunFolded (now (run .entry)) n limit (prices-of (now (steps .entry)) (now (groups .entry)) (now (prices .entry))) (now (costs .entry)) (now (costs .exit)) (now (choices .entry)) (now (choices .exit)) (now (out .entry)) (now (out .exit)) r ⌝ }
+    ensures { λ r. ⌜ RunFolded (now (run .entry)) n (allowed limit (now (marks .entry))) (prices-of (now (steps .entry)) (now (groups .entry)) (now (prices .entry))) (now (costs .entry)) (now (costs .exit)) (now (choices .entry)) (now (choices .exit)) (now (out .entry)) (now (out .exit)) r ⌝ }
 {
     let mut places = [0usize; Lists::LENGTH];
     let mut nexts = [0usize; Lists::LENGTH];
@@ -182,6 +185,7 @@ pub fn fold_run(
         &nexts,
         steps,
         groups,
+        marks,
         prices,
         costs,
         choices,

@@ -12,9 +12,9 @@ use lib.Seq.{getD-drop}
 use borrow.Author.Tests.{le-ltb, ltb-false, eqb-true}
 use Rattle.format.specs.Limits.{limits}
 use Rattle.format.specs.Order.{Bytes}
-use Rattle.format.specs.Forest.{Forest, end, step, group, repeat, nodes, widest-of, Allowed, Sound}
+use Rattle.format.specs.Forest.{Forest, end, step, group, repeat, nodes, widest-of, Allowed, at-most, Sound}
 use Rattle.format.specs.Machine.{Rules, State, Check, _when_, first-of, checks, refusal, count-operand, width-operand, unless, advance, operands, scan, read, start, Outcome, refused, accepted}
-use Rattle.format.specs.Readings.{free, fold-rules, format-rules, greatest-operand, fold-alone}
+use Rattle.format.specs.Readings.{no-costs, free, fold-rules, format-rules, greatest-operand, fold-alone}
 use Rattle.format.specs.Reasons.{Because, at-command, left-open}
 use Rattle.format.specs.declared.Tally.{Tally}
 use Rattle.format.specs.Shape.{Reads}
@@ -35,14 +35,14 @@ widest-nodes A (repeat h w b f) z =
 
 -- What is accepted without a limit is accepted at the largest one, with the same counts, and conversely.
 pub alone-well-formed : (s : List ℕ) → Bytes s → (t : Tally) (x : List ℕ)
-    → (fold-alone s ≡ accepted t x) ↔ (read (format-rules free) s ≡ accepted t x)
+    → (fold-alone s ≡ accepted t x) ↔ (read (format-rules no-costs) s ≡ accepted t x)
 unfolding fold-alone
 alone-well-formed s small t x = (λ e. law .1 (narrow e), λ e. reads-accepted (law .0 e .0))
   where
     R : Rules
-    R = fold-rules greatest-operand free
+    R = fold-rules (at-most greatest-operand) free
 
-    law : (read (format-rules free) s ≡ accepted t x) ↔ ((a : Reads R s t x) × (widest-of (a .tree) ≤ limits .width))
+    law : (read (format-rules no-costs) s ≡ accepted t x) ↔ ((a : Reads R s t x) × (widest-of (a .tree) ≤ limits .width))
     law = limit-law R (limits .width) (omega arith) s small t x
 
     narrow : read R s ≡ accepted t x → (a : Reads R s t x) × (widest-of (a .tree) ≤ limits .width)
@@ -66,7 +66,7 @@ go-on (suc n) p e x y h = inl refl
 -- Of two limits the narrower one gives the same answer, or 7: at one command, and in a whole reading.
 module _ (k m : ℕ) (wider : k ≤ m) where
   abbrev at : ℕ → Rules
-  at w = fold-rules w free
+  at w = fold-rules (at-most w) free
 
   same-or-seven : (st : State) (c : ℕ) (rest : List ℕ)
       → (refusal (at k) st c rest ≡ refusal (at m) st c rest) ⊎ (refusal (at k) st c rest ≡ 7)
@@ -95,7 +95,7 @@ module _ (k m : ℕ) (wider : k ≤ m) where
 
 -- At any width limit a fold reads as it does without one, or 7 is the refusal.
 pub alone-or-seven : (k : ℕ) → k ≤ greatest-operand → (s : List ℕ)
-    → (read (fold-rules k free) s ≡ fold-alone s) ⊎ ((e : ℕ) × (read (fold-rules k free) s ≡ refused 7 e))
+    → (read (fold-rules (at-most k) free) s ≡ fold-alone s) ⊎ ((e : ℕ) × (read (fold-rules (at-most k) free) s ≡ refused 7 e))
 unfolding read fold-alone
 alone-or-seven k few s = scan-or-seven k greatest-operand few 0 0 start s
 
@@ -112,7 +112,7 @@ spared k some (n when false ∷ rs) z e = spared k some rs (z .1) e
 -- Without a limit 7 is never the refusal.
 pub alone-never-seven : (s : List ℕ) → Bytes s → (n e : ℕ) → fold-alone s ≡ refused n e → n ≢ 7
 unfolding fold-alone refusal checks
-alone-never-seven s small n e r seven = because (refused-exactly (fold-rules greatest-operand free) s n e .0 r)
+alone-never-seven s small n e r seven = because (refused-exactly (fold-rules (at-most greatest-operand) free) s n e .0 r)
   where
     narrow : (p : ℕ) → width-operand (drop (suc p) s) ≤ greatest-operand
     narrow p = rw (getD-drop (suc p) s 2 0, getD-drop (suc p) s 3 0) (omega (arith, small (suc p + 2), small (suc p + 3)))
@@ -124,10 +124,10 @@ alone-never-seven s small n e r seven = because (refused-exactly (fold-rules gre
     other : {m : ℕ} {b : Bool} → m ≢ 7 → m ≡ 7 → b ≡ false
     other apart equal = absurd (apart equal)
 
-    because : Because (fold-rules greatest-operand free) s n e → ⊥
+    because : Because (fold-rules (at-most greatest-operand) free) s n e → ⊥
     because (left-open st r some m w) = omega arith
     because (at-command p st r lt f some w) =
-        spared 7 (omega arith) (checks (fold-rules greatest-operand free) st (getD s p 0) (drop (suc p) s)) (
+        spared 7 (omega arith) (checks (fold-rules (at-most greatest-operand) free) st (getD s p 0) (drop (suc p) s)) (
           other (omega arith),
           (
             other (omega arith),
@@ -139,7 +139,7 @@ alone-never-seven s small n e r seven = because (refused-exactly (fold-rules gre
                   other (omega arith),
                   (
                     other (omega arith),
-                    ((λ h. within (eqb (getD s p 0) 0x20) p), (other (omega arith), (other (omega arith), (other (omega arith), tt)))),
+                    ((λ h. within (eqb (getD s p 0) 0x20) p), (other (omega arith), (other (omega arith), (other (omega arith), (other (omega arith), tt))))),
                   ),
                 ),
               ),
@@ -151,4 +151,4 @@ alone-never-seven s small n e r seven = because (refused-exactly (fold-rules gre
 -- What is refused has a number.
 pub alone-some : (s : List ℕ) (n e : ℕ) → fold-alone s ≡ refused n e → n ≢ 0
 unfolding fold-alone
-alone-some s n e r = refused-some (fold-rules greatest-operand free) s n e r
+alone-some s n e r = refused-some (fold-rules (at-most greatest-operand) free) s n e r

@@ -11,10 +11,11 @@ use lib.ListN.{length, length-append, getD, drop}
 use lib.Seq.{drop-at, getD-append-add}
 use Rattle.format.specs.Limits.{Prices}
 use Rattle.format.specs.Order.{Bytes}
-use Rattle.format.specs.Forest.{Forest, end, step, group, repeat, join, copies, unroll, siblings, nodes, steps, cost, bytes, two-bytes, Plain, Allowed, at-most, Repeats, Sound, Coded, group-depth, repeat-depth, widest-of}
+use Rattle.format.specs.Forest.{Forest, end, step, group, repeat, join, copies, unroll, siblings, nodes, steps, cost, bytes, two-bytes, holds, Plain, Allowed, Repeats, Sound, Coded, group-depth, repeat-depth, widest-of}
 use Rattle.format.specs.Machine.{Rules, State, Open, a-group, a-repeat, open-groups, open-repeats, times, put-step, enter-group, leave-group, enter-repeat, leave-repeat, repeated, scan, read, start, refused, accepted, refusal}
 use Rattle.format.specs.Shape.{Shaped, tally-of, Reads}
 use Rattle.format.specs.declared.Tally.{Tally}
+use Rattle.format.proofs.Marks.{holds-both, neither, unmarked-step, unmarked-group, unmarked-repeat}
 use Rattle.format.proofs.Forests.{bytes-join, bytes-copies, siblings-join, nodes-join, steps-join, cost-join, unroll-join, join-end, sound-join, plain-join, coded-join, group-depth-join, repeat-depth-join}
 use Rattle.format.proofs.Machine.{scan-end, scan-passed, refusal-unknown, scan-step, scan-group, scan-group-end, scan-repeat, scan-repeat-end, step-passes, group-passes, group-end-passes, repeat-passes, repeat-end-passes, step-passed, group-passed, group-end-passed, repeat-passed, repeat-end-passed, Command, step-byte, group-byte, group-end-byte, repeat-byte, repeat-end-byte, other-byte, command, StepPasses, GroupPasses, GroupEndPasses, RepeatPasses, RepeatEndPasses}
 
@@ -150,12 +151,13 @@ pub record RoomBeside (R : Rules) (st : State) (f : Forest) : Type 0 where
   pub repeats : open-repeats (st .opens) + repeat-depth f ≤ R .limits .repeats
   pub total : st .tally .nodes + nodes f ≤ R .limits .nodes
 
--- A sequence that may be read from a state: of the right shape, with room for it.
+-- A sequence that may be read from a state: of the right shape, with room for it, and without marked labels inside a repeat.
 pub record Fits (R : Rules) (st : State) (f : Forest) : Type 0 where
   pub coded : Coded f
-  pub sound : Sound (at-most (R .widest)) f
+  pub sound : Sound (R .allowed) f
   pub plain : R .folds ≡ false → Plain f
   pub room : RoomBeside R st f
+  pub unmarked : 0 < open-repeats (st .opens) → holds (R .allowed .marked) f ≡ false
 
 -- Two bytes put together again.
 pub word-again : (n : ℕ) → n / 256 * 256 + n % 256 ≡ n
@@ -170,20 +172,30 @@ true-fold false h = absurd (h refl)
 module _ (R : Rules) (st : State) (l : ℕ) (f : Forest) (z : Fits R st (step l f)) where
   step-on : (s : List ℕ) → refusal R st 0x10 (l ∷ s) ≡ 0
   unfolding nodes
-  step-on s = step-passes R st (l ∷ s) (omega arith)
+  step-on s = step-passes R st (l ∷ s) (record { operand = omega arith; unmarked = λ i. unmarked-step _ l f (z .unmarked i) .0; total = omega arith })
 
   step-rest : Fits R (after R (step l end) st) f
   unfolding after group-depth repeat-depth nodes
-  step-rest = record { coded = z .coded .1; sound = z .sound; plain = z .plain; room = omega arith }
+  step-rest =
+      record { coded = z .coded .1; sound = z .sound; plain = z .plain; room = omega arith; unmarked = λ i. unmarked-step _ l f (z .unmarked i) .1 }
 
 module _ (R : Rules) (st : State) (l : ℕ) (b f : Forest) (z : Fits R st (group l b f)) where
   group-opens : (s : List ℕ) → refusal R st 0x11 (l ∷ s) ≡ 0
   unfolding nodes group-depth
-  group-opens s = group-passes R st (l ∷ s) (omega arith)
+  group-opens s =
+      group-passes R st (l ∷ s)
+      (record { operand = omega arith; room = omega arith; unmarked = λ i. unmarked-group _ l b f (z .unmarked i) .0; total = omega arith })
 
   group-body : Fits R (inside-group R l st) b
   unfolding enter-group group-depth repeat-depth nodes
-  group-body = record { coded = z .coded .1; sound = z .sound .1; plain = λ e. z .plain e .0; room = omega arith }
+  group-body =
+      record {
+        coded = z .coded .1;
+        sound = z .sound .1;
+        plain = λ e. z .plain e .0;
+        room = omega arith;
+        unmarked = λ i. unmarked-group _ l b f (z .unmarked i) .1;
+      }
 
   group-closes : (s : List ℕ) → refusal R (after R b (inside-group R l st)) 0x12 s ≡ 0
   unfolding nodes after enter-group
@@ -192,7 +204,14 @@ module _ (R : Rules) (st : State) (l : ℕ) (b f : Forest) (z : Fits R st (group
 
   group-rest : Fits R (after R (group l b end) st) f
   unfolding after group-depth repeat-depth nodes
-  group-rest = record { coded = z .coded .2; sound = z .sound .2; plain = λ e. z .plain e .1; room = omega arith }
+  group-rest =
+      record {
+        coded = z .coded .2;
+        sound = z .sound .2;
+        plain = λ e. z .plain e .1;
+        room = omega arith;
+        unmarked = λ i. unmarked-group _ l b f (z .unmarked i) .2;
+      }
 
 module _ (R : Rules) (st : State) (h w : ℕ) (b f : Forest) (z : Fits R st (repeat h w b f)) where
   repeat-opens : (s : List ℕ) → refusal R st 0x20 (two-bytes h (two-bytes w s)) ≡ 0
@@ -211,7 +230,13 @@ module _ (R : Rules) (st : State) (h w : ℕ) (b f : Forest) (z : Fits R st (rep
   unfolding enter-repeat group-depth repeat-depth nodes
   repeat-body =
       let i : nodes b ≤ h * nodes b = one-pass h (nodes b) (omega arith) in
-      record { coded = z .coded .2; sound = z .sound .1; plain = λ e. absurd (z .plain e); room = omega arith }
+      record {
+        coded = z .coded .2;
+        sound = z .sound .1;
+        plain = λ e. absurd (z .plain e);
+        room = omega arith;
+        unmarked = λ i. z .sound .0 .unmarked;
+      }
 
   repeat-closes : (s : List ℕ) → refusal R (after R b (inside-repeat R h w st)) 0x21 s ≡ 0
   unfolding nodes after enter-repeat
@@ -227,7 +252,14 @@ module _ (R : Rules) (st : State) (h w : ℕ) (b f : Forest) (z : Fits R st (rep
 
   repeat-rest : Fits R (after R (repeat h w b end) st) f
   unfolding after group-depth repeat-depth nodes
-  repeat-rest = record { coded = z .coded .3; sound = z .sound .2; plain = λ e. absurd (z .plain e); room = omega arith }
+  repeat-rest =
+      record {
+        coded = z .coded .3;
+        sound = z .sound .2;
+        plain = λ e. absurd (z .plain e);
+        room = omega arith;
+        unmarked = λ i. unmarked-repeat _ h w b f (z .unmarked i) .1;
+      }
 
 -- A sequence that fits is passed, whatever follows it.
 module _ (R : Rules) where
@@ -281,7 +313,8 @@ pub accepts : (R : Rules) (f : Forest) → Shaped R f
     → read R (bytes f) ≡ accepted (tally-of (R .prices) f) (bytes (unroll f))
 unfolding read tally-of after
 accepts R f z =
-    let fits : Fits R start f = record { coded = z .coded; sound = z .sound; plain = z .plain; room = omega arith } in
+    let fits : Fits R start f =
+    record { coded = z .coded; sound = z .sound; plain = z .plain; room = omega arith; unmarked = λ i. absurd (omega arith) } in
     let deep : max (start .tally .depth) (group-depth f) ≡ group-depth f = omega arith in
     rw (← append-nil (bytes f))
     (scan-forest R f 0 start [] fits kept-start ∙ scan-end R (0 + length (bytes f)) (after R f start) ∙ simp (zero-add, deep))
@@ -304,9 +337,10 @@ unfolding after
 fits-join R st f g y z =
     record {
       coded = coded-join f g (y .coded) (z .coded);
-      sound = sound-join (at-most (R .widest)) f g (y .sound) (z .sound);
+      sound = sound-join (R .allowed) f g (y .sound) (z .sound);
       plain = λ e. plain-join f g (y .plain e) (z .plain e);
       room = omega (arith, group-depth-join f g, repeat-depth-join f g, nodes-join f g);
+      unmarked = λ i. holds-both _ f g (y .unmarked i) (z .unmarked i);
     }
 
 room-after : (R : Rules) (st : State) (f : Forest) → RoomBeside R st f → RoomBeside R (after R f st) end
@@ -315,40 +349,43 @@ room-after R st f z = omega arith
 
 -- What a passed command leaves room for, and what its whole item then fits.
 module _ (R : Rules) (st : State) (room : RoomBeside R st end) where
-  step-fits : (l : ℕ) (s : List ℕ) → l < 256 → StepPasses R st s → Fits R st (step l end)
-  unfolding nodes group-depth repeat-depth
-  step-fits l s small z = record { coded = (small, tt); sound = tt; plain = λ e. tt; room = omega arith }
+  step-fits : (l : ℕ) (s : List ℕ) → l < 256 → StepPasses R st (l ∷ s) → Fits R st (step l end)
+  unfolding nodes group-depth repeat-depth holds
+  step-fits l s small z =
+      record { coded = (small, tt); sound = tt; plain = λ e. tt; room = omega arith; unmarked = λ i. neither _ _ (z .unmarked i) refl }
 
   group-room : (l : ℕ) (s : List ℕ) → GroupPasses R st s → RoomBeside R (inside-group R l st) end
   unfolding enter-group group-depth repeat-depth nodes
   group-room l s z = omega arith
 
-  group-fits : (l : ℕ) (b : Forest) (s : List ℕ) → l < 256 → GroupPasses R st s → Fits R (inside-group R l st) b
+  group-fits : (l : ℕ) (b : Forest) (s : List ℕ) → l < 256 → GroupPasses R st (l ∷ s) → Fits R (inside-group R l st) b
       → GroupEndPasses (after R b (inside-group R l st)) → Fits R st (group l b end)
-  unfolding nodes group-depth repeat-depth enter-group after
+  unfolding nodes group-depth repeat-depth enter-group after holds
   group-fits l b s small z y a =
       record {
         coded = (small, y .coded, tt);
         sound = (omega arith, y .sound, tt);
         plain = λ e. (y .plain e, tt);
         room = omega arith;
+        unmarked = λ i. neither _ _ (z .unmarked i) (neither _ _ (y .unmarked i) refl);
       }
 
   repeat-room : (h w : ℕ) (s : List ℕ) → RepeatPasses R st s → RoomBeside R (inside-repeat R h w st) end
   unfolding enter-repeat group-depth repeat-depth nodes
   repeat-room h w s z = omega arith
 
-  repeat-fits : (h w : ℕ) (b : Forest) (s : List ℕ) → h < 65536 → w < 65536 → 2 ≤ h → w ≤ R .widest → RepeatPasses R st s
+  repeat-fits : (h w : ℕ) (b : Forest) (s : List ℕ) → h < 65536 → w < 65536 → 2 ≤ h → w ≤ R .allowed .widest → RepeatPasses R st s
       → Fits R (inside-repeat R h w st) b → RepeatEndPasses R (after R b (inside-repeat R h w st)) → Fits R st (repeat h w b end)
-  unfolding nodes group-depth repeat-depth enter-repeat after
+  unfolding nodes group-depth repeat-depth enter-repeat after holds
   repeat-fits h w b s hs ws twice narrow z y a =
       let all : repeated h (st .tally .nodes) (st .tally .nodes + nodes b) ≡ st .tally .nodes + h * nodes b =
       repeated-all h (st .tally .nodes) (nodes b) (omega arith) in
       record {
         coded = (hs, ws, y .coded, tt);
-        sound = (record { twice = twice; true-width = omega arith; within = narrow; some = omega arith }, y .sound, tt);
+        sound = (record { twice = twice; true-width = omega arith; within = narrow; some = omega arith; unmarked = y .unmarked (omega arith) }, y .sound, tt);
         plain = λ e. absurd (false≢true (sym e ∙ a .folds));
         room = omega arith;
+        unmarked = λ i. neither _ _ (y .unmarked (omega arith)) refl;
       }
 
 -- In an accepted reading, what is open at a stop is shut there by its own close; where nothing is open the stop is the end.
@@ -399,13 +436,13 @@ module _ (R : Rules) (t : Tally) (x : List ℕ) where
 
   -- No item begins at a stop.
   none-read : (st : State) → RoomBeside R st end → (s : List ℕ) → Stops s → Begins R st s
-  unfolding bytes
+  unfolding bytes holds
   none-read st room s stops =
       record {
         tree = end;
         rest = s;
         form = refl;
-        fits = record { coded = tt; sound = tt; plain = λ e. tt; room = room };
+        fits = record { coded = tt; sound = tt; plain = λ e. tt; room = room; unmarked = λ i. refl };
         stops = stops;
       }
 
@@ -442,7 +479,7 @@ module _ (R : Rules) (t : Tally) (x : List ℕ) where
     parse-step [] short small z e = absurd (omega arith)
     parse-step (l ∷ s) short small z e =
         past (step l end) s (0x10 ∷ l ∷ s) refl (omega arith) (omega arith) small
-        (step-fits R st room l (l ∷ s) (small 1) z)
+        (step-fits R st room l s (small 1) z)
         e
 
     -- A group: its body is read, its close follows, and then the rest.
@@ -455,7 +492,7 @@ module _ (R : Rules) (t : Tally) (x : List ℕ) where
           past (group l (q .tree) end) (y .past) (0x11 ∷ l ∷ s)
           (rw append-assoc (cc (y .form, q .form)))
           (omega arith) (omega arith) small
-          (group-fits R st room l (q .tree) (l ∷ s) (small 1) z (q .fits) (y .passes))
+          (group-fits R st room l (q .tree) s (small 1) z (q .fits) (y .passes))
           e
 
       in-body : Accepts (p + 2) (inside-group R l st) s
@@ -635,10 +672,11 @@ reads-accepted {R} {s} {t} {x} a = cc (accepts R (a .tree) (a .shape), a .form, 
 
 -- The same rules with other prices; with another width limit.
 abbrev pub at-prices : Rules → Prices → Rules
-at-prices R Q = record { limits = R .limits; folds = R .folds; widest = R .widest; prices = Q }
+at-prices R Q = record { limits = R .limits; folds = R .folds; allowed = R .allowed; prices = Q }
 
 abbrev pub at-limit : Rules → ℕ → Rules
-at-limit R k = record { limits = R .limits; folds = R .folds; widest = k; prices = R .prices }
+at-limit R k =
+    record { limits = R .limits; folds = R .folds; allowed = record { widest = k; marked = R .allowed .marked }; prices = R .prices }
 
 -- Neither acceptance nor the text depends on the prices.
 pub repriced : {R : Rules} {s : List ℕ} {t : Tally} {x : List ℕ} (Q : Prices) (a : Reads R s t x)
@@ -666,7 +704,7 @@ same-acceptance R Q s small t x e =
     let a = parses R s small t x e in
     (a, reads-accepted (repriced Q a))
 
--- Sound at a limit: no width is past it; and at any limit that no width is past.
+-- Sound at a limit: no width is past it; and at any limit that no width is past, under marks that leave free what was free.
 pub sound-widest : (A : Allowed) (f : Forest) → Sound A f → widest-of f ≤ A .widest
 unfolding widest-of
 sound-widest A end z = omega arith
@@ -674,15 +712,20 @@ sound-widest A (step l f) z = sound-widest A f z
 sound-widest A (group l b f) z = omega (arith, sound-widest A b (z .1), sound-widest A f (z .2))
 sound-widest A (repeat h w b f) z = omega (arith, sound-widest A b (z .1), sound-widest A f (z .2))
 
-pub sound-within : (A B : Allowed) (f : Forest) → widest-of f ≤ B .widest → Sound A f → Sound B f
+abbrev pub LeavesFree : (A B : Allowed) → Type 0
+LeavesFree A B = (b : Forest) → holds (A .marked) b ≡ false → holds (B .marked) b ≡ false
+
+pub sound-within : (A B : Allowed) → LeavesFree A B → (f : Forest) → widest-of f ≤ B .widest → Sound A f → Sound B f
 unfolding widest-of
-sound-within A B end n z = tt
-sound-within A B (step l f) n z = sound-within A B f n z
-sound-within A B (group l b f) n z = (z .0, sound-within A B b (omega arith) (z .1), sound-within A B f (omega arith) (z .2))
-sound-within A B (repeat h w b f) n z =
+sound-within A B free end n z = tt
+sound-within A B free (step l f) n z = sound-within A B free f n z
+sound-within A B free (group l b f) n z =
+    (z .0, sound-within A B free b (omega arith) (z .1), sound-within A B free f (omega arith) (z .2))
+sound-within A B free (repeat h w b f) n z =
     let r = z .0 in
-    let here : Repeats B h w b = record { twice = r .twice; true-width = r .true-width; within = omega arith; some = r .some } in
-    (here, sound-within A B b (omega arith) (z .1), sound-within A B f (omega arith) (z .2))
+    let here : Repeats B h w b =
+    record { twice = r .twice; true-width = r .true-width; within = omega arith; some = r .some; unmarked = free b (r .unmarked) } in
+    (here, sound-within A B free b (omega arith) (z .1), sound-within A B free f (omega arith) (z .2))
 
 abbrev relimited : {R : Rules} {s : List ℕ} {t : Tally} {x : List ℕ} (k : ℕ) (a : Reads R s t x) → widest-of (a .tree) ≤ k
     → Reads (at-limit R k) s t x
@@ -693,7 +736,7 @@ relimited {R} k a w =
       form = a .form;
       shape = record {
         coded = z .coded;
-        sound = sound-within (at-most (R .widest)) (at-most k) (a .tree) w (z .sound);
+        sound = sound-within (R .allowed) (at-limit R k .allowed) (λ b e. e) (a .tree) w (z .sound);
         plain = z .plain;
         groups = z .groups;
         repeats = z .repeats;
@@ -704,12 +747,12 @@ relimited {R} k a w =
     }
 
 -- Accepted at a limit means accepted at a wider one, as a tree with no width past the limit.
-pub limit-law : (R : Rules) (k : ℕ) → k ≤ R .widest → (s : List ℕ) → Bytes s → (t : Tally) (x : List ℕ)
+pub limit-law : (R : Rules) (k : ℕ) → k ≤ R .allowed .widest → (s : List ℕ) → Bytes s → (t : Tally) (x : List ℕ)
     → (read (at-limit R k) s ≡ accepted t x) ↔ ((a : Reads R s t x) × (widest-of (a .tree) ≤ k))
 limit-law R k narrow s small t x =
     (λ e. down (parses (at-limit R k) s small t x e), λ y. reads-accepted (relimited k (y .0) (y .1)))
   where
     down : Reads (at-limit R k) s t x → (a : Reads R s t x) × (widest-of (a .tree) ≤ k)
     down a =
-        let w : widest-of (a .tree) ≤ k = sound-widest (at-most k) (a .tree) (a .shape .sound) in
-        (relimited (R .widest) a (omega arith), w)
+        let w : widest-of (a .tree) ≤ k = sound-widest (at-limit R k .allowed) (a .tree) (a .shape .sound) in
+        (relimited (R .allowed .widest) a (omega arith), w)

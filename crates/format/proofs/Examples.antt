@@ -6,6 +6,8 @@ use mathlib.Core.List.{List, [], _∷_, _++_, map}
 use Prim.Native.Nat.{ℕ, _/_, _%_}
 use Rattle.format.specs.Limits.{Tariff, tariff}
 use Rattle.format.specs.Machine.{times}
+use Rattle.format.specs.Head.{marks-in-order}
+use Rattle.format.specs.Marks.{free-marks, mark-of, all-marks}
 use Rattle.format.specs.Readings.{run-reading, fold-reading}
 use Rattle.format.specs.Parts.{part-of}
 use Rattle.format.specs.declared.RunReading.{RunReading}
@@ -21,10 +23,15 @@ abbrev pub ones : ℕ → List ℕ
 unfolding times
 ones n = times n (1 ∷ [])
 
--- Tables of so many entries for steps and for groups, each 1, and first 1, each 0: unit costs, where they have 256.
+-- Unit costs with these marks.
+abbrev pub marked-with : List ℕ → Tariff
+unfolding ones
+marked-with marks = tariff (ones 256) (ones 256) marks 1 0
+
+-- Tables of so many entries for steps and for groups, each 1, free marks, and first 1, each 0: unit costs, where they have 256.
 abbrev pub sized : (steps groups : ℕ) → Tariff
 unfolding ones
-sized m n = tariff (ones m) (ones n) 1 0
+sized m n = tariff (ones m) (ones n) free-marks 1 0
 
 -- A fold at unit costs; the limit is 1,024 unless named.
 abbrev pub fold-within : ℕ → List ℕ → Asked
@@ -80,7 +87,7 @@ expected (q gives a) = a
 abbrev pub Hold : List Case → Type 0
 Hold cs = map answered cs ≡ map expected cs
 
--- Checks 1 to 12 and 15 of the table of refusals, each by its example there.
+-- Checks 1 to 12, 15, 18 and 19 of the table of refusals, each by its example there.
 unfoldable pub refusals : List Case
 unfolding fold times
 refusals =
@@ -97,10 +104,12 @@ refusals =
     ∷ fold-with 1024 (sized 255 256) [] gives a-refusal 11 0
     ∷ fold-within 1025 [] gives a-refusal 12 0
     ∷ fold-with 1024 (sized 256 255) [] gives a-refusal 15 0
+    ∷ fold-with 1024 (marked-with (times 255 (0 ∷ []) ++ 2 ∷ [])) [] gives a-refusal 18 0
+    ∷ fold-with 1024 (marked-with (mark-of 7)) (0x20 ∷ 0x00 ∷ 0x02 ∷ 0x00 ∷ 0x01 ∷ 0x10 ∷ 0x07 ∷ 0x21 ∷ []) gives a-refusal 19 5
     ∷ []
 
 pub refusals-hold : Hold refusals
-unfolding answered expected refusals
+unfolding answered expected refusals marks-in-order
 refusals-hold = refl
 
 -- The bytes of a step; of what opens a group, and of a whole one; of what opens a repeat, and of a whole one.
@@ -109,6 +118,9 @@ one-step = 0x10 ∷ 0x07 ∷ []
 
 abbrev pub group-start : List ℕ
 group-start = 0x11 ∷ 0x05 ∷ []
+
+abbrev pub group-07 : List ℕ
+group-07 = 0x11 ∷ 0x07 ∷ []
 
 abbrev pub grouping : List ℕ → List ℕ
 grouping s = group-start ++ s ++ 0x12 ∷ []
@@ -123,10 +135,11 @@ repeating h w s = repeat-start h w ++ s ++ 0x21 ∷ []
 unfoldable pub order : List Case
 unfolding fold times
 order =
-    -- 11, then 15, then 12, then the commands
-    fold-with 1025 (sized 255 255) (0x13 ∷ []) gives a-refusal 11 0
-    ∷ fold-with 1025 (sized 256 255) (0x13 ∷ []) gives a-refusal 15 0
-    ∷ fold-within 1025 (0x13 ∷ []) gives a-refusal 12 0
+    -- 11, then 15, then 12, then 18, then the commands
+    fold-with 1025 (tariff (ones 255) (ones 255) [] 1 0) (0x13 ∷ []) gives a-refusal 11 0
+    ∷ fold-with 1025 (tariff (ones 256) (ones 255) [] 1 0) (0x13 ∷ []) gives a-refusal 15 0
+    ∷ fold-with 1025 (marked-with []) (0x13 ∷ []) gives a-refusal 12 0
+    ∷ fold-with 1024 (marked-with []) (0x13 ∷ []) gives a-refusal 18 0
     -- the commands from left to right, and the end last
     ∷ run (0x12 ∷ 0x13 ∷ []) gives a-refusal 4 0
     ∷ run (group-start ++ grouping []) gives a-refusal 5 4
@@ -147,10 +160,15 @@ order =
     -- 8 and 9 before 10
     ∷ fold (repeating 1016 1 one-step ++ times 9 group-start) gives a-refusal 8 24
     ∷ fold (repeating 1025 2 one-step) gives a-refusal 9 7
+    -- 3 and 8 before 19: no label, a marked ninth group; 19 before 10, at a step and at a group
+    ∷ fold-with 1024 (marked-with (mark-of 0)) (repeat-start 2 1 ++ 0x10 ∷ []) gives a-refusal 3 6
+    ∷ fold-with 1024 (marked-with (mark-of 5)) (times 8 group-07 ++ repeat-start 2 1 ++ group-start) gives a-refusal 8 21
+    ∷ fold-with 1024 (marked-with (mark-of 7)) (repeating 1024 1 (0x10 ∷ 0x09 ∷ []) ++ repeat-start 2 1 ++ one-step) gives a-refusal 19 13
+    ∷ fold-with 1024 (marked-with (mark-of 5)) (repeating 1024 1 (0x10 ∷ 0x09 ∷ []) ++ repeat-start 2 1 ++ group-start) gives a-refusal 19 13
     ∷ []
 
 pub order-hold : Hold order
-unfolding answered expected order
+unfolding answered expected order marks-in-order
 order-hold = refl
 
 -- Ten repeats inside each other, each of two passes of the next.
@@ -181,7 +199,7 @@ bounds =
     ∷ []
 
 pub bounds-hold : Hold bounds
-unfolding answered expected bounds
+unfolding answered expected bounds marks-in-order
 bounds-hold = refl
 
 -- Two groups 05 holding aaa: as a run, and as its cheapest fold (`known` in crates/optimum/specs/Known.antt).
@@ -195,7 +213,7 @@ two-groups-folded = repeating 2 1 (0x11 ∷ 0x05 ∷ repeating 3 1 (0x10 ∷ 0x0
 -- Every group costs 4, all else is at unit costs.
 abbrev pub dear-groups : Tariff
 unfolding ones times
-dear-groups = tariff (ones 256) (times 256 (4 ∷ [])) 1 0
+dear-groups = tariff (ones 256) (times 256 (4 ∷ [])) free-marks 1 0
 
 -- What is counted: nodes, the length of the run, the cost, steps and depth.
 unfoldable pub values : List Case
@@ -212,9 +230,9 @@ values =
     ∷ fold (repeating 2 1 (grouping (one-step ++ one-step))) gives fold-values 6 14 4 4 1
     ∷ fold (repeating 2 3 (grouping (one-step ++ one-step))) gives a-refusal 9 12
     -- a repeat of count h costs first + each × (h − 2), and its body once
-    ∷ fold-with 1024 (tariff (ones 256) (ones 256) 3 10) (repeating 5 1 one-step) gives fold-values 5 10 34 5 0
+    ∷ fold-with 1024 (tariff (ones 256) (ones 256) free-marks 3 10) (repeating 5 1 one-step) gives fold-values 5 10 34 5 0
     -- a label is priced by its entry: steps 01 for 7 and FF for 65,535, group 02 for 90, and neither by the other table
-    ∷ fold-with 1024 (tariff (1 ∷ 7 ∷ 9 ∷ ones 252 ++ 65535 ∷ []) (1 ∷ 70 ∷ 90 ∷ ones 252 ++ 3 ∷ []) 0 0) (0x11 ∷ 0x02 ∷ 0x10 ∷ 0x01 ∷ 0x12 ∷ 0x10 ∷ 0xFF ∷ [])
+    ∷ fold-with 1024 (tariff (1 ∷ 7 ∷ 9 ∷ ones 252 ++ 65535 ∷ []) (1 ∷ 70 ∷ 90 ∷ ones 252 ++ 3 ∷ []) free-marks 0 0) (0x11 ∷ 0x02 ∷ 0x10 ∷ 0x01 ∷ 0x12 ∷ 0x10 ∷ 0xFF ∷ [])
     gives fold-values 3 7 65632 2 1
     -- two groups 05 holding aaa, where every group costs 4 and all else is at unit costs: 7 folded, 14 plain
     ∷ fold-with 1024 dear-groups two-groups-folded gives fold-values 8 18 7 6 1
@@ -222,7 +240,7 @@ values =
     ∷ []
 
 pub values-hold : Hold values
-unfolding answered expected values
+unfolding answered expected values marks-in-order
 values-hold = refl
 
 -- Each cost table of 0, 255 and 257 entries, alone and both at once; 15 before 12; and 15 before every command: before an unknown
@@ -241,8 +259,40 @@ table-sizes =
     ∷ repeating 2 1 one-step ∷ [])
 
 pub table-sizes-hold : Hold table-sizes
-unfolding answered expected table-sizes
+unfolding answered expected table-sizes marks-in-order
 table-sizes-hold = refl
+
+-- Marks: lists of other lengths and with other bytes, 18 before every kind of command; marked labels inside repeats, and outside.
+unfoldable pub marks : List Case
+unfolding marked-with times
+marks =
+    map (λ n. fold-with 1024 (marked-with (times n (0 ∷ []))) [] gives a-refusal 18 0) (0 ∷ 255 ∷ 257 ∷ [])
+    ++ map (λ b. fold-with 1024 (marked-with (b ∷ times 255 (0 ∷ []))) [] gives a-refusal 18 0) (2 ∷ 255 ∷ [])
+    ++ map (λ m. fold-with 1024 (marked-with m) [] gives fold-values 0 0 0 0 0) (free-marks ∷ all-marks ∷ mark-of 0 ∷ mark-of 255 ∷ [])
+    ++ map (λ s. fold-with 1024 (marked-with (times 255 (0 ∷ []))) s gives a-refusal 18 0)
+    ((0x13 ∷ []) ∷ (0x10 ∷ []) ∷ (0x11 ∷ []) ∷ (0x12 ∷ []) ∷ (0x20 ∷ []) ∷ (0x21 ∷ []) ∷ one-step ∷ group-start ∷ repeat-start 2 1
+    ∷ repeating 2 1 one-step ∷ [])
+    -- a step, a group, and a step in a group, each in a repeat: refused at the label's own command
+    ++ fold-with 1024 (marked-with (mark-of 7)) (one-step ++ repeating 2 1 one-step) gives a-refusal 19 7
+    ∷ fold-with 1024 (marked-with (mark-of 5)) (repeating 2 1 (grouping one-step)) gives a-refusal 19 5
+    ∷ fold-with 1024 (marked-with (mark-of 7)) (repeating 2 1 (grouping one-step)) gives a-refusal 19 7
+    -- behind a repeat inside a repeat, and in a group between two repeats
+    ∷ fold-with 1024 (marked-with (mark-of 7)) (repeating 2 3 (repeating 2 1 (0x10 ∷ 0x09 ∷ []) ++ one-step)) gives a-refusal 19 13
+    ∷ fold-with 1024 (marked-with (mark-of 5)) (repeating 2 1 (group-07 ++ repeating 2 1 (grouping one-step) ++ 0x12 ∷ [])) gives a-refusal 19 12
+    -- the first of two is named
+    ∷ fold-with 1024 (marked-with all-marks) (repeating 2 1 (grouping one-step)) gives a-refusal 19 5
+    -- outside a repeat a marked label stands as any: before it, behind it, and around it
+    ∷ fold-with 1024 (marked-with (mark-of 7)) (one-step ++ repeating 2 1 (0x10 ∷ 0x09 ∷ []) ++ one-step) gives fold-values 4 8 4 4 0
+    ∷ fold-with 1024 (marked-with (mark-of 5)) (grouping (repeating 3 1 one-step)) gives fold-values 4 9 3 3 1
+    -- a free label beside a marked one of the next number
+    ∷ fold-with 1024 (marked-with (mark-of 8)) (repeating 2 1 one-step) gives fold-values 2 4 2 2 0
+    -- the operands of a repeat are no labels
+    ∷ fold-with 1024 (marked-with (mark-of 2)) (repeating 2 1 one-step) gives fold-values 2 4 2 2 0
+    ∷ []
+
+pub marks-hold : Hold marks
+unfolding answered expected marks marks-in-order
+marks-hold = refl
 
 -- How many of the nodes are steps, and how many groups are open together; `bounds` has eight inside each other.
 unfoldable pub shapes : List Case
@@ -268,7 +318,7 @@ shapes =
     ∷ []
 
 pub shapes-hold : Hold shapes
-unfolding answered expected shapes
+unfolding answered expected shapes marks-in-order
 shapes-hold = refl
 
 -- Parts of the run a, group 05 of b and c, a: a node with all it holds at 0, 2, 4 and 9; nothing at a label, at the close and at

@@ -4,7 +4,7 @@ use mathlib.Core.Logic.{_⊎_, inl, inr, ⊎-map, _↔_}
 use mathlib.Core.List.{List, [], _++_}
 use Prim.Native.Nat.{ℕ}
 use Rattle.format.specs.Order.{Bytes, Before}
-use Rattle.format.specs.Forest.{unroll, Allowed, at-most}
+use Rattle.format.specs.Forest.{unroll, Allowed}
 use Rattle.format.specs.Machine.{Rules, accepted}
 use Rattle.format.specs.Readings.{WellFormed}
 use Rattle.format.specs.Difference.{DiffersFirst}
@@ -20,7 +20,7 @@ spelled R f x small a e = parses R f small (a .tally) x (a .reading ∙ ap (acce
 -- The two trees of one run.
 module _ {R : Rules} {f g x : List ℕ} {t u : Tally} (a : Reads R f t x) (b : Reads R g u x) where
   abbrev A : Allowed
-  A = at-most (R .widest)
+  A = R .allowed
 
   one-run : unroll (a .tree) ≡ unroll (b .tree)
   one-run = bytes-injective (unroll (a .tree)) (unroll (b .tree)) (a .text ∙ sym (b .text))

@@ -7,7 +7,7 @@ use native.Mathlib.Omega.{arith}
 use lib.ListN.{getD}
 use Rattle.format.specs.Limits.{Prices}
 use Rattle.format.specs.Order.{Bytes}
-use Rattle.format.specs.Forest.{Forest, end, step, group, repeat, join, copies, unroll, siblings, nodes, steps, cost, bytes, Plain, Allowed, Sound, Coded, group-depth, repeat-depth, widest-of}
+use Rattle.format.specs.Forest.{Forest, end, step, group, repeat, join, copies, unroll, siblings, nodes, steps, cost, bytes, Plain, Allowed, Sound, Coded, group-depth, repeat-depth}
 use Rattle.format.specs.Machine.{times}
 
 pub join-end : (f : Forest) → join f end ≡ f
@@ -232,20 +232,13 @@ group-depth-unroll A (repeat h w b f) z =
     omega
     (arith, group-depth-join (copies h (unroll b)) (unroll f), group-depth-passes h (unroll b) (omega (arith, z .0 .twice)), group-depth-unroll A b (z .1), group-depth-unroll A f (z .2))
 
--- A run has no repeat that could be too deep or too wide.
+-- A run has no repeat that could be too deep.
 pub repeat-depth-plain : (f : Forest) → Plain f → repeat-depth f ≡ 0
 unfolding repeat-depth
 repeat-depth-plain end p = refl
 repeat-depth-plain (step l f) p = repeat-depth-plain f p
 repeat-depth-plain (group l b f) p = omega (arith, repeat-depth-plain b (p .0), repeat-depth-plain f (p .1))
 repeat-depth-plain (repeat h w b f) p = absurd p
-
-pub widest-plain : (f : Forest) → Plain f → widest-of f ≡ 0
-unfolding widest-of
-widest-plain end p = refl
-widest-plain (step l f) p = widest-plain f p
-widest-plain (group l b f) p = omega (arith, widest-plain b (p .0), widest-plain f (p .1))
-widest-plain (repeat h w b f) p = absurd p
 
 -- The byte form of what is coded is bytes.
 data Each : List ℕ → Type 0 where

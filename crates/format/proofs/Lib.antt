@@ -1,6 +1,7 @@
 -- The theorems about the format's definitions.
 pub mod Lists
 pub mod Forests
+pub mod Marks
 pub mod Machine
 pub mod Bridge
 pub mod Depth
@@ -20,6 +21,7 @@ pub mod Expansion
 pub mod Letters
 pub mod Report
 pub mod OneTable
+pub mod FreeMarks
 pub mod StepsAndDepth
 pub mod Parts
 pub mod Examples

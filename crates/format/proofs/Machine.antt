@@ -1,7 +1,7 @@
 -- Laws of the machine, one command at a time: each command's own short table, when it is passed, and what a passed command,
 -- a refused one and the end do to the scan.
 use mathlib.Core.Path.{_≡_, refl, sym, _∙_}
-use mathlib.Core.Bool.{Bool, true, false, not, or-false}
+use mathlib.Core.Bool.{Bool, true, false, true≢false, not, or-false, _&&_}
 use mathlib.Core.List.{List, [], _∷_, _++_}
 use mathlib.Core.Logic.{_≢_}
 use Prim.Native.Nat.{ℕ, zero, suc, _+_, _*_, _≤_, _<_}
@@ -10,7 +10,7 @@ use lib.Dec.{ltb, leb, eqb}
 use lib.ListN.{length, drop, length-append}
 use lib.Seq.{drop-append-seam}
 use borrow.Author.Tests.{le-ltb, eq-eqb, ne-eqb, ltb-false, eqb-true, eqb-false, leb-false, lt-leb, not-false}
-use Rattle.format.specs.Machine.{Rules, State, Check, _when_, first-of, checks, refusal, scan, advance, operands, count-operand, width-operand, is-known, place-of, unless, at-end, open-groups, open-repeats, in-group, in-repeat, claimed, total-of, node-total, refused, accepted, put-step, enter-group, leave-group, enter-repeat, leave-repeat}
+use Rattle.format.specs.Machine.{Rules, State, Check, _when_, first-of, checks, refusal, scan, advance, operands, label-operand, count-operand, width-operand, is-known, place-of, unless, at-end, open-groups, open-repeats, in-group, in-repeat, claimed, total-of, node-total, refused, accepted, put-step, enter-group, leave-group, enter-repeat, leave-repeat}
 use Rattle.format.specs.Reasons.{None}
 use Rattle.format.specs.declared.Tally.{Tally}
 
@@ -28,12 +28,17 @@ first-none (n when false ∷ rs) m e = (refl, first-none rs (m .1) e)
 -- the total was within the limit before it.
 module _ (R : Rules) (st : State) (rest : List ℕ) where
   abbrev pub step-checks : List Check
-  step-checks = 3 when ltb (length rest) 1 ∷ 10 when ltb (R .limits .nodes) (st .tally .nodes + 1) ∷ []
+  step-checks =
+      3 when ltb (length rest) 1
+      ∷ 19 when (R .allowed .marked (label-operand rest) && ltb 0 (open-repeats (st .opens)))
+      ∷ 10 when ltb (R .limits .nodes) (st .tally .nodes + 1)
+      ∷ []
 
   abbrev pub group-checks : List Check
   group-checks =
       3 when ltb (length rest) 1
       ∷ 8 when leb (R .limits .groups) (open-groups (st .opens))
+      ∷ 19 when (R .allowed .marked (label-operand rest) && ltb 0 (open-repeats (st .opens)))
       ∷ 10 when ltb (R .limits .nodes) (st .tally .nodes + 1)
       ∷ []
 
@@ -42,7 +47,7 @@ module _ (R : Rules) (st : State) (rest : List ℕ) where
       2 when not (R .folds)
       ∷ 3 when ltb (length rest) 4
       ∷ 6 when ltb (count-operand rest) 2
-      ∷ 7 when ltb (R .widest) (width-operand rest)
+      ∷ 7 when ltb (R .allowed .widest) (width-operand rest)
       ∷ 8 when leb (R .limits .repeats) (open-repeats (st .opens))
       ∷ []
 
@@ -92,16 +97,18 @@ module _ (R : Rules) (st : State) (rest : List ℕ) where
   -- And the node total that it makes is within the limit.
   pub total-within : (c : ℕ) → refusal R st c rest ≡ 0 → node-total c (st .opens) (st .tally .nodes) ≤ R .limits .nodes
   unfolding refusal
-  total-within c e = ltb-false _ _ (first-none (checks R st c rest) (omega arith) e .1 .1 .1 .1 .1 .1 .1 .1 .1 .0)
+  total-within c e = ltb-false _ _ (first-none (checks R st c rest) (omega arith) e .1 .1 .1 .1 .1 .1 .1 .1 .1 .1 .0)
 
 -- When each command is passed.
 pub record StepPasses (R : Rules) (st : State) (rest : List ℕ) : Type 0 where
   pub operand : 1 ≤ length rest
+  pub unmarked : 0 < open-repeats (st .opens) → R .allowed .marked (label-operand rest) ≡ false
   pub total : st .tally .nodes + 1 ≤ R .limits .nodes
 
 pub record GroupPasses (R : Rules) (st : State) (rest : List ℕ) : Type 0 where
   pub operand : 1 ≤ length rest
   pub room : open-groups (st .opens) < R .limits .groups
+  pub unmarked : 0 < open-repeats (st .opens) → R .allowed .marked (label-operand rest) ≡ false
   pub total : st .tally .nodes + 1 ≤ R .limits .nodes
 
 pub record GroupEndPasses (st : State) : Type 0 where
@@ -112,7 +119,7 @@ pub record RepeatPasses (R : Rules) (st : State) (rest : List ℕ) : Type 0 wher
   pub folds : R .folds ≡ true
   pub operand : 4 ≤ length rest
   pub twice : 2 ≤ count-operand rest
-  pub narrow : width-operand rest ≤ R .widest
+  pub narrow : width-operand rest ≤ R .allowed .widest
   pub room : open-repeats (st .opens) < R .limits .repeats
 
 pub record RepeatEndPasses (R : Rules) (st : State) : Type 0 where
@@ -128,22 +135,42 @@ not-zero n e = let h : ¬ (n ≡ 0) = eqb-false n 0 e in omega arith
 zero-not : (n : ℕ) → 0 < n → eqb n 0 ≡ false
 zero-not n h = ne-eqb n 0 (omega arith)
 
+-- A label inside a repeat is not marked: the check of 19, either way.
+unmarked-inside : (b : Bool) (n : ℕ) → (b && ltb 0 n) ≡ false → 0 < n → b ≡ false
+unmarked-inside true n e some = absurd (omega (arith, ltb-false 0 n e))
+unmarked-inside false n e some = refl
+
+inside-unmarked : (b : Bool) (n : ℕ) → (0 < n → b ≡ false) → (b && ltb 0 n) ≡ false
+inside-unmarked false n h = refl
+inside-unmarked true n h = le-ltb 0 n (none n h)
+  where
+    none : (k : ℕ) → (0 < k → true ≡ false) → k ≤ 0
+    none zero i = omega arith
+    none (suc k) i = absurd (true≢false (i (omega arith)))
+
 module _ (R : Rules) (st : State) (rest : List ℕ) where
   pub step-passed : refusal R st 0x10 rest ≡ 0 → StepPasses R st rest
   step-passed e =
       let z = first-none (step-checks R st rest) (omega arith) (sym (refusal-step R st rest) ∙ e) in
-      record { operand = ltb-false _ _ (z .0); total = ltb-false _ _ (z .1 .0) }
+      record { operand = ltb-false _ _ (z .0); unmarked = unmarked-inside _ _ (z .1 .0); total = ltb-false _ _ (z .1 .1 .0) }
 
   pub step-passes : StepPasses R st rest → refusal R st 0x10 rest ≡ 0
-  step-passes h = refusal-step R st rest ∙ rw (le-ltb _ _ (h .operand), le-ltb _ _ (h .total))
+  step-passes h = refusal-step R st rest ∙ rw (le-ltb _ _ (h .operand), inside-unmarked _ _ (h .unmarked), le-ltb _ _ (h .total))
 
   pub group-passed : refusal R st 0x11 rest ≡ 0 → GroupPasses R st rest
   group-passed e =
       let z = first-none (group-checks R st rest) (omega arith) (sym (refusal-group R st rest) ∙ e) in
-      record { operand = ltb-false _ _ (z .0); room = leb-false _ _ (z .1 .0); total = ltb-false _ _ (z .1 .1 .0) }
+      record {
+        operand = ltb-false _ _ (z .0);
+        room = leb-false _ _ (z .1 .0);
+        unmarked = unmarked-inside _ _ (z .1 .1 .0);
+        total = ltb-false _ _ (z .1 .1 .1 .0);
+      }
 
   pub group-passes : GroupPasses R st rest → refusal R st 0x11 rest ≡ 0
-  group-passes h = refusal-group R st rest ∙ rw (le-ltb _ _ (h .operand), lt-leb _ _ (h .room), le-ltb _ _ (h .total))
+  group-passes h =
+      refusal-group R st rest
+      ∙ rw (le-ltb _ _ (h .operand), lt-leb _ _ (h .room), inside-unmarked _ _ (h .unmarked), le-ltb _ _ (h .total))
 
   pub repeat-end-passed : refusal R st 0x21 rest ≡ 0 → RepeatEndPasses R st
   repeat-end-passed e =

@@ -29,8 +29,8 @@ module _ (x y : List ℕ) where
 module _ (R : Rules) (st : State) (x y : List ℕ) where
   with-operands : {c : ℕ} → Command c → operands c ≤ length x → refusal R st c (x ++ y) ≡ refusal R st c x
   unfolding refusal
-  with-operands step-byte h = rw (enough x y 1 h)
-  with-operands group-byte h = rw (enough x y 1 h)
+  with-operands step-byte h = rw (enough x y 1 h, byte x y 0 (omega arith))
+  with-operands group-byte h = rw (enough x y 1 h, byte x y 0 (omega arith))
   with-operands group-end-byte h = rw (enough x y 0 h)
   with-operands repeat-byte h =
       rw (enough x y 4 h, byte x y 0 (omega arith), byte x y 1 (omega arith), byte x y 2 (omega arith), byte x y 3 (omega arith))

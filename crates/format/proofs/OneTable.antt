@@ -7,20 +7,23 @@ use Prim.Native.Nat.{ℕ}
 use native.Mathlib.Omega.{arith}
 use lib.Dec.{eqb, ltb}
 use lib.ListN.{length}
-use Rattle.format.specs.Limits.{limits, tariff, priced}
+use Rattle.format.specs.Limits.{limits, Tariff, tariff, priced, Allowed, allowed}
 use Rattle.format.specs.Order.{Bytes}
 use Rattle.format.specs.Forest.{Forest, end, step, group, repeat, cost}
-use Rattle.format.specs.Machine.{Outcome, accepted, read, unless, first-of, _when_}
-use Rattle.format.specs.Head.{head-checks, headed, full-head}
+use Rattle.format.specs.Machine.{Outcome, accepted, read, unless, first-of, Check, _when_}
+use Rattle.format.specs.Head.{head-checks, headed, marks-in-order, full-head}
 use Rattle.format.specs.Readings.{fold-rules, as-fold-reading, fold-outcome, fold-reading}
 use Rattle.format.specs.Tree.{tree-of}
 use Rattle.format.specs.OneTable.{label-cost, by-label, one-table-headed, one-table-reading}
 use Rattle.format.specs.declared.Tally.{Tally}
 use Rattle.format.proofs.Report.{accepted-cost}
 
-module _ (table : List ℕ) (first each : ℕ) where
+module _ (table marks : List ℕ) (first each : ℕ) where
+  abbrev T : Tariff
+  T = tariff table table marks first each
+
   -- The cost of every fold is the one-table cost.
-  pub equal-tables-cost : (f : Forest) → cost (priced (tariff table table first each)) f ≡ label-cost table first each f
+  pub equal-tables-cost : (f : Forest) → cost (priced T) f ≡ label-cost table first each f
   unfolding cost label-cost
   equal-tables-cost end = refl
   equal-tables-cost (step l f) = omega (arith, equal-tables-cost f)
@@ -28,23 +31,24 @@ module _ (table : List ℕ) (first each : ℕ) where
   equal-tables-cost (repeat h w b f) = omega (arith, equal-tables-cost b, equal-tables-cost f)
 
   -- And so is the cost of all bytes that the rules of folds accept.
-  pub equal-tables-accepted : (k : ℕ) (s : List ℕ) → Bytes s → (t : Tally) (x : List ℕ)
-      → read (fold-rules k (priced (tariff table table first each))) s ≡ accepted t x → t .cost ≡ label-cost table first each (tree-of s)
-  equal-tables-accepted k s small t x e =
-      accepted-cost k (priced (tariff table table first each)) s small t x e ∙ equal-tables-cost (tree-of s)
+  pub equal-tables-accepted : (A : Allowed) (s : List ℕ) → Bytes s → (t : Tally) (x : List ℕ)
+      → read (fold-rules A (priced T)) s ≡ accepted t x → t .cost ≡ label-cost table first each (tree-of s)
+  equal-tables-accepted A s small t x e = accepted-cost A (priced T) s small t x e ∙ equal-tables-cost (tree-of s)
 
   -- 15 is never said: 11 comes first.
-  pub equal-tables-headed : (k : ℕ) (o : Outcome) → headed limits (full-head (tariff table table first each) k) o ≡ one-table-headed table k o
+  pub equal-tables-headed : (k : ℕ) (o : Outcome) → headed limits (full-head T k) o ≡ one-table-headed table marks k o
   unfolding headed head-checks one-table-headed
   equal-tables-headed k o = by-size (eqb (length table) (limits .labels))
     where
+      rest : List Check
+      rest = 12 when ltb (limits .width) k ∷ 18 when not (marks-in-order limits marks) ∷ []
+
       by-size : (b : Bool)
-          → unless (first-of (11 when not b ∷ 15 when not b ∷ 12 when ltb (limits .width) k ∷ [])) 0 0 o
-          ≡ unless (first-of (11 when not b ∷ 12 when ltb (limits .width) k ∷ [])) 0 0 o
+          → unless (first-of (11 when not b ∷ 15 when not b ∷ rest)) 0 0 o ≡ unless (first-of (11 when not b ∷ rest)) 0 0 o
       by-size true = refl
       by-size false = refl
 
   -- The fold reader's whole answer is the one it had.
-  pub equal-tables-reading : (s : List ℕ) (k : ℕ) → fold-reading s k (tariff table table first each) ≡ one-table-reading s k table first each
+  pub equal-tables-reading : (s : List ℕ) (k : ℕ) → fold-reading s k T ≡ one-table-reading s k table marks first each
   unfolding fold-reading fold-outcome one-table-reading
-  equal-tables-reading s k = ap as-fold-reading (equal-tables-headed k (read (fold-rules k (by-label table first each)) s))
+  equal-tables-reading s k = ap as-fold-reading (equal-tables-headed k (read (fold-rules (allowed k marks) (by-label table first each)) s))

@@ -59,10 +59,13 @@ found-each Q [] n some e q = absurd (some (sym e))
 found-each Q (m when true ∷ rs) n some e q = rw e at (q .0)
 found-each Q (m when false ∷ rs) n some e q = found-each Q rs n some e (q .1)
 
--- The numbers of the table are 1 to 10.
-refusal-small : (R : Rules) (st : State) (c : ℕ) (rest : List ℕ) → refusal R st c rest ≤ 10
+-- The numbers of the table are 1 to 10, and above these 19 alone.
+abbrev pub Numbered : ℕ → Type 0
+Numbered n = 10 < n → n ≡ 19
+
+refusal-numbered : (R : Rules) (st : State) (c : ℕ) (rest : List ℕ) → Numbered (refusal R st c rest)
 unfolding refusal checks
-refusal-small R st c rest = first-each (λ n. n ≤ 10) (checks R st c rest) (omega arith) (omega arith)
+refusal-numbered R st c rest = first-each Numbered (checks R st c rest) (omega arith) (omega arith)
 
 open-end : (p : ℕ) (os : List Open) (st : State) → 0 < length os → at-end p os st ≡ refused 3 p
 open-end p [] st some = absurd (omega arith)
@@ -162,9 +165,9 @@ refused-some R s n e r = of-cause (refused-exactly R s n e .0 r)
     of-cause (left-open st reached some three place) = omega arith
 
 -- It is one of the table's.
-pub refused-small : (R : Rules) (s : List ℕ) (n e : ℕ) → read R s ≡ refused n e → n ≤ 10
-refused-small R s n e r = of-cause (refused-exactly R s n e .0 r)
+pub refused-numbered : (R : Rules) (s : List ℕ) (n e : ℕ) → read R s ≡ refused n e → Numbered n
+refused-numbered R s n e r = of-cause (refused-exactly R s n e .0 r)
   where
-    of-cause : Because R s n e → n ≤ 10
-    of-cause (at-command p st reached below is some place) = omega (arith, refusal-small R st (getD s p 0) (drop (suc p) s))
+    of-cause : Because R s n e → Numbered n
+    of-cause (at-command p st reached below is some place) = rw is at (refusal-numbered R st (getD s p 0) (drop (suc p) s))
     of-cause (left-open st reached some three place) = omega arith

@@ -2,25 +2,27 @@
 -- for the bytes that the fold reader accepts. The report's definitions decide: its index i − (j − 1)h near Proposition 4,
 -- where i − j(h − 1) is meant, plays no part.
 use mathlib.Core.Path.{_≡_, refl, sym, ap, ap₂, _∙_}
+use mathlib.Core.Bool.{false}
 use mathlib.Core.Logic.{_↔_, _≢_}
 use mathlib.Core.List.{List}
 use Prim.Native.Nat.{ℕ, zero, suc, _<_}
 use native.Mathlib.Nat.{mul-le-mul-right}
 use native.Mathlib.Omega.{arith}
 use lib.ListN.{length}
-use Rattle.format.specs.Limits.{limits, Prices, Tariff, priced}
-use Rattle.format.specs.Forest.{Forest, end, step, group, repeat, join, copies, unroll, siblings, cost, bytes, Plain, Allowed, at-most, Sound}
-use Rattle.format.specs.Machine.{Outcome, refused, accepted, read}
+use Rattle.format.specs.Limits.{limits, Prices, Tariff, priced, allowed}
+use Rattle.format.specs.Forest.{Forest, end, step, group, repeat, join, copies, unroll, siblings, cost, bytes, holds, Plain, Allowed, at-most, Sound}
+use Rattle.format.specs.Machine.{Rules, Outcome, refused, accepted, read}
 use Rattle.format.specs.Order.{Bytes}
 use Rattle.format.specs.Tree.{tree-of}
 use Rattle.format.specs.Readings.{fold-rules, as-fold-reading, fold-outcome, fold-reading}
 use Rattle.format.specs.Head.{Head, head-checks, full-head}
 use Rattle.format.specs.Shape.{Reads, tally-of}
 use Rattle.format.specs.Report.{RRT, empty, letter, repetition, count, Valid, append, series, Represents, Width, WidthAtMost, size}
-use Rattle.format.specs.Meaning.{Letter, step-of, group-of, report, report-of, TrueWidths, Means, report-size, MeansAtCost}
+use Rattle.format.specs.Meaning.{Letter, step-of, group-of, report, report-of, TrueWidths, NoneMarked, NoneRepeated, Means, report-size, MeansAtCost}
 use Rattle.format.specs.declared.Tally.{Tally}
 use Rattle.format.specs.declared.FoldReading.{FoldReading}
 use Rattle.format.proofs.Forests.{siblings-unroll, plain-unroll, sound-unroll}
+use Rattle.format.proofs.Marks.{neither, unmarked-step, unmarked-group, unmarked-repeat}
 use Rattle.format.proofs.Bridge.{parses}
 use Rattle.format.proofs.Refusals.{refused-some}
 use Rattle.format.proofs.Heads.{headed-accepted, headed-each}
@@ -106,6 +108,33 @@ module _ (A : Allowed) where
   within-report (repeat h w b f) s =
       (λ v p. omega (arith, width (report b) v .0 p, count-expand b), within-report b (s .1), within-report f (s .2))
 
+  -- No marked label of it is repeated.
+  none-marked : (f : Forest) → holds (A .marked) f ≡ false → NoneMarked (A .marked) (report f)
+  unfolding report
+  none-marked end e = tt
+  none-marked (step l f) e = let z = unmarked-step (A .marked) l f e in (z .0, tt, none-marked f (z .1))
+  none-marked (group l b f) e = let z = unmarked-group (A .marked) l b f e in (z .0, none-marked b (z .1), none-marked f (z .2))
+  none-marked (repeat h w b f) e = let z = unmarked-repeat (A .marked) h w b f e in (none-marked b (z .0), none-marked f (z .1))
+
+  pub none-repeated : (f : Forest) → Sound A f → NoneRepeated (A .marked) (report f)
+  unfolding report
+  none-repeated end s = tt
+  none-repeated (step l f) s = (tt, none-repeated f s)
+  none-repeated (group l b f) s = (none-repeated b (s .1), none-repeated f (s .2))
+  none-repeated (repeat h w b f) s = (none-marked b (s .0 .unmarked), none-repeated f (s .2))
+
+  pub none-held : (r : RRT Letter) → NoneMarked (A .marked) r → holds (A .marked) (fold-of r) ≡ false
+  unfolding fold-of holds
+  none-held empty z = refl
+  none-held (letter (step-of l) c r) z = neither _ _ (z .0) (none-held r (z .2))
+  none-held (letter (group-of l) c r) z = neither _ _ (z .0) (neither _ _ (none-held c (z .1)) (none-held r (z .2)))
+  none-held (repetition h c r) z = neither _ _ (none-held c (z .0)) (none-held r (z .1))
+
+  pub none-within : (r : RRT Letter) → NoneMarked (A .marked) r → NoneRepeated (A .marked) r
+  none-within empty z = tt
+  none-within (letter a c r) z = (none-within c (z .1), none-within r (z .2))
+  none-within (repetition h c r) z = (z .0, none-within r (z .1))
+
   -- Steps are leaves in it, and groups are not.
   lettered-report : (f : Forest) → Sound A f → Lettered (report f)
   unfolding report
@@ -133,20 +162,20 @@ module _ (A : Allowed) where
   some-siblings (letter (group-of l) c r) s p = omega arith
   some-siblings (repetition h c r) s p = omega (arith, mul-le-mul-right (siblings (fold-of c)) (s .0 .twice))
 
-  pub sound-fold-of : (r : RRT Letter) → Lettered r → Valid r → WidthAtMost (A .widest) r → Sound A (fold-of r)
+  pub sound-fold-of : (r : RRT Letter) → Lettered r → Valid r → WidthAtMost (A .widest) r → NoneRepeated (A .marked) r → Sound A (fold-of r)
   unfolding fold-of
-  sound-fold-of empty z v k = tt
-  sound-fold-of (letter (step-of l) c r) z v k = sound-fold-of r (z .1) (v .1) (k .1)
-  sound-fold-of (letter (group-of l) c r) z v k =
-      let s = sound-fold-of c (z .1) (v .0) (k .0) in
-      (some-siblings c s (z .0), s, sound-fold-of r (z .2) (v .1) (k .1))
-  sound-fold-of (repetition h c r) z v k =
-      let s = sound-fold-of c (z .0) (v .2) (k .1) in
+  sound-fold-of empty z v k m = tt
+  sound-fold-of (letter (step-of l) c r) z v k m = sound-fold-of r (z .1) (v .1) (k .1) (m .1)
+  sound-fold-of (letter (group-of l) c r) z v k m =
+      let s = sound-fold-of c (z .1) (v .0) (k .0) (m .0) in
+      (some-siblings c s (z .0), s, sound-fold-of r (z .2) (v .1) (k .1) (m .1))
+  sound-fold-of (repetition h c r) z v k m =
+      let s = sound-fold-of c (z .0) (v .2) (k .1) (none-within c (m .0)) in
       let w = siblings (fold-of c) in
       let wide : Width c w = rw (report-fold-of c (z .0)) at (width-siblings (fold-of c)) in (
-        record { twice = v .0; true-width = refl; within = k .0 w wide; some = some-siblings c s (v .1) },
+        record { twice = v .0; true-width = refl; within = k .0 w wide; some = some-siblings c s (v .1); unmarked = none-held c (m .0) },
         s,
-        sound-fold-of r (z .1) (v .3) (k .2),
+        sound-fold-of r (z .1) (v .3) (k .2) (m .1),
       )
 
   -- In each of the report's trees that represents the tree of a run, steps are leaves and groups are not.
@@ -161,9 +190,8 @@ module _ (A : Allowed) where
   )
 
 -- Bytes that are the byte form of a tree of the right shape mean the run that it unrolls to.
-pub reads-mean : (k : ℕ) (P : Prices) (s : List ℕ) (t : Tally) (x : List ℕ) → Reads (fold-rules k P) s t x → Means k s x
-reads-mean k P s t x r =
-    let A = at-most k in
+pub reads-mean : (A : Allowed) (P : Prices) (s : List ℕ) (t : Tally) (x : List ℕ) → Reads (fold-rules A P) s t x → Means A s x
+reads-mean A P s t x r =
     let f = r .tree in
     let z = r .shape in
     let same : f ≡ tree-of s = sym (tree-of-bytes f) ∙ ap tree-of (r .form) in
@@ -173,13 +201,14 @@ reads-mean k P s t x r =
       valid = rw (← same) (valid-report A f (z .sound));
       within = rw (← same) (within-report A f (z .sound));
       widths = rw (← same) (true-widths A f (z .sound));
-      run = rw (← r .text) (unrolled-run k P f z);
+      marks = rw (← same) (none-repeated A f (z .sound));
+      run = rw (← r .text) (unrolled-run A P f z);
       represented = rw (← same, y) (represents-unroll f);
     }
 
 -- What a fold means is one run.
-pub means-one : (k : ℕ) (s x y : List ℕ) → Bytes x → Bytes y → Means k s x → Means k s y → x ≡ y
-means-one k s x y small small' a b =
+pub means-one : (A : Allowed) (s x y : List ℕ) → Bytes x → Bytes y → Means A s x → Means A s y → x ≡ y
+means-one A s x y small small' a b =
     let p = run-tree x small (a .run) in
     let q = run-tree y small' (b .run) in
     let e : report-of x ≡ report-of y =
@@ -187,12 +216,12 @@ means-one k s x y small small' a b =
     sym (p .0) ∙ ap bytes (report-injective (at-most 0) (tree-of x) (tree-of y) (p .1) (q .1) e) ∙ q .0
 
 -- DEMAND 2, first sentence: bytes that the fold reader accepts mean what the report says.
-module _ (k : ℕ) (P : Prices) (s : List ℕ) (small : Bytes s) (t : Tally) (x : List ℕ) (e : read (fold-rules k P) s ≡ accepted t x) where
-  spelled : Reads (fold-rules k P) s t x
-  spelled = parses (fold-rules k P) s small t x e
+module _ (A : Allowed) (P : Prices) (s : List ℕ) (small : Bytes s) (t : Tally) (x : List ℕ) (e : read (fold-rules A P) s ≡ accepted t x) where
+  spelled : Reads (fold-rules A P) s t x
+  spelled = parses (fold-rules A P) s small t x e
 
-  pub accepted-means : Means k s x
-  accepted-means = reads-mean k P s t x spelled
+  pub accepted-means : Means A s x
+  accepted-means = reads-mean A P s t x spelled
 
   pub accepted-cost : t .cost ≡ cost P (tree-of s)
   unfolding tally-of
@@ -203,35 +232,37 @@ module _ (k : ℕ) (P : Prices) (s : List ℕ) (small : Bytes s) (t : Tally) (x 
   accepted-length = rw (← spelled .text) (ap (λ (u : Tally). u .size) (spelled .counts))
 
 -- A fold at an entry point: what is accepted is read, and what is refused has a number.
-module _ (h : Head) (P : Prices) (s : List ℕ) where
-  pub outcome-read : (t : Tally) (x : List ℕ) → fold-outcome h P s ≡ accepted t x → read (fold-rules (h .limit) P) s ≡ accepted t x
-  unfolding fold-outcome
-  outcome-read t x e = headed-accepted limits h (read (fold-rules (h .limit) P) s) t x e
+module _ (h : Head) (T : Tariff) (s : List ℕ) where
+  abbrev R : Rules
+  R = fold-rules (allowed (h .limit) (T .marks)) (priced T)
 
-  pub outcome-some : (n p : ℕ) → fold-outcome h P s ≡ refused n p → n ≢ 0
+  pub outcome-read : (t : Tally) (x : List ℕ) → fold-outcome h T s ≡ accepted t x → read R s ≡ accepted t x
+  unfolding fold-outcome
+  outcome-read t x e = headed-accepted limits h (read R s) t x e
+
+  pub outcome-some : (n p : ℕ) → fold-outcome h T s ≡ refused n p → n ≢ 0
   unfolding fold-outcome head-checks
-  outcome-some n p e =
-      headed-each limits h (read (fold-rules (h .limit) P) s) (λ m. m ≢ 0) (omega arith) (refused-some (fold-rules (h .limit) P) s) n p e
+  outcome-some n p e = headed-each limits h (read R s) (λ m. m ≢ 0) (omega arith) (refused-some R s) n p e
 
 -- What the fold reader's success says.
 module _ (s : List ℕ) (k : ℕ) (T : Tariff) (small : Bytes s) (r : FoldReading) (answered : r ≡ fold-reading s k T) (success : r .refusal ≡ 0) where
-  abbrev P : Prices
-  P = priced T
+  abbrev A : Allowed
+  A = allowed k (T .marks)
 
-  pub reading-means : MeansAtCost k P s (r .length) (r .cost)
+  pub reading-means : MeansAtCost k T s (r .length) (r .cost)
   unfolding fold-reading
-  reading-means = by-outcome (fold-outcome (full-head T k) P s) refl
+  reading-means = by-outcome (fold-outcome (full-head T k) T s) refl
     where
-      by-outcome : (o : Outcome) → fold-outcome (full-head T k) P s ≡ o → MeansAtCost k P s (r .length) (r .cost)
+      by-outcome : (o : Outcome) → fold-outcome (full-head T k) T s ≡ o → MeansAtCost k T s (r .length) (r .cost)
       by-outcome (refused n p) e =
           let q = answered ∙ ap as-fold-reading e in
-          absurd (outcome-some (full-head T k) P s n p e (sym (ap (λ (y : FoldReading). y .refusal) q) ∙ success))
+          absurd (outcome-some (full-head T k) T s n p e (sym (ap (λ (y : FoldReading). y .refusal) q) ∙ success))
       by-outcome (accepted t x) e =
           let q = answered ∙ ap as-fold-reading e in
-          let a = outcome-read (full-head T k) P s t x e in
+          let a = outcome-read (full-head T k) T s t x e in
           record {
             text = x;
-            means = accepted-means k P s small t x a;
-            long = accepted-length k P s small t x a ∙ sym (ap (λ (y : FoldReading). y .length) q);
-            weighed = ap (λ (y : FoldReading). y .cost) q ∙ accepted-cost k P s small t x a ∙ cost-report P (tree-of s);
+            means = accepted-means A (priced T) s small t x a;
+            long = accepted-length A (priced T) s small t x a ∙ sym (ap (λ (y : FoldReading). y .length) q);
+            weighed = ap (λ (y : FoldReading). y .cost) q ∙ accepted-cost A (priced T) s small t x a ∙ cost-report (priced T) (tree-of s);
           }

@@ -6,26 +6,27 @@ use Prim.Native.Nat.{ℕ}
 use native.Mathlib.Omega.{arith}
 use Rattle.format.specs.Limits.{Prices}
 use Rattle.format.specs.Order.{Bytes}
-use Rattle.format.specs.Forest.{Forest, at-most, Sound, unroll, bytes}
+use Rattle.format.specs.Forest.{Forest, Allowed, at-most, Sound, unroll, bytes}
 use Rattle.format.specs.Machine.{Outcome, refused, accepted, read}
 use Rattle.format.specs.Readings.{run-rules, fold-rules, as-run-reading, run-reading}
 use Rattle.format.specs.Shape.{Shaped}
 use Rattle.format.specs.Tree.{tree-of}
-use Rattle.format.proofs.Forests.{nodes-unroll, plain-unroll, sound-unroll, coded-unroll, group-depth-unroll, repeat-depth-plain, widest-plain}
-use Rattle.format.proofs.Bridge.{accepts, parses, sound-within}
+use Rattle.format.proofs.Forests.{nodes-unroll, plain-unroll, sound-unroll, coded-unroll, group-depth-unroll, repeat-depth-plain}
+use Rattle.format.proofs.Bridge.{accepts, parses}
+use Rattle.format.proofs.Marks.{sound-plain}
 use Rattle.format.proofs.Refusals.{refused-some}
 use Rattle.format.proofs.Tree.{tree-of-bytes}
 
-module _ (k : ℕ) (P : Prices) (f : Forest) (z : Shaped (fold-rules k P) f) where
+module _ (A : Allowed) (P : Prices) (f : Forest) (z : Shaped (fold-rules A P) f) where
   pub unrolled-shape : Shaped run-rules (unroll f)
   unrolled-shape =
       let p = plain-unroll f in
-      let s = sound-unroll (at-most k) f (z .sound) in
+      let s = sound-unroll A f (z .sound) in
       record {
         coded = coded-unroll f (z .coded);
-        sound = sound-within (at-most k) (at-most 0) (unroll f) (omega (arith, widest-plain (unroll f) p)) s;
+        sound = sound-plain A (at-most 0) (unroll f) p s;
         plain = λ e. p;
-        groups = omega (arith, group-depth-unroll (at-most k) f (z .sound), z .groups);
+        groups = omega (arith, group-depth-unroll A f (z .sound), z .groups);
         repeats = omega (arith, repeat-depth-plain (unroll f) p);
         total = omega (arith, nodes-unroll f, z .total);
       }

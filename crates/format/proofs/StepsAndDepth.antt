@@ -6,11 +6,11 @@ use Prim.Native.Nat.{ℕ, _≤_}
 use native.Mathlib.Nat.{mul-le-mul-left, le-of-mul-le-mul-left}
 use native.Mathlib.Omega.{arith}
 use lib.ListN.{length}
-use Rattle.format.specs.Limits.{Prices, Tariff, priced}
+use Rattle.format.specs.Limits.{Prices, Tariff, priced, allowed}
 use Rattle.format.specs.Order.{Bytes}
 use Rattle.format.specs.Forest.{Forest, end, step, group, repeat, Allowed, at-most, Sound, unroll, nodes, steps, group-depth}
 use Rattle.format.specs.Machine.{Rules, Outcome, refused, accepted, read}
-use Rattle.format.specs.Readings.{free, run-rules, fold-rules, run-numbers, run-reading, fold-numbers, as-fold-reading, fold-outcome, measured, fold-reading}
+use Rattle.format.specs.Readings.{no-costs, free, run-rules, fold-rules, run-numbers, run-reading, fold-numbers, as-fold-reading, fold-outcome, measured, fold-reading}
 use Rattle.format.specs.Head.{limit-head, full-head}
 use Rattle.format.specs.StepsAndDepth.{StepsAndDepth, Alike}
 use Rattle.format.specs.Shape.{Reads, tally-of}
@@ -60,18 +60,18 @@ steps-and-depth R s small t x e = of-tree (parses R s small t x e)
           shallow = r .shape .groups;
           flat = (
             λ z. omega (arith, flat-steps f z, steps-nodes f),
-            λ z. steps-flat (at-most (R .widest)) f (r .shape .sound) (omega arith),
+            λ z. steps-flat (R .allowed) f (r .shape .sound) (omega arith),
           );
         })
 
--- One fold, read at the limit k and the prices P, and unrolled at the limit j and the prices Q to the run x.
-module _ (s : List ℕ) (small : Bytes s) (k : ℕ) (P : Prices) (t : Tally) (y : List ℕ) (d : read (fold-rules k P) s ≡ accepted t y)
-    (j : ℕ) (Q : Prices) (u : Tally) (x : List ℕ) (e : read (fold-rules j Q) s ≡ accepted u x) where
-  abbrev a : Reads (fold-rules k P) s t y
-  a = parses (fold-rules k P) s small t y d
+-- One fold, read with the repeats A allowed and at the prices P, and unrolled with B and at Q to the run x.
+module _ (s : List ℕ) (small : Bytes s) (A : Allowed) (P : Prices) (t : Tally) (y : List ℕ) (d : read (fold-rules A P) s ≡ accepted t y)
+    (B : Allowed) (Q : Prices) (u : Tally) (x : List ℕ) (e : read (fold-rules B Q) s ≡ accepted u x) where
+  abbrev a : Reads (fold-rules A P) s t y
+  a = parses (fold-rules A P) s small t y d
 
-  abbrev b : Reads (fold-rules j Q) s u x
-  b = parses (fold-rules j Q) s small u x e
+  abbrev b : Reads (fold-rules B Q) s u x
+  b = parses (fold-rules B Q) s small u x e
 
   one-tree : a .tree ≡ b .tree
   one-tree = bytes-injective (a .tree) (b .tree) (a .form ∙ sym (b .form))
@@ -80,7 +80,7 @@ module _ (s : List ℕ) (small : Bytes s) (k : ℕ) (P : Prices) (t : Tally) (y 
   unfolding run-reading tally-of
   run-of-fold =
       let f = b .tree in
-      rw (← b .text, accepts run-rules (unroll f) (unrolled-shape j Q f (b .shape)), ← a .counts, one-tree, nodes-unroll f, steps-unroll f, group-depth-unroll (at-most j) f (b .shape .sound))
+      rw (← b .text, accepts run-rules (unroll f) (unrolled-shape B Q f (b .shape)), ← a .counts, one-tree, nodes-unroll f, steps-unroll f, group-depth-unroll B f (b .shape .sound))
 
   length-of-fold : t .size ≡ length x
   unfolding tally-of
@@ -102,16 +102,16 @@ module _ (s : List ℕ) (small : Bytes s) (k : ℕ) (P : Prices) (t : Tally) (y 
 -- A FOLD AND THE RUN THAT IT UNROLLS TO HAVE THE SAME NODES, STEPS AND DEPTH: whatever the limit and the costs at which the fold
 -- reader accepts a fold, and whatever the limit at which it is unrolled.
 module _ (s : List ℕ) (small : Bytes s) (k : ℕ) (T : Tariff) (success : fold-reading s k T .refusal ≡ 0) where
-  abbrev P : Prices
-  P = priced T
+  abbrev A : Allowed
+  A = allowed k (T .marks)
 
   pub unrolled-alike : (j : ℕ) (u : Tally) (x : List ℕ) → measured s j ≡ accepted u x → Alike (fold-reading s k T) x
   unfolding fold-reading
-  unrolled-alike j u x e = by-outcome (fold-outcome (full-head T k) P s) refl
+  unrolled-alike j u x e = by-outcome (fold-outcome (full-head T k) T s) refl
     where
-      by-outcome : (o : Outcome) → fold-outcome (full-head T k) P s ≡ o → Alike (fold-reading s k T) x
+      by-outcome : (o : Outcome) → fold-outcome (full-head T k) T s ≡ o → Alike (fold-reading s k T) x
       by-outcome (refused n p) f =
-          absurd (outcome-some (full-head T k) P s n p f (sym (ap (λ (o : Outcome). as-fold-reading o .refusal) f) ∙ success))
+          absurd (outcome-some (full-head T k) T s n p f (sym (ap (λ (o : Outcome). as-fold-reading o .refusal) f) ∙ success))
       by-outcome (accepted t y) f =
           rw f
-          (alike-of-fold s small k P t y (outcome-read (full-head T k) P s t y f) j free u x (outcome-read (limit-head j) free s u x e))
+          (alike-of-fold s small A (priced T) t y (outcome-read (full-head T k) T s t y f) (at-most j) free u x (outcome-read (limit-head j) no-costs s u x e))

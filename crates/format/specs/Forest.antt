@@ -1,9 +1,11 @@
 -- Sequences as trees. A run is an ordered forest of labelled nodes, a fold a forest that may hold repetition nodes as well
 -- (the repetition representation tree of the report's section 3.1, without its root).
 use mathlib.Core.Path.{_≡_}
+use mathlib.Core.Bool.{Bool, false, _||_}
 use mathlib.Core.List.{List, [], _∷_, _++_}
 use Prim.Native.Nat.{ℕ, zero, suc, _+_, _*_, _/_, _%_, _≤_, _<_, max}
 use Rattle.format.specs.Limits.{Prices, of-repeat}
+pub use Rattle.format.specs.Limits.{Allowed, at-most}
 
 -- A sequence: nothing, or its first item and the rest.
 pub data Forest : Type 0 where
@@ -80,20 +82,21 @@ Plain (step l f) = Plain f
 Plain (group l b f) = Plain b × Plain f
 Plain (repeat h w b f) = ⊥
 
--- What folds may be used: the widest width that a repeat may have.
-pub record Allowed : Type 0 where
-  pub widest : ℕ
-
-abbrev pub at-most : ℕ → Allowed
-at-most k = record { widest = k }
+-- Whether a marked label stands anywhere in a sequence, of a step or of a group.
+unfoldable pub holds : (marked : ℕ → Bool) → Forest → Bool
+holds m end = false
+holds m (step l f) = m l || holds m f
+holds m (group l b f) = m l || (holds m b || holds m f)
+holds m (repeat h w b f) = holds m b || holds m f
 
 -- A repeat of count h and width w over the body b is sound: at least two copies, the width operand is the number of
--- siblings of one pass, within the limit, and the body is not empty.
+-- siblings of one pass, within the limit, the body is not empty, and it holds no marked label.
 pub record Repeats (A : Allowed) (h w : ℕ) (b : Forest) : Type 0 where
   pub twice : 2 ≤ h
   pub true-width : siblings b ≡ w
   pub within : w ≤ A .widest
   pub some : 0 < siblings b
+  pub unmarked : holds (A .marked) b ≡ false
 
 -- A sound fold: each repeat is, and no group is empty.
 abbrev pub Sound : Allowed → Forest → Type 0

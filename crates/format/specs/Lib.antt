@@ -15,4 +15,6 @@ pub mod Tree
 pub mod Report
 pub mod Meaning
 pub mod OneTable
+pub mod Marks
+pub mod FreeMarks
 pub mod inner

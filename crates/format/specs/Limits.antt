@@ -1,6 +1,8 @@
--- The limits of the format, the lent prices, and the size of the lent work.
-use Prim.Native.Nat.{ℕ, _+_, _-_, _*_, _/_}
+-- The limits of the format, the lent prices and marks, which repeats they allow, and the size of the lent work.
+use mathlib.Core.Bool.{Bool, false}
 use mathlib.Core.List.{List}
+use Prim.Native.Nat.{ℕ, _+_, _-_, _*_, _/_}
+use lib.Dec.{eqb}
 use lib.ListN.{getD}
 pub use Rattle.format.specs.declared.Limits.{Limits}
 
@@ -18,16 +20,17 @@ pub record Prices : Type 0 where
 abbrev pub of-repeat : Prices → ℕ → ℕ
 of-repeat P h = P .first + P .each * (h - 2)
 
--- What is lent to price a fold: a table of what steps cost by their labels, one of what groups cost by theirs, and the repeat
--- prices first and each.
+-- The costs that are lent: a table of what steps cost by their labels, one of what groups cost by theirs, the marks of the labels, 1
+-- for one that may stand in no repeat (a hand tipped addition) and 0 for a free one, and the repeat prices first and each.
 pub record Tariff : Type 0 where
   pub steps : List ℕ
   pub groups : List ℕ
+  pub marks : List ℕ
   pub first : ℕ
   pub each : ℕ
 
-abbrev pub tariff : (steps groups : List ℕ) → (first each : ℕ) → Tariff
-tariff steps groups first each = record { steps = steps; groups = groups; first = first; each = each }
+abbrev pub tariff : (steps groups marks : List ℕ) → (first each : ℕ) → Tariff
+tariff steps groups marks first each = record { steps = steps; groups = groups; marks = marks; first = first; each = each }
 
 -- The prices of a tariff: its table of steps prices `10`, its table of groups `11`.
 abbrev pub priced : Tariff → Prices
@@ -38,6 +41,22 @@ priced T =
       first = T .first;
       each = T .each;
     }
+
+-- Which repeats are allowed: the widest width that one may have, and which labels may stand in none.
+pub record Allowed : Type 0 where
+  pub widest : ℕ
+  pub marked : ℕ → Bool
+
+-- By a width limit alone, every label free.
+abbrev pub at-most : ℕ → Allowed
+at-most k = record { widest = k; marked = λ l. false }
+
+-- By a width limit and marks: a label is marked by a 1.
+abbrev pub marked-in : (marks : List ℕ) → (label : ℕ) → Bool
+marked-in marks l = eqb (getD marks l 0) 1
+
+abbrev pub allowed : (limit : ℕ) → (marks : List ℕ) → Allowed
+allowed k marks = record { widest = k; marked = marked-in marks }
 
 -- The entries that each of the two work slices must have for a run of n nodes: one for each stretch of numbers from 1 to n.
 abbrev pub cells : ℕ → ℕ

@@ -5,7 +5,7 @@ use mathlib.Core.List.{List, [], _∷_, _++_}
 use Prim.Native.Nat.{ℕ, zero, suc, _+_, _-_, _*_, max}
 use lib.Dec.{ltb, leb, eqb}
 use lib.ListN.{length, getD, drop}
-use Rattle.format.specs.Limits.{Limits, Prices, of-repeat}
+use Rattle.format.specs.Limits.{Limits, Prices, of-repeat, Allowed}
 use Rattle.format.specs.declared.Tally.{Tally}
 
 -- The commands: `10` a step, `11` opens a group, `12` closes it, `20` opens a repeat, `21` closes it.
@@ -40,12 +40,12 @@ pub data Open : Type 0 where
   a-group : (outer : Tally) → Open
   a-repeat : (count width : ℕ) (outer : Tally) → Open
 
--- By what rules bytes are read: the format's limits, whether repeats may stand in them (a fold) or not (a run), the width
--- limit, and the prices.
+-- By what rules bytes are read: the format's limits, whether repeats may stand in them (a fold) or not (a run), which ones are
+-- allowed, and the prices.
 pub record Rules : Type 0 where
   pub limits : Limits
   pub folds : Bool
-  pub widest : ℕ
+  pub allowed : Allowed
   pub prices : Prices
 
 -- Groups and repeats that are open.
@@ -213,7 +213,7 @@ pub data Check : Type 0 where
   _when_ : ℕ → Bool → Check
 
 infix 68 _when_
--- Refusals 1 to 10 at one command, in the order of docs/REFUSALS.md. `rest` is what follows the command's byte.
+-- Refusals 1 to 10 and 19 at one command, in the order of docs/REFUSALS.md. `rest` is what follows the command's byte.
 unfoldable pub checks : Rules → State → (command : ℕ) → (rest : List ℕ) → List Check
 checks R st c rest =
     1 when not (is-known c)
@@ -222,10 +222,11 @@ checks R st c rest =
     ∷ 4 when ((eqb c 0x12 && not (in-group (st .opens))) || (eqb c 0x21 && not (in-repeat (st .opens))))
     ∷ 5 when (is-close c && eqb (st .tally .siblings) 0)
     ∷ 6 when (eqb c 0x20 && ltb (count-operand rest) 2)
-    ∷ 7 when (eqb c 0x20 && ltb (R .widest) (width-operand rest))
+    ∷ 7 when (eqb c 0x20 && ltb (R .allowed .widest) (width-operand rest))
     ∷ 8 when ((eqb c 0x11 && leb (R .limits .groups) (open-groups (st .opens)))
     || (eqb c 0x20 && leb (R .limits .repeats) (open-repeats (st .opens))))
     ∷ 9 when (eqb c 0x21 && not (eqb (st .tally .siblings) (claimed (st .opens))))
+    ∷ 19 when (is-node c && (R .allowed .marked (label-operand rest) && ltb 0 (open-repeats (st .opens))))
     ∷ 10 when ltb (R .limits .nodes) (node-total c (st .opens) (st .tally .nodes))
     ∷ []
 

@@ -1,9 +1,10 @@
 -- What accepted bytes mean in the report's words: demand 2, first sentence.
 use mathlib.Core.Path.{_≡_}
+use mathlib.Core.Bool.{Bool, false}
 use mathlib.Core.List.{List}
 use Prim.Native.Nat.{ℕ}
 use lib.ListN.{length}
-use Rattle.format.specs.Limits.{Prices, of-repeat}
+use Rattle.format.specs.Limits.{Prices, of-repeat, Tariff, priced, Allowed, allowed}
 use Rattle.format.specs.Forest.{Forest, end, step, group, repeat, bytes}
 use Rattle.format.specs.Readings.{run-reading}
 use Rattle.format.specs.Tree.{tree-of}
@@ -32,13 +33,32 @@ TrueWidths (step l f) = TrueWidths f
 TrueWidths (group l b f) = TrueWidths b × TrueWidths f
 TrueWidths (repeat h w b f) = Width (report b) w × TrueWidths b × TrueWidths f
 
--- The bytes s, read at width limit k, mean the run x: s is the byte form of its tree; that tree is one of the report's, of
--- width k and with true width operands; x is a run, and the tree of s represents the tree of x.
-pub record Means (k : ℕ) (s x : List ℕ) : Type 0 where
+-- A letter is marked where its label is.
+abbrev pub is-marked : (ℕ → Bool) → Letter → Bool
+is-marked m (step-of l) = m l
+is-marked m (group-of l) = m l
+
+-- No letter of a tree of the report is marked.
+abbrev pub NoneMarked : (ℕ → Bool) → RRT Letter → Type 0
+NoneMarked m empty = Unit
+NoneMarked m (letter a c r) = (is-marked m a ≡ false) × NoneMarked m c × NoneMarked m r
+NoneMarked m (repetition h c r) = NoneMarked m c × NoneMarked m r
+
+-- No marked letter lies anywhere below a repetition information node.
+abbrev pub NoneRepeated : (ℕ → Bool) → RRT Letter → Type 0
+NoneRepeated m empty = Unit
+NoneRepeated m (letter a c r) = NoneRepeated m c × NoneRepeated m r
+NoneRepeated m (repetition h c r) = NoneMarked m c × NoneRepeated m r
+
+-- The bytes s, read with these repeats allowed, mean the run x: s is the byte form of its tree; that tree is one of the report's,
+-- within the width limit, with true width operands and no marked letter repeated; x is a run, and the tree of s represents the
+-- tree of x.
+pub record Means (A : Allowed) (s x : List ℕ) : Type 0 where
   pub form : bytes (tree-of s) ≡ s
   pub valid : Valid (report-of s)
-  pub within : WidthAtMost k (report-of s)
+  pub within : WidthAtMost (A .widest) (report-of s)
   pub widths : TrueWidths (tree-of s)
+  pub marks : NoneRepeated (A .marked) (report-of s)
   pub run : run-reading x .refusal ≡ 0
   pub represented : Represents (report-of s) (report-of x)
 
@@ -52,9 +72,9 @@ unfoldable pub report-size : Prices → RRT Letter → ℕ
 unfolding size
 report-size P r = size (weight P) (of-repeat P) r
 
--- The bytes s, read at width limit k and these prices, mean a run of n bytes, and the cost is the report's length.
-pub record MeansAtCost (k : ℕ) (P : Prices) (s : List ℕ) (n cost : ℕ) : Type 0 where
+-- The bytes s, read at width limit k and these costs, mean a run of n bytes, and the cost is the report's length.
+pub record MeansAtCost (k : ℕ) (T : Tariff) (s : List ℕ) (n cost : ℕ) : Type 0 where
   pub text : List ℕ
-  pub means : Means k s text
+  pub means : Means (allowed k (T .marks)) s text
   pub long : length text ≡ n
-  pub weighed : cost ≡ report-size P (report-of s)
+  pub weighed : cost ≡ report-size (priced T) (report-of s)

@@ -5,9 +5,10 @@ use mathlib.Core.List.{List, [], _∷_}
 use Prim.Native.Nat.{ℕ, _+_, _-_, _*_}
 use lib.Dec.{ltb, eqb}
 use lib.ListN.{length, getD}
-use Rattle.format.specs.Limits.{limits, Prices}
+use Rattle.format.specs.Limits.{limits, Prices, allowed}
 use Rattle.format.specs.Forest.{Forest, end, step, group, repeat}
 use Rattle.format.specs.Machine.{_when_, first-of, Outcome, unless, read}
+use Rattle.format.specs.Head.{marks-in-order}
 use Rattle.format.specs.Readings.{fold-rules, as-fold-reading}
 use Rattle.format.specs.declared.FoldReading.{FoldReading}
 
@@ -24,13 +25,22 @@ abbrev pub by-label : (table : List ℕ) → (first each : ℕ) → Prices
 by-label table first each =
     record { of-step = λ l. getD table l 0; of-group = λ l. getD table l 0; first = first; each = each }
 
--- What was checked before the first command: 11 for the one table, then 12 for the limit, both at place 0.
-unfoldable pub one-table-headed : (table : List ℕ) → (limit : ℕ) → Outcome → Outcome
-one-table-headed table k next =
-    unless (first-of (11 when not (eqb (length table) (limits .labels)) ∷ 12 when ltb (limits .width) k ∷ [])) 0 0 next
+-- What is checked before the first command: 11 for the one table, then 12 for the limit, then 18 for the marks, all at place 0.
+unfoldable pub one-table-headed : (table marks : List ℕ) → (limit : ℕ) → Outcome → Outcome
+unfolding marks-in-order
+one-table-headed table marks k next =
+    unless
+    (first-of
+    (11 when not (eqb (length table) (limits .labels))
+    ∷ 12 when ltb (limits .width) k
+    ∷ 18 when not (marks-in-order limits marks)
+    ∷ []))
+    0
+    0
+    next
 
 -- The fold reader's answer by one table.
-unfoldable pub one-table-reading : List ℕ → (limit : ℕ) → (table : List ℕ) → (first each : ℕ) → FoldReading
+unfoldable pub one-table-reading : List ℕ → (limit : ℕ) → (table marks : List ℕ) → (first each : ℕ) → FoldReading
 unfolding one-table-headed read
-one-table-reading s k table first each =
-    as-fold-reading (one-table-headed table k (read (fold-rules k (by-label table first each)) s))
+one-table-reading s k table marks first each =
+    as-fold-reading (one-table-headed table marks k (read (fold-rules (allowed k marks) (by-label table first each)) s))

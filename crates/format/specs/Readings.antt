@@ -3,31 +3,34 @@ use mathlib.Core.Path.{_≡_}
 use mathlib.Core.Bool.{true, false}
 use mathlib.Core.List.{List, []}
 use Prim.Native.Nat.{ℕ}
-use Rattle.format.specs.Limits.{limits, Prices, Tariff, tariff, priced}
+use Rattle.format.specs.Limits.{limits, Prices, Tariff, tariff, priced, Allowed, at-most, allowed}
 use Rattle.format.specs.Machine.{Rules, none, Outcome, refused, accepted, read}
 use Rattle.format.specs.Head.{Head, headed, limit-head, full-head}
 use Rattle.format.specs.declared.Tally.{Tally}
 use Rattle.format.specs.declared.RunReading.{RunReading}
 use Rattle.format.specs.declared.FoldReading.{FoldReading}
 
--- Nothing has a price.
+-- Nothing has a price, and no label is marked.
+abbrev pub no-costs : Tariff
+no-costs = tariff [] [] [] 0 0
+
 abbrev pub free : Prices
-free = priced (tariff [] [] 0 0)
+free = priced no-costs
 
--- The rules of runs: no repeats, so neither width limit nor prices matter.
+-- The rules of runs: no repeats, so neither what repeats are allowed nor prices matter.
 abbrev pub run-rules : Rules
-run-rules = record { limits = limits; folds = false; widest = 0; prices = free }
+run-rules = record { limits = limits; folds = false; allowed = at-most 0; prices = free }
 
--- The rules of folds at a width limit and prices.
-abbrev pub fold-rules : ℕ → Prices → Rules
-fold-rules k P = record { limits = limits; folds = true; widest = k; prices = P }
+-- The rules of folds with these repeats allowed, at prices.
+abbrev pub fold-rules : Allowed → Prices → Rules
+fold-rules A P = record { limits = limits; folds = true; allowed = A; prices = P }
 
--- The rules of the format: those of folds at the largest width limit.
-abbrev pub format-rules : Prices → Rules
-format-rules P = fold-rules (limits .width) P
+-- The rules of the format at lent costs: those of folds at the largest width limit under the marks.
+abbrev pub format-rules : Tariff → Rules
+format-rules T = fold-rules (allowed (limits .width) (T .marks)) (priced T)
 
--- Bytes are well formed by rules that refuse nothing in them: by the format's, none of refusals 1 and 3 to 10 applies at the
--- largest width limit. The prices decide nothing but the cost that is counted.
+-- Bytes are well formed by rules that refuse nothing in them: by the format's, none of refusals 1, 3 to 10 and 19 applies at the
+-- largest width limit. Of the costs the marks decide this; the prices decide nothing but the cost that is counted.
 pub record WellFormed (R : Rules) (s : List ℕ) : Type 0 where
   pub tally : Tally
   pub text : List ℕ
@@ -67,14 +70,14 @@ abbrev pub as-fold-reading : Outcome → FoldReading
 as-fold-reading (refused n p) = fold-numbers n p none
 as-fold-reading (accepted t x) = fold-numbers 0 0 t
 
--- A fold at an entry point with this head: the checks of the head, then the commands at its limit.
-unfoldable pub fold-outcome : Head → Prices → List ℕ → Outcome
+-- A fold at an entry point with this head: the checks of the head, then the commands at its limit and these costs.
+unfoldable pub fold-outcome : Head → Tariff → List ℕ → Outcome
 unfolding headed read
-fold-outcome h P s = headed limits h (read (fold-rules (h .limit) P) s)
+fold-outcome h T s = headed limits h (read (fold-rules (allowed (h .limit) (T .marks)) (priced T)) s)
 
 -- A fold at a width limit, without costs.
 abbrev pub measured : List ℕ → (limit : ℕ) → Outcome
-measured s k = fold-outcome (limit-head k) free s
+measured s k = fold-outcome (limit-head k) no-costs s
 
 -- The greatest number that an operand of two bytes says. As a width limit it bars nothing: no width operand is over it.
 abbrev pub greatest-operand : ℕ
@@ -83,9 +86,9 @@ greatest-operand = 65535
 -- A fold at an entry point that takes neither limit nor costs: refusals 1, 3 to 6 and 8 to 10.
 unfoldable pub fold-alone : List ℕ → Outcome
 unfolding read
-fold-alone s = read (fold-rules greatest-operand free) s
+fold-alone s = read (fold-rules (at-most greatest-operand) free) s
 
 -- The fold reader.
 unfoldable pub fold-reading : List ℕ → (limit : ℕ) → Tariff → FoldReading
 unfolding fold-outcome
-fold-reading s k T = as-fold-reading (fold-outcome (full-head T k) (priced T) s)
+fold-reading s k T = as-fold-reading (fold-outcome (full-head T k) T s)

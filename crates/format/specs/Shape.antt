@@ -5,14 +5,14 @@ use mathlib.Core.List.{List}
 use Prim.Native.Nat.{ℕ, _≤_}
 use lib.ListN.{length}
 use Rattle.format.specs.Limits.{Prices}
-use Rattle.format.specs.Forest.{Forest, at-most, Coded, Sound, Plain, group-depth, repeat-depth, siblings, nodes, steps, cost, bytes, unroll}
+use Rattle.format.specs.Forest.{Forest, Coded, Sound, Plain, group-depth, repeat-depth, siblings, nodes, steps, cost, bytes, unroll}
 use Rattle.format.specs.Machine.{Rules}
 use Rattle.format.specs.declared.Tally.{Tally}
 
 -- A tree of the right shape for these rules.
 pub record Shaped (R : Rules) (f : Forest) : Type 0 where
   pub coded : Coded f
-  pub sound : Sound (at-most (R .widest)) f
+  pub sound : Sound (R .allowed) f
   pub plain : R .folds ≡ false → Plain f
   pub groups : group-depth f ≤ R .limits .groups
   pub repeats : repeat-depth f ≤ R .limits .repeats

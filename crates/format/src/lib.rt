@@ -3,12 +3,12 @@
 
 ghost use mathlib.Core.Path.{_≡_};
 ghost use Prim.Native.Nat.{_<_};
-ghost use Rattle.format.specs.Limits.{limits};
+ghost use Rattle.format.specs.Limits.{limits, marked-in};
 ghost use Rattle.format.specs.Machine.{none, first-of};
-ghost use Rattle.format.specs.Head.{head-checks};
+ghost use Rattle.format.specs.Head.{head-checks, marks-in-order};
 
 // What the format bounds: the nodes of a run, the groups and the repeats open at a time, the width limit; and the entries
-// that a cost table has.
+// that a cost table and the list of marks have.
 pub struct Limits {
     pub nodes: usize,
     pub groups: usize,
@@ -18,12 +18,13 @@ pub struct Limits {
 }
 
 // What is checked before the first command, of what an entry point takes: the entries of the two lent cost tables, that of
-// steps and that of groups, and the width limit. For a subject that it does not take, an entry point hands a value that no
-// check refuses.
+// steps and that of groups, the width limit, and whether the lent marks are in order. For a subject that it does not take, an
+// entry point hands a value that no check refuses.
 pub struct Head {
     pub steps: usize,
     pub groups: usize,
     pub limit: usize,
+    pub marks: bool,
 }
 
 // The format of runs and folds. A run is an ordered forest, a fold its repetition representation.
@@ -38,7 +39,7 @@ impl Format {
     pub const REPEATS: usize = 10;
     // The largest width limit.
     pub const WIDTH: usize = 1024;
-    // The entries of a cost table: one for each label.
+    // The entries of a cost table and of the marks: one for each label.
     pub const LABELS: usize = 256;
     // The greatest number that an operand of two bytes says.
     pub const GREATEST_OPERAND: usize = 65535;
@@ -81,7 +82,36 @@ pub fn wide_cost(x: u16) -> u64
     x as u64
 }
 
-// The refusal of a head: 11 for the table of steps, then 15 for that of groups, then 12 for the limit; 0 where none applies.
+// Whether a label is marked; those past the end of the marks are free.
+pub fn is_marked(marks: &[u8], label: u8) -> bool
+    ensures { λ r. ⌜ r ≡ marked-in (now (marks .entry)) label ⌝ }
+{
+    let at = wide(label);
+    if at < marks.len() {
+        return marks[at] == 1;
+    }
+    false
+}
+
+// Whether marks are in order: one for each label, and each is 0 or 1.
+pub fn marks_in_order(marks: &[u8]) -> bool
+    ensures { λ r. ⌜ r ≡ marks-in-order limits (now (marks .entry)) ⌝ }
+{
+    if marks.len() != Format::LABELS {
+        return false;
+    }
+    let mut i = 0;
+    while i < marks.len() {
+        if 1 < marks[i] {
+            return false;
+        }
+        i += 1;
+    }
+    true
+}
+
+// The refusal of a head: 11 for the table of steps, then 15 for that of groups, then 12 for the limit, then 18 for the marks;
+// 0 where none applies.
 pub fn head_refusal(bounds: Limits, head: Head) -> u8
     ensures { λ r. ⌜ r ≡ first-of (head-checks bounds head) ⌝ }
 {
@@ -93,6 +123,9 @@ pub fn head_refusal(bounds: Limits, head: Head) -> u8
     }
     if bounds.width < head.limit {
         return 12;
+    }
+    if !head.marks {
+        return 18;
     }
     0
 }

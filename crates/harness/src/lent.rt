@@ -120,22 +120,34 @@ pub fn fold_checked(
     limit: usize,
     steps: &[u16],
     groups: &[u16],
+    marks: &[u8],
     first: u16,
     each: u16,
     costs: &mut [u32],
     choices: &mut [u32],
     out: &mut [u8],
 ) -> Checked
-    ensures answered { λ r. ⌜ r .answer ≡ fold-answer (folding (now (run .entry)) limit (tariff (now (steps .entry)) (now (groups .entry)) first each)) (length (now (costs .entry))) (length (now (choices .entry))) (length (now (out .entry))) ⌝ }
-    ensures written { λ _. ⌜ now (out .exit) ≡ fold-output (folding (now (run .entry)) limit (tariff (now (steps .entry)) (now (groups .entry)) first each)) (length (now (costs .entry))) (length (now (choices .entry))) (filled-bytes (length (now (out .entry)))) ⌝ }
-    ensures costs_cleared { λ _. ⌜ now (costs .exit) ≡ fold-work (folding (now (run .entry)) limit (tariff (now (steps .entry)) (now (groups .entry)) first each)) (length (now (costs .entry))) (length (now (choices .entry))) (filled-words (length (now (costs .entry)))) ⌝ }
-    ensures choices_cleared { λ _. ⌜ now (choices .exit) ≡ fold-work (folding (now (run .entry)) limit (tariff (now (steps .entry)) (now (groups .entry)) first each)) (length (now (costs .entry))) (length (now (choices .entry))) (filled-words (length (now (choices .entry)))) ⌝ }
+    ensures answered { λ r. ⌜ r .answer ≡ fold-answer (folding (now (run .entry)) limit (tariff (now (steps .entry)) (now (groups .entry)) (now (marks .entry)) first each)) (length (now (costs .entry))) (length (now (choices .entry))) (length (now (out .entry))) ⌝ }
+    ensures written { λ _. ⌜ now (out .exit) ≡ fold-output (folding (now (run .entry)) limit (tariff (now (steps .entry)) (now (groups .entry)) (now (marks .entry)) first each)) (length (now (costs .entry))) (length (now (choices .entry))) (filled-bytes (length (now (out .entry)))) ⌝ }
+    ensures costs_cleared { λ _. ⌜ now (costs .exit) ≡ fold-work (folding (now (run .entry)) limit (tariff (now (steps .entry)) (now (groups .entry)) (now (marks .entry)) first each)) (length (now (costs .entry))) (length (now (choices .entry))) (filled-words (length (now (costs .entry)))) ⌝ }
+    ensures choices_cleared { λ _. ⌜ now (choices .exit) ≡ fold-work (folding (now (run .entry)) limit (tariff (now (steps .entry)) (now (groups .entry)) (now (marks .entry)) first each)) (length (now (costs .entry))) (length (now (choices .entry))) (filled-words (length (now (choices .entry)))) ⌝ }
     ensures looked_at { λ r. ⌜ (r .right ≡ true) ↔ LentAsSaid (now (run .entry)) (r .answer) (now (costs .exit)) (now (choices .exit)) (now (out .exit)) ⌝ }
 {
     fill_words(costs);
     fill_words(choices);
     fill_bytes(out);
-    let answer = fold(run, limit, steps, groups, first, each, costs, choices, out);
+    let answer = fold(
+        run,
+        limit,
+        steps,
+        groups,
+        marks,
+        first,
+        each,
+        costs,
+        choices,
+        out,
+    );
     let right = kept(run, answer, costs, choices, out);
     Checked { answer, right }
 }

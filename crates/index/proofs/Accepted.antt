@@ -4,7 +4,7 @@ use mathlib.Core.List.{List, map}
 use mathlib.Core.Option.{some}
 use Prim.Native.Nat.{ℕ}
 use lib.ListN.{length, getElem?}
-use Rattle.format.specs.Forest.{unroll, nodes, bytes}
+use Rattle.format.specs.Forest.{at-most, unroll, nodes, bytes}
 use Rattle.format.specs.Tree.{tree-of}
 use Rattle.format.specs.Machine.{accepted}
 use Rattle.format.specs.Order.{Bytes}
@@ -27,7 +27,7 @@ pub record AcceptedFold (s : List ℕ) (t : Tally) (x : List ℕ) : Type 0 where
 pub accepted-fold : (s : List ℕ) → Bytes s → (t : Tally) (x : List ℕ) → fold-alone s ≡ accepted t x → AcceptedFold s t x
 unfolding fold-alone tally-of
 accepted-fold s small t x e =
-    let a = parses (fold-rules greatest-operand free) s small t x e in
+    let a = parses (fold-rules (at-most greatest-operand) free) s small t x e in
     let same : a .tree ≡ tree-of s = sym (tree-of-bytes (a .tree)) ∙ ap tree-of (a .form) in
     record {
       was-read = record {

@@ -7,7 +7,7 @@ use Prim.Native.Nat.{ℕ, suc, _+_, _-_, _≤_, _<_}
 use native.Mathlib.Omega.{arith}
 use lib.ListN.{length, getD, drop, getElem?}
 use borrow.Author.Tests.{lt-ltb, le-ltb}
-use Rattle.format.specs.Limits.{limits}
+use Rattle.format.specs.Limits.{limits, at-most}
 use Rattle.format.specs.Forest.{Forest, end, step, group, repeat, join, nodes, bytes}
 use Rattle.format.specs.Tree.{tree-of}
 use Rattle.format.specs.Machine.{Outcome, refused, accepted}
@@ -112,7 +112,7 @@ module _ (s : List ℕ) (small : Bytes s) (offsets before : List ℕ) (n : ℕ) 
           rw f
           (record {
             run = x;
-            means = accepted-means (limits .width) free s small t x (alone-well-formed s small t x .0 q);
+            means = accepted-means (at-most (limits .width)) free s small t x (alone-well-formed s small t x .0 q);
             node = rw (← written-run s small t x q) (nth-map (λ (w : Written). w .node) (written-by s) n ∙ rw v);
             stands = written-stands s small t x q n w v;
           })

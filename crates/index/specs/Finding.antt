@@ -5,7 +5,7 @@ use mathlib.Core.List.{List}
 use mathlib.Core.Option.{Option, none, some}
 use Prim.Native.Nat.{ℕ}
 use lib.ListN.{getElem?}
-use Rattle.format.specs.Limits.{limits}
+use Rattle.format.specs.Limits.{limits, at-most}
 use Rattle.format.specs.Machine.{Outcome, refused, accepted}
 use Rattle.format.specs.Readings.{fold-alone}
 use Rattle.format.specs.Meaning.{Means}
@@ -33,6 +33,6 @@ find-answer s offsets before n = finding (fold-alone s) (is-index (index-of s) o
 -- at the position, in the order of its bytes; and in the fold that command starts at the offset, with that label.
 pub record AtPosition (s : List ℕ) (position : ℕ) (r : Found) : Type 0 where
   pub run : List ℕ
-  pub means : Means (limits .width) s run
+  pub means : Means (at-most (limits .width)) s run
   pub node : getElem? (nodes-of run) position ≡ some (record { command = r .command; label = r .label })
   pub stands : StandsIn s (written (r .command) (r .label) (r .offset))

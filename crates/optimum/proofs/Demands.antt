@@ -6,7 +6,7 @@ use native.Mathlib.Nat.{mul-le-mul-left}
 use mathlib.Core.Bool.{false≢true}
 use native.Mathlib.Omega.{arith}
 use lib.ListN.{length}
-use Rattle.format.specs.Limits.{limits, Prices}
+use Rattle.format.specs.Limits.{limits, Prices, Tariff, priced, allowed}
 use Rattle.format.specs.Order.{Bytes}
 use Rattle.format.specs.Forest.{Forest, end, step, group, repeat, join, copies, unroll, nodes, cost, bytes, Allowed, at-most, Sound, Coded, group-depth, widest-of}
 use Rattle.format.specs.Machine.{accepted, read}
@@ -16,6 +16,7 @@ use Rattle.format.specs.Tree.{tree-of}
 use Rattle.format.specs.declared.Tally.{Tally}
 use Rattle.format.proofs.Forests.{nodes-unroll, group-depth-join, coded-bytes}
 use Rattle.format.proofs.Bridge.{accepts, parses, bytes-injective, sound-widest, sound-within}
+use Rattle.format.proofs.Marks.{sound-plain}
 use Rattle.format.proofs.Depth.{depth-fits, siblings-nodes}
 use Rattle.format.proofs.Tree.{tree-of-bytes}
 use Rattle.optimum.specs.Optimal.{FoldOf}
@@ -25,7 +26,7 @@ use Rattle.optimum.specs.Demands.{FoldWithin, CheapestWithin}
 use Rattle.optimum.proofs.Fewest.{repeats-bytes, leads-cost, preferred-first, preferred-short}
 
 -- What a joined sequence has, its parts have.
-coded-parts : (f g : Forest) → Coded (join f g) → Coded f × Coded g
+pub coded-parts : (f g : Forest) → Coded (join f g) → Coded f × Coded g
 unfolding join
 coded-parts end g c = (tt, c)
 coded-parts (step l f) g c = let k = coded-parts f g (c .1) in ((c .0, k .0), k .1)
@@ -59,74 +60,78 @@ depth-fold A (repeat (suc h) w b f) s =
     omega (arith, group-depth-join (copies (suc h) (unroll b)) (unroll f), group-depth-join (unroll b) (copies h (unroll b)), depth-fold A b (s .1), depth-fold A f (s .2))
 
 -- A fold of an accepted run is of the right shape for the fold reader at any limit that its widths are within.
-pub fold-shaped : (k : ℕ) (P : Prices) (u f : Forest) → Shaped run-rules u → FoldOf (at-most k) u f → Shaped (fold-rules k P) f
-fold-shaped k P u f s o =
+pub fold-shaped : (A : Allowed) (P : Prices) (u f : Forest) → Shaped run-rules u → FoldOf A u f → Shaped (fold-rules A P) f
+fold-shaped A P u f s o =
     let e = o .unrolls in
     let n : nodes f ≤ limits .nodes = omega (arith, nodes-unroll f, ap nodes e, s .total) in
     let c : Coded (unroll f) = rw e (s .coded) in
     record {
-      coded = coded-fold (at-most k) f (o .sound) (omega arith) c;
+      coded = coded-fold A f (o .sound) (omega arith) c;
       sound = o .sound;
       plain = λ z. absurd (false≢true (sym z));
-      groups = omega (arith, depth-fold (at-most k) f (o .sound), ap group-depth e, s .groups);
-      repeats = depth-fits (at-most k) f (o .sound) n;
+      groups = omega (arith, depth-fold A f (o .sound), ap group-depth e, s .groups);
+      repeats = depth-fits A f (o .sound) n;
       total = n;
     }
 
 -- Bytes that are a fold of the run within the limit are the byte form of a fold of its tree.
-module _ (k : ℕ) (P : Prices) (u : Forest) (g : List ℕ) (c : ℕ) (small : Bytes g) (w : FoldWithin (bytes u) k (format-rules P) g c) where
-  pub form : Reads (format-rules P) g (w .formed .tally) (bytes u)
+module _ (k : ℕ) (T : Tariff) (u : Forest) (g : List ℕ) (c : ℕ) (small : Bytes g) (w : FoldWithin (bytes u) k (format-rules T) g c) where
+  pub form : Reads (format-rules T) g (w .formed .tally) (bytes u)
   form =
       let r = w .formed in
-      parses (format-rules P) g small (r .tally) (bytes u) (rw (w .unrolls) at (r .reading))
+      parses (format-rules T) g small (r .tally) (bytes u) (rw (w .unrolls) at (r .reading))
 
-  pub tree-fold : FoldOf (at-most k) u (form .tree)
+  pub tree-fold : FoldOf (allowed k (T .marks)) u (form .tree)
   tree-fold =
       let f = form .tree in
       let e : tree-of g ≡ f = ap tree-of (sym (form .form)) ∙ tree-of-bytes f in
       let n : widest-of f ≤ k = rw e at (w .within) in
       record {
-        sound = sound-within (at-most (limits .width)) (at-most k) f n (form .shape .sound);
+        sound = sound-within (allowed (limits .width) (T .marks)) (allowed k (T .marks)) (λ b z. z) f n (form .shape .sound);
         unrolls = bytes-injective (unroll f) u (form .text);
       }
 
-  pub tree-cost : cost P (form .tree) ≡ c
+  pub tree-cost : cost (priced T) (form .tree) ≡ c
   unfolding tally-of
   tree-cost = ap (λ (t : Tally). t .cost) (form .counts) ∙ w .costs
 
--- A run is one at any limit.
-pub shaped-run : (k : ℕ) (u : Forest) → Shaped run-rules u → Run (at-most k) u
-shaped-run k u run =
-    let s = run .sound in
-    record { plain = run .plain refl; sound = sound-within (at-most 0) (at-most k) u (omega (arith, sound-widest (at-most 0) u s)) s }
+-- A run is one whatever repeats are allowed.
+pub shaped-run : (A : Allowed) (u : Forest) → Shaped run-rules u → Run A u
+shaped-run A u run =
+    let p = run .plain refl in
+    record { plain = p; sound = sound-plain (at-most 0) A u p (run .sound) }
 
 -- The preferred fold of a run's tree is the cheapest of all bytes.
-module _ (k : ℕ) (narrow : k ≤ limits .width) (P : Prices) (u : Forest) (run : Shaped run-rules u) where
+module _ (k : ℕ) (narrow : k ≤ limits .width) (T : Tariff) (u : Forest) (run : Shaped run-rules u) where
   abbrev A : Allowed
-  A = at-most k
+  A = allowed k (T .marks)
+
+  abbrev P : Prices
+  P = priced T
 
   best : Preferred A P u (preferred A P u)
-  best = preferred-first A P u (shaped-run k u run)
+  best = preferred-first A P u (shaped-run A u run)
 
   -- The byte form of any fold of the tree is a fold of the run within the limit.
-  pub is-fold : (f : Forest) → FoldOf A u f → FoldWithin (bytes u) k (format-rules P) (bytes f) (cost P f)
+  pub is-fold : (f : Forest) → FoldOf A u f → FoldWithin (bytes u) k (format-rules T) (bytes f) (cost P f)
   unfolding tally-of
   is-fold f o =
-      let wide : FoldOf (at-most (limits .width)) u f =
-      record { sound = sound-within A (at-most (limits .width)) f (omega (arith, sound-widest A f (o .sound))) (o .sound); unrolls = o .unrolls } in
+      let widest : Allowed = allowed (limits .width) (T .marks) in
+      let wide : FoldOf widest u f =
+      record { sound = sound-within A widest (λ b z. z) f (omega (arith, sound-widest A f (o .sound))) (o .sound); unrolls = o .unrolls } in
       record {
         formed = record {
           tally = tally-of P f;
           text = bytes (unroll f);
-          reading = accepts (format-rules P) f (fold-shaped (limits .width) P u f run wide);
+          reading = accepts (format-rules T) f (fold-shaped widest P u f run wide);
         };
         unrolls = ap bytes (o .unrolls);
         within = rw tree-of-bytes (sound-widest A f (o .sound));
         costs = refl;
       }
 
-  against : (g : List ℕ) (c : ℕ) (z : Bytes g) (w : FoldWithin (bytes u) k (format-rules P) g c) → Leads P (preferred A P u) (form k P u g c z w .tree)
-  against g c z w = best .leads (form k P u g c z w .tree) (tree-fold k P u g c z w)
+  against : (g : List ℕ) (c : ℕ) (z : Bytes g) (w : FoldWithin (bytes u) k (format-rules T) g c) → Leads P (preferred A P u) (form k T u g c z w .tree)
+  against g c z w = best .leads (form k T u g c z w .tree) (tree-fold k T u g c z w)
 
   before : {f : Forest} (g : List ℕ) → bytes f ≡ g → (g ≡ bytes (preferred A P u) → ⊥) → cost P f ≡ cost P (preferred A P u) → Leads P (preferred A P u) f
       → ComesFirst (bytes (preferred A P u)) g
@@ -135,12 +140,12 @@ module _ (k : ℕ) (narrow : k ≤ limits .width) (P : Prices) (u : Forest) (run
   before g m n e (itself q) = absurd (n (sym m ∙ ap bytes (sym q)))
   before {f} g m n e (by-bytes l r b) = as-many (omega (arith, r, repeats-bytes (preferred A P u), repeats-bytes f, ap repeats-in m)) (rw m at b)
 
-  pub cheapest-within : CheapestWithin (bytes u) k (format-rules P) (bytes (preferred A P u)) (cost P (preferred A P u))
+  pub cheapest-within : CheapestWithin (bytes u) k (format-rules T) (bytes (preferred A P u)) (cost P (preferred A P u))
   cheapest-within =
       record {
         fold = is-fold (preferred A P u) (best .fold);
-        no-cheaper = λ g c z w. omega (arith, tree-cost k P u g c z w, leads-cost (against g c z w));
-        first = λ g c z w e n. before g (form k P u g c z w .form) n (tree-cost k P u g c z w ∙ e) (against g c z w);
+        no-cheaper = λ g c z w. omega (arith, tree-cost k T u g c z w, leads-cost (against g c z w));
+        first = λ g c z w e n. before g (form k T u g c z w .form) n (tree-cost k T u g c z w ∙ e) (against g c z w);
       }
 
 -- The tree of an accepted run.
@@ -162,22 +167,22 @@ module _ (s : List ℕ) (small : Bytes s) (t : Tally) (x : List ℕ) (run : read
   run-nodes = ap (λ (y : Tally). y .nodes) (sym (spelled .counts)) ∙ ap nodes (sym tree-is)
 
   -- Its preferred fold has at most four bytes for each node.
-  pub cheapest-room : (k : ℕ) (P : Prices) → length (bytes (preferred (at-most k) P (tree-of s))) ≤ 4 * t .nodes
-  cheapest-room k P = omega (arith, run-nodes, preferred-short (at-most k) P (tree-of s) (shaped-run k (tree-of s) run-shape))
+  pub cheapest-room : (A : Allowed) (P : Prices) → length (bytes (preferred A P (tree-of s))) ≤ 4 * t .nodes
+  cheapest-room A P = omega (arith, run-nodes, preferred-short A P (tree-of s) (shaped-run A (tree-of s) run-shape))
 
   -- A run has few nodes.
   pub run-few : t .nodes ≤ limits .nodes
   run-few = omega (arith, run-nodes, run-shape .total)
 
   -- The byte form of the preferred fold is bytes.
-  pub cheapest-small : (k : ℕ) → k ≤ limits .width → (P : Prices) → Bytes (bytes (preferred (at-most k) P (tree-of s)))
-  cheapest-small k narrow P =
-      let f = preferred (at-most k) P (tree-of s) in
-      coded-bytes f (fold-shaped k P (tree-of s) f run-shape (best k narrow P (tree-of s) run-shape .fold) .coded)
+  pub cheapest-small : (A : Allowed) (P : Prices) → Bytes (bytes (preferred A P (tree-of s)))
+  cheapest-small A P =
+      let f = preferred A P (tree-of s) in
+      coded-bytes f (fold-shaped A P (tree-of s) f run-shape (preferred-first A P (tree-of s) (shaped-run A (tree-of s) run-shape) .fold) .coded)
 
   -- DEMANDS 2 AND 3: the preferred fold of the tree of an accepted run is the cheapest of all bytes.
-  pub cheapest-bytes : (k : ℕ) → k ≤ limits .width → (P : Prices)
-      → CheapestWithin s k (format-rules P) (bytes (preferred (at-most k) P (tree-of s))) (cost P (preferred (at-most k) P (tree-of s)))
-  cheapest-bytes k narrow P =
-      subst (λ (r : List ℕ). CheapestWithin r k (format-rules P) (bytes (preferred (at-most k) P (tree-of s))) (cost P (preferred (at-most k) P (tree-of s))))
-      run-form (cheapest-within k narrow P (tree-of s) run-shape)
+  pub cheapest-bytes : (k : ℕ) → k ≤ limits .width → (T : Tariff) → (let f = preferred (allowed k (T .marks)) (priced T) (tree-of s) in
+      CheapestWithin s k (format-rules T) (bytes f) (cost (priced T) f))
+  cheapest-bytes k narrow T =
+      let f = preferred (allowed k (T .marks)) (priced T) (tree-of s) in
+      subst (λ (r : List ℕ). CheapestWithin r k (format-rules T) (bytes f) (cost (priced T) f)) run-form (cheapest-within k narrow T (tree-of s) run-shape)

@@ -3,9 +3,10 @@ use mathlib.Core.Path.{_≡_, refl, sym, ap, _∙_}
 use Prim.Native.Nat.{ℕ, zero, suc, _*_, _<_}
 use native.Mathlib.Nat.{mul-le-mul}
 use native.Mathlib.Omega.{arith}
-use Rattle.format.specs.Forest.{Forest, end, step, group, repeat, join, copies, unroll, siblings, nodes, bytes, Plain, Allowed, Repeats, Sound}
+use Rattle.format.specs.Forest.{Forest, end, step, group, repeat, join, copies, unroll, siblings, nodes, bytes, holds, Plain, Allowed, Repeats, Sound}
 use Rattle.format.specs.Order.{Before, here, there}
 use Rattle.format.proofs.Forests.{join-assoc, siblings-unroll, unroll-plain, plain-unroll, plain-copies, siblings-copies, sound-unroll}
+use Rattle.format.proofs.Marks.{holds-unroll}
 use Rattle.optimum.specs.Optimal.{FoldOf}
 use Rattle.optimum.specs.Cheapest.{Run, front, back, Power, Candidate, plain, power, build}
 use Rattle.optimum.proofs.Cut.{join-cut, front-join, back-join, siblings-back, siblings-front, nodes-cut, siblings-le-nodes, run-front, run-back}
@@ -61,10 +62,17 @@ power-rest-less {t = t} {h = h} {w = w} q p =
     omega (arith, nodes-cut (h * w) t, siblings-le-nodes (front (h * w) t) (run-front (h * w) q .plain))
 
 -- Whether a body may be repeated is a matter of what it unrolls to.
-repeats-same : {A : Allowed} {h w : ℕ} (b x : Forest) → unroll b ≡ unroll x → Repeats A h w b → Repeats A h w x
-repeats-same b x e r =
+repeats-same : {A : Allowed} {h w : ℕ} (b x : Forest) → Sound A b → Sound A x → unroll b ≡ unroll x → Repeats A h w b → Repeats A h w x
+repeats-same {A} b x p q e r =
     let n : siblings b ≡ siblings x = cc (siblings-unroll b, siblings-unroll x) in
-    record { twice = r .twice; true-width = sym n ∙ r .true-width; within = r .within; some = rw n at (r .some) }
+    let m : holds (A .marked) b ≡ holds (A .marked) x = cc (holds-unroll (A .marked) A b p, holds-unroll (A .marked) A x q) in
+    record {
+      twice = r .twice;
+      true-width = sym n ∙ r .true-width;
+      within = r .within;
+      some = rw n at (r .some);
+      unmarked = sym m ∙ r .unmarked;
+    }
 
 -- A fold that begins with a repeat: the repeat may stand there, its body and the rest are folds of the parts; and back.
 pub record Parts (A : Allowed) (t : Forest) (h w : ℕ) (b f : Forest) : Type 0 where
@@ -78,7 +86,7 @@ whole {t = t} {h = h} {w = w} {b = b} r p =
     let x = p .body .unrolls in
     let same : unroll (front w t) ≡ unroll b = unroll-plain (front w t) (run-front w r .plain) ∙ sym x in
     record {
-      sound = (repeats-same (front w t) b same (p .first .repeats), p .body .sound, p .rest .sound);
+      sound = (repeats-same (front w t) b (run-front w r .sound) (p .body .sound) same (p .first .repeats), p .body .sound, p .rest .sound);
       unrolls = rw (x, p .rest .unrolls, ← (p .first .copied)) (join-cut (h * w) t);
     }
 
@@ -94,7 +102,7 @@ parts-own A (suc h) w b f s =
     ap (front w) (join-assoc x (copies h x) (unroll f)) ∙ front-join w x (join (copies h x) (unroll f)) (plain-unroll b) n in
     let all = front-join (suc h * w) (copies (suc h) x) (unroll f) q k in
     let rest = back-join (suc h * w) (copies (suc h) x) (unroll f) q k in
-    let may = repeats-same b x (sym (unroll-plain x (plain-unroll b))) (s .0) in
+    let may = repeats-same b x (s .1) (sound-unroll A b (s .1)) (sym (unroll-plain x (plain-unroll b))) (s .0) in
     record {
       first = record { repeats = rw body may; copied = all ∙ ap (copies (suc h)) (sym body) };
       body = record { sound = s .1; unrolls = sym body };

@@ -14,4 +14,5 @@ pub mod Fewest
 pub mod Demands
 pub mod Minimum
 pub mod OneTable
+pub mod AllMarked
 pub mod Known

@@ -1,13 +1,15 @@
 -- Copies at the beginning of a run: one equation for them, how they are found sibling by sibling, how far they reach.
 use mathlib.Core.Path.{_≡_, sym, ap, _∙_}
+use mathlib.Core.Bool.{Bool, false}
 use Prim.Native.Nat.{ℕ, zero, suc, _+_, _-_, _*_, _≤_, _<_, min}
 use native.Mathlib.Nat.{suc-mul, le-mul-of-pos-right, mul-le-mul-right}
 use native.Mathlib.Numerals.{add-one}
 use native.Mathlib.Omega.{arith}
-use Rattle.format.specs.Forest.{Forest, join, copies, siblings, Plain, Allowed}
+use Rattle.format.specs.Forest.{Forest, join, copies, siblings, holds, Plain, Allowed}
 use Rattle.format.proofs.Forests.{join-end, siblings-copies, plain-copies, copies-add}
-use Rattle.optimum.specs.Cheapest.{Run, front, back, node, Power, Candidate, plain, power, Bases, usual, own, Spans}
-use Rattle.optimum.proofs.Cut.{front-front, back-front, back-back, back-swap, front-add, front-join, back-join, siblings-cut, siblings-front, siblings-front-le, run-front}
+use Rattle.format.proofs.Marks.{holds-left, holds-right, holds-both, unmarked-copies}
+use Rattle.optimum.specs.Cheapest.{Run, front, back, node, FreeCopy, Power, Candidate, plain, power, Bases, usual, own, Spans}
+use Rattle.optimum.proofs.Cut.{join-cut, front-front, back-front, back-back, back-swap, front-add, front-join, back-join, siblings-cut, siblings-front, siblings-front-le, run-front}
 
 -- A sibling of a part.
 pub node-front : (j n : ℕ) (t : Forest) → j < n → node j (front n t) ≡ node j t
@@ -45,6 +47,24 @@ shift-from-copied g w t p s e =
     ∙ ap (back w) (sym e)
     ∙ back-front w (g * w) (suc g * w) t (omega (arith, suc-mul g w))
 
+-- Free copies: of a shorter beginning, of what follows, of one sibling, and of one sibling more.
+module _ (m : ℕ → Bool) where
+  pub unmarked-front : (i n : ℕ) (t : Forest) → i ≤ n → holds m (front n t) ≡ false → holds m (front i t) ≡ false
+  unmarked-front i n t l e = holds-left m (front i t) (front (n - i) (back i t)) (rw (front-add i (n - i) n t (omega arith)) at e)
+
+  pub free-less : (i n : ℕ) (s t : Forest) → i ≤ n → FreeCopy m (front n s) (front n t) → FreeCopy m (front i s) (front i t)
+  free-less i n s t l c =
+      record { same = front-less i (n - i) n s t (omega arith) (c .same); unmarked = unmarked-front i n s l (c .unmarked) }
+
+  pub free-back : (n : ℕ) (x y : Forest) → FreeCopy m x y → FreeCopy m (back n x) (back n y)
+  free-back n x y c =
+      record { same = ap (back n) (c .same); unmarked = holds-right m (front n x) (back n x) (rw (join-cut n x) (c .unmarked)) }
+
+  pub free-node : (k d : ℕ) (s t : Forest) → k < d → FreeCopy m (front d s) (front d t) → FreeCopy m (node k s) (node k t)
+  free-node k d s t l c =
+      let cut : (x : Forest) → back k (front d x) ≡ front (d - k) (back k x) = λ x. back-front k (d - k) d x (omega arith) in
+      free-less 1 (d - k) (back k s) (back k t) (omega arith) (rw (cut s, cut t) at (free-back k (front d s) (front d t) c))
+
 -- One sibling more that equals the one w further on.
 pub shift-grow : (k w : ℕ) (t : Forest) → node 0 t ≡ node w t → front k (back 1 t) ≡ front k (back w (back 1 t))
     → front (suc k) t ≡ front (suc k) (back w t)
@@ -53,18 +73,41 @@ shift-grow k w t a b =
     let first : front 1 t ≡ front 1 (back w t) = a in
     cc (front-add 1 k (suc k) t (omega arith), front-add 1 k (suc k) (back w t) (omega arith), back-swap w 1 t)
 
--- A repeat of count h = g + 1 may stand first exactly where the siblings equal those w further on for at least g × w.
+pub free-grow : (m : ℕ → Bool) (k w : ℕ) (t : Forest) → FreeCopy m (node 0 t) (node w t)
+    → FreeCopy m (front k (back 1 t)) (front k (back w (back 1 t))) → FreeCopy m (front (suc k) t) (front (suc k) (back w t))
+unfolding back
+free-grow m k w t a b =
+    record {
+      same = shift-grow k w t (a .same) (b .same);
+      unmarked = rw (front-add 1 k (suc k) t (omega arith)) (holds-both m (front 1 t) (front k (back 1 t)) (a .unmarked) (b .unmarked));
+    }
+
+-- A repeat of count h = g + 1 may stand first exactly where the siblings equal those w further on for at least g × w, and are free.
 pub power-from-shift : {A : Allowed} {t : Forest} (g h w k : ℕ) → Run A t → suc g ≡ h → 0 < g → 0 < w → w ≤ A .widest
-    → h * w ≤ siblings t → g * w ≤ k → front k t ≡ front k (back w t) → Power A t h w
-power-from-shift {t = t} g h w k r e i j within fits l s =
-    let c = copied-from-shift g w t (front-less (g * w) (k - g * w) k t (back w t) (omega arith) s) in
+    → h * w ≤ siblings t → g * w ≤ k → FreeCopy (A .marked) (front k t) (front k (back w t)) → Power A t h w
+power-from-shift {A} {t = t} g h w k r e i j within fits l s =
+    let c = copied-from-shift g w t (front-less (g * w) (k - g * w) k t (back w t) (omega arith) (s .same)) in
+    let one : 1 * w ≤ g * w = mul-le-mul-right w i in
     let fits′ : suc g * w ≤ siblings t = rw e fits in
     let n = siblings-front w t (r .plain) (omega (arith, suc-mul g w)) in
-    record { repeats = record { twice = omega arith; true-width = n; within = within; some = omega arith }; copied = rw e at c }
+    record {
+      repeats = record {
+        twice = omega arith;
+        true-width = n;
+        within = within;
+        some = omega arith;
+        unmarked = unmarked-front (A .marked) w k t (omega arith) (s .unmarked);
+      };
+      copied = rw e at c;
+    }
 
 pub shift-from-power : {A : Allowed} {t : Forest} (g h w : ℕ) → Run A t → suc g ≡ h → Power A t h w
-    → front (g * w) t ≡ front (g * w) (back w t)
-shift-from-power {t = t} g h w r e p = shift-from-copied g w t (run-front w r .plain) (p .repeats .true-width) (rw e (p .copied))
+    → FreeCopy (A .marked) (front (g * w) t) (front (g * w) (back w t))
+shift-from-power {A} {t = t} g h w r e p =
+    record {
+      same = shift-from-copied g w t (run-front w r .plain) (p .repeats .true-width) (rw e (p .copied));
+      unmarked = unmarked-front (A .marked) (g * w) (h * w) t (omega (arith, rw e at (suc-mul g w))) (rw (p .copied) (unmarked-copies (A .marked) h (front w t) (p .repeats .unmarked)));
+    }
 
 -- How far the copies reach, and how large their count and width can be.
 pub record Reach (t : Forest) (h w : ℕ) : Type 0 where

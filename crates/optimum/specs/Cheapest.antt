@@ -1,10 +1,11 @@
 -- The cheapest fold as a function that computes: the first item is the plain node or a repeat, by the least rank, and its
 -- parts and the rest are cheapest folds again.
 use mathlib.Core.Path.{_≡_}
+use mathlib.Core.Bool.{Bool, false, Bool-discrete}
 use Prim.Native.Nat.{ℕ, zero, suc, _+_, _*_, _/_, _≤_, _<_}
 use native.Mathlib.Decide.{ℕ-discrete, decLe, decLt}
 use Rattle.format.specs.Limits.{Prices, of-repeat}
-use Rattle.format.specs.Forest.{Forest, end, step, group, repeat, copies, siblings, nodes, cost, Plain, Allowed, Repeats, Sound, Forest-discrete}
+use Rattle.format.specs.Forest.{Forest, end, step, group, repeat, copies, siblings, nodes, cost, holds, Plain, Allowed, Repeats, Sound, Forest-discrete}
 
 -- A run: no repeat, no empty group.
 pub record Run (A : Allowed) (t : Forest) : Type 0 where
@@ -29,6 +30,11 @@ back (suc n) (repeat h w b f) = back n f
 -- The sibling of number i, from 0, as a sequence of one.
 abbrev pub node : ℕ → Forest → Forest
 node i t = front 1 (back i t)
+
+-- Two sequences are equal and hold no marked label, so that a repeat may write one as a copy of the other.
+pub record FreeCopy (marked : ℕ → Bool) (x y : Forest) : Type 0 where
+  pub same : x ≡ y
+  pub unmarked : holds marked x ≡ false
 
 -- A repeat of count h and width w may stand first: the first h × w siblings are h copies of the first w.
 pub record Power (A : Allowed) (t : Forest) (h w : ℕ) : Type 0 where
@@ -108,12 +114,13 @@ lesser P B x y = keep (decLt (score P B y) (score P B x)) x y
 
 -- Whether a body may be repeated, and whether a repeat may stand first.
 unfoldable pub repeats-by : {A : Allowed} {h w : ℕ} {b : Forest} → Dec (2 ≤ h) → Dec (siblings b ≡ w) → Dec (w ≤ A .widest)
-    → Dec (0 < siblings b) → Dec (Repeats A h w b)
-repeats-by (yes p) (yes q) (yes r) (yes s) = yes (record { twice = p; true-width = q; within = r; some = s })
-repeats-by (yes p) (yes q) (yes r) (no n) = no (λ x. n (x .some))
-repeats-by (yes p) (yes q) (no n) d = no (λ x. n (x .within))
-repeats-by (yes p) (no n) d e = no (λ x. n (x .true-width))
-repeats-by (no n) d e f = no (λ x. n (x .twice))
+    → Dec (0 < siblings b) → Dec (holds (A .marked) b ≡ false) → Dec (Repeats A h w b)
+repeats-by (yes p) (yes q) (yes r) (yes s) (yes u) = yes (record { twice = p; true-width = q; within = r; some = s; unmarked = u })
+repeats-by (yes p) (yes q) (yes r) (yes s) (no n) = no (λ x. n (x .unmarked))
+repeats-by (yes p) (yes q) (yes r) (no n) d = no (λ x. n (x .some))
+repeats-by (yes p) (yes q) (no n) d e = no (λ x. n (x .within))
+repeats-by (yes p) (no n) d e f = no (λ x. n (x .true-width))
+repeats-by (no n) d e f g = no (λ x. n (x .twice))
 
 unfoldable pub power-by : {A : Allowed} {t : Forest} {h w : ℕ} → Dec (Repeats A h w (front w t))
     → Dec (front (h * w) t ≡ copies h (front w t)) → Dec (Power A t h w)
@@ -122,10 +129,10 @@ power-by (yes p) (no n) = no (λ x. n (x .copied))
 power-by (no n) d = no (λ x. n (x .repeats))
 
 unfoldable pub power-dec : (A : Allowed) (t : Forest) (h w : ℕ) → Dec (Power A t h w)
-unfolding repeats-by power-by decLe decLt ℕ-discrete siblings front copies
+unfolding repeats-by power-by decLe decLt ℕ-discrete siblings holds front copies
 power-dec A t h w =
     let n = siblings (front w t) in
-    power-by (repeats-by (decLe 2 h) (ℕ-discrete n w) (decLe w (A .widest)) (decLt 0 n))
+    power-by (repeats-by (decLe 2 h) (ℕ-discrete n w) (decLe w (A .widest)) (decLt 0 n) (Bool-discrete (holds (A .marked) (front w t)) false))
     (Forest-discrete ℕ-discrete (front (h * w) t) (copies h (front w t)))
 
 -- The better of a choice and the repeat (h, w), if that may stand first.

@@ -3,18 +3,18 @@ use mathlib.Core.Path.{_≡_}
 use mathlib.Core.List.{List}
 use Prim.Native.Nat.{ℕ, _<_, _≤_}
 use lib.ListN.{length}
-use Rattle.format.specs.Limits.{Prices}
+use Rattle.format.specs.Limits.{Tariff, priced, allowed}
 use Rattle.format.specs.Order.{Bytes}
 use Rattle.format.specs.Forest.{widest-of}
 use Rattle.format.specs.Machine.{Rules}
 use Rattle.format.specs.Readings.{WellFormed}
 use Rattle.format.specs.Tree.{tree-of}
-use Rattle.format.specs.Meaning.{Letter, Means, report-of, report-size}
+use Rattle.format.specs.Meaning.{Letter, NoneRepeated, Means, report-of, report-size}
 use Rattle.format.specs.Report.{RRT, Valid, WidthAtMost, Represents}
 use Rattle.optimum.specs.Fewest.{ComesFirst}
 
--- The bytes g are a fold of the run within the limit, of this cost: they are well formed by the rules, they unroll to the
--- run byte for byte, no width operand passes the limit, and the cost is the one that is read.
+-- The bytes g are a fold of the run within the limit, of this cost: they are well formed by the rules, marks among these, they
+-- unroll to the run byte for byte, no width operand passes the limit, and the cost is the one that is read.
 pub record FoldWithin (run : List ℕ) (limit : ℕ) (R : Rules) (g : List ℕ) (cost : ℕ) : Type 0 where
   pub formed : WellFormed R g
   pub unrolls : formed .text ≡ run
@@ -36,9 +36,9 @@ pub record CheapestOver (room : ℕ) (run : List ℕ) (limit : ℕ) (R : Rules) 
   pub cheapest : CheapestWithin run limit R fold cost
   pub longer : room < length fold
 
--- The report's own problem (minimum width-k repetition representation tree): the tree of f is of width k and represents the
--- tree of the run, and no tree of width k that represents it is smaller, the prices as weights.
-pub record MinimumTree (run : List ℕ) (k : ℕ) (P : Prices) (f : List ℕ) : Type 0 where
-  pub means : Means k f run
-  pub smallest : (r : RRT Letter) → Valid r → WidthAtMost k r → Represents r (report-of run)
-      → report-size P (report-of f) ≤ report-size P r
+-- The report's own problem (minimum width-k repetition representation tree) under the marks: the tree of f is of width k, repeats no
+-- marked letter and represents the tree of the run, and no such tree is smaller, the prices as weights.
+pub record MinimumTree (run : List ℕ) (k : ℕ) (T : Tariff) (f : List ℕ) : Type 0 where
+  pub means : Means (allowed k (T .marks)) f run
+  pub smallest : (r : RRT Letter) → Valid r → WidthAtMost k r → NoneRepeated (allowed k (T .marks) .marked) r
+      → Represents r (report-of run) → report-size (priced T) (report-of f) ≤ report-size (priced T) r

@@ -1,20 +1,21 @@
--- The known folds of docs/FORMAT.md that the checker computes, in one table with one statement, and a few more that pin prices
--- and ties.
+-- The known folds of docs/FORMAT.md that the checker computes, in one table with one statement, and a few more that pin prices,
+-- ties and marks.
 use mathlib.Core.Path.{_≡_}
 use mathlib.Core.List.{List, [], _∷_, _++_, map}
 use Prim.Native.Nat.{ℕ}
-use Rattle.format.specs.Limits.{Prices, tariff, priced}
-use Rattle.format.specs.Forest.{bytes, at-most, cost}
+use Rattle.format.specs.Limits.{Tariff, tariff, priced, allowed}
+use Rattle.format.specs.Forest.{bytes, cost}
 use Rattle.format.specs.Machine.{Outcome, refused, accepted, read, times}
 use Rattle.format.specs.Readings.{run-rules, fold-rules}
+use Rattle.format.specs.Marks.{free-marks, mark-of, all-marks}
 use Rattle.format.specs.Tree.{tree-of}
 use Rattle.optimum.specs.Fewest.{preferred}
 use Rattle.optimum.specs.Verdict.{Verdict, refuses, folds, verdict}
 
--- What is asked at a width limit and prices: the cheapest fold of a run, or what a fold reads as.
+-- What is asked at a width limit and costs: the cheapest fold of a run, or what a fold reads as.
 pub data Asked : Type 0 where
-  run : (limit : ℕ) → Prices → List ℕ → Asked
-  fold : (limit : ℕ) → Prices → List ℕ → Asked
+  run : (limit : ℕ) → Tariff → List ℕ → Asked
+  fold : (limit : ℕ) → Tariff → List ℕ → Asked
 
 -- The answer: the cheapest fold and its cost; the run that a fold unrolls to and the fold's cost; or a refusal.
 pub data Answer : Type 0 where
@@ -33,8 +34,8 @@ of-reading (accepted t x) = run-is x (t .cost)
 -- The answer of the definitions.
 unfoldable pub answer : Asked → Answer
 unfolding of-verdict of-reading read preferred cost bytes tree-of
-answer (run k P s) = of-verdict (verdict (at-most k) P s (read run-rules s))
-answer (fold k P s) = of-reading (read (fold-rules k P) s)
+answer (run k T s) = of-verdict (verdict (allowed k (T .marks)) (priced T) s (read run-rules s))
+answer (fold k T s) = of-reading (read (fold-rules (allowed k (T .marks)) (priced T)) s)
 
 -- A case: what is asked, and the known answer.
 pub data Case : Type 0 where
@@ -49,30 +50,35 @@ unfoldable pub expected : Case → Answer
 expected (q gives a) = a
 
 -- One price for every step, one for every group, and the repeat prices first and each; one price for both; unit costs.
-abbrev pub nodes-at : (step group first each : ℕ) → Prices
+abbrev pub nodes-at : (step group first each : ℕ) → Tariff
 unfolding times
-nodes-at l g first each = priced (tariff (times 256 (l ∷ [])) (times 256 (g ∷ [])) first each)
+nodes-at l g first each = tariff (times 256 (l ∷ [])) (times 256 (g ∷ [])) free-marks first each
 
-abbrev pub labels-at : ℕ → (first each : ℕ) → Prices
+abbrev pub labels-at : ℕ → (first each : ℕ) → Tariff
 unfolding nodes-at
 labels-at l first each = nodes-at l l first each
 
-abbrev pub unit : Prices
+abbrev pub unit : Tariff
 unfolding labels-at
 unit = labels-at 1 1 0
 
+-- Unit costs, with these marks.
+abbrev pub unit-with : List ℕ → Tariff
+unfolding times
+unit-with marks = tariff (times 256 (1 ∷ [])) (times 256 (1 ∷ [])) marks 1 0
+
 -- Both tables have label 01 for nothing, 02 for 3 and the others for 1; each is 0.
-abbrev pub free-a : ℕ → Prices
+abbrev pub free-a : ℕ → Tariff
 unfolding times
 free-a first =
     let table : List ℕ = 1 ∷ 0 ∷ 3 ∷ times 253 (1 ∷ []) in
-    priced (tariff table table first 0)
+    tariff table table free-marks first 0
 
 -- The group 05 costs 9, label 01 costs 2 as a step and 5 as a group, 02 costs 3 and 1; the others cost 1, and so does a repeat.
-abbrev pub unlike : Prices
+abbrev pub unlike : Tariff
 unfolding times
 unlike =
-    priced (tariff (1 ∷ 2 ∷ 3 ∷ times 253 (1 ∷ [])) (1 ∷ 5 ∷ 1 ∷ 1 ∷ 1 ∷ 9 ∷ times 250 (1 ∷ [])) 1 0)
+    tariff (1 ∷ 2 ∷ 3 ∷ times 253 (1 ∷ [])) (1 ∷ 5 ∷ 1 ∷ 1 ∷ 1 ∷ 9 ∷ times 250 (1 ∷ [])) free-marks 1 0
 
 -- The steps a and b; a group.
 abbrev pub a : List ℕ
@@ -84,9 +90,9 @@ b = 0x10 ∷ 0x02 ∷ []
 abbrev pub group-05 : List ℕ → List ℕ
 group-05 s = 0x11 ∷ 0x05 ∷ s ++ 0x12 ∷ []
 
--- The table: the cases of docs/FORMAT.md, then more, which pin what prices and ties decide.
+-- The table: the cases of docs/FORMAT.md, then more, which pin what prices, ties and marks decide.
 unfoldable pub known : List Case
-unfolding unit free-a unlike times
+unfolding unit unit-with free-a unlike times
 known =
     -- the empty run, and a
     run 1024 unit [] gives fold-is [] 0
@@ -115,6 +121,25 @@ known =
     ∷ run 1024 (nodes-at 1 4 3 0) (times 2 (group-05 a))
     gives fold-is (0x20 ∷ 0x00 ∷ 0x02 ∷ 0x00 ∷ 0x01 ∷ 0x11 ∷ 0x05 ∷ 0x10 ∷ 0x01 ∷ 0x12 ∷ 0x21 ∷ []) 8
     ∷ run 1024 (nodes-at 1 1 3 0) (times 2 (group-05 a)) gives fold-is (times 2 (group-05 a)) 4
+    -- label 01 marked, and another one
+    ∷ run 1024 (unit-with (mark-of 1)) (times 3 a) gives fold-is (times 3 a) 3
+    ∷ run 1024 (unit-with (mark-of 2)) (times 3 a) gives fold-is (0x20 ∷ 0x00 ∷ 0x03 ∷ 0x00 ∷ 0x01 ∷ 0x10 ∷ 0x01 ∷ 0x21 ∷ []) 2
+    -- a marked step between free ones, which are repeated beside it
+    ∷ run 1024 (unit-with (mark-of 2)) (times 2 (times 3 a ++ b))
+    gives fold-is (times 2 (0x20 ∷ 0x00 ∷ 0x03 ∷ 0x00 ∷ 0x01 ∷ 0x10 ∷ 0x01 ∷ 0x21 ∷ b)) 6
+    -- a free group that holds a marked step is not repeated, and one that holds a free step is
+    ∷ run 1024 (unit-with (mark-of 1)) (times 2 (group-05 a)) gives fold-is (times 2 (group-05 a)) 4
+    ∷ run 1024 (unit-with (mark-of 2)) (times 2 (group-05 a))
+    gives fold-is (0x20 ∷ 0x00 ∷ 0x02 ∷ 0x00 ∷ 0x01 ∷ 0x11 ∷ 0x05 ∷ 0x10 ∷ 0x01 ∷ 0x12 ∷ 0x21 ∷ []) 3
+    -- a marked group is not repeated, and what it holds is
+    ∷ run 1024 (unit-with (mark-of 5)) (group-05 (times 3 a)) gives fold-is (group-05 (0x20 ∷ 0x00 ∷ 0x03 ∷ 0x00 ∷ 0x01 ∷ 0x10 ∷ 0x01 ∷ 0x21 ∷ [])) 3
+    ∷ run 1024 (unit-with (mark-of 5)) (times 2 (group-05 (times 3 a)))
+    gives fold-is (times 2 (group-05 (0x20 ∷ 0x00 ∷ 0x03 ∷ 0x00 ∷ 0x01 ∷ 0x10 ∷ 0x01 ∷ 0x21 ∷ []))) 6
+    -- every label marked
+    ∷ run 1024 (unit-with all-marks) (times 4 a ++ group-05 (times 3 b)) gives fold-is (times 4 a ++ group-05 (times 3 b)) 8
+    -- the example of refusal 19, and a marked step that is not repeated
+    ∷ fold 1024 (unit-with (mark-of 7)) (0x20 ∷ 0x00 ∷ 0x02 ∷ 0x00 ∷ 0x01 ∷ 0x10 ∷ 0x07 ∷ 0x21 ∷ []) gives refusal-is 19 5
+    ∷ fold 1024 (unit-with (mark-of 1)) (times 3 a) gives run-is (times 3 a) 3
     -- the examples of refusals 5 and 9
     ∷ run 1024 unit (0x11 ∷ 0x05 ∷ 0x12 ∷ []) gives refusal-is 5 2
     ∷ fold 1024 unit (0x20 ∷ 0x00 ∷ 0x02 ∷ 0x00 ∷ 0x02 ∷ 0x10 ∷ 0x07 ∷ 0x21 ∷ []) gives refusal-is 9 7

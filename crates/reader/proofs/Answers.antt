@@ -6,7 +6,7 @@ use mathlib.Core.Logic.{_≢_}
 use Prim.Native.Nat.{ℕ}
 use lib.Dec.{eqb}
 use borrow.Author.Tests.{eqb-true, eqb-false}
-use Rattle.format.specs.Limits.{limits, Prices, Tariff, priced}
+use Rattle.format.specs.Limits.{limits, Tariff, priced, at-most, allowed}
 use Rattle.format.specs.Machine.{Rules, none, read, first-of}
 use Rattle.format.specs.Head.{head-checks, full-head}
 use Rattle.format.specs.Order.{Bytes}
@@ -40,9 +40,9 @@ answered R s w walked = by-test (eqb (w .refusal) 0) refl
     by-test false e = rw (e, walked .refuses (eqb-false _ _ e))
 
 -- A fold by itself.
-pub alone-read : (s : List ℕ) (w : Walk) → Whole (fold-rules greatest-operand free) s w → as-fold-reading (outcome w) ≡ as-fold-reading (fold-alone s)
+pub alone-read : (s : List ℕ) (w : Walk) → Whole (fold-rules (at-most greatest-operand) free) s w → as-fold-reading (outcome w) ≡ as-fold-reading (fold-alone s)
 unfolding fold-alone
-alone-read s w walked = answered (fold-rules greatest-operand free) s w walked
+alone-read s w walked = answered (fold-rules (at-most greatest-operand) free) s w walked
 
 -- The answers at an entry point: by the head's refusal, or by what follows.
 module _ (h : Head) (n : ℕ) (checked : n ≡ first-of (head-checks limits h)) where
@@ -54,19 +54,22 @@ module _ (h : Head) (n : ℕ) (checked : n ≡ first-of (head-checks limits h)) 
   unfolding run-reading run-outcome
   admit-read s none r e = e ∙ rw (headed-passed limits h (read run-rules s) (sym none ∙ checked))
 
-  module _ (P : Prices) (s : List ℕ) where
-    pub fold-refused : n ≢ 0 → (t : Tally) → t ≡ none → fold-numbers n 0 t ≡ as-fold-reading (fold-outcome h P s)
-    unfolding fold-outcome
-    fold-refused some t f = rw (headed-refused limits h (read (fold-rules (h .limit) P) s) n checked some, f)
+  module _ (T : Tariff) (s : List ℕ) where
+    abbrev R : Rules
+    R = fold-rules (allowed (h .limit) (T .marks)) (priced T)
 
-    pub fold-read : n ≡ 0 → (w : Walk) → Whole (fold-rules (h .limit) P) s w → as-fold-reading (outcome w) ≡ as-fold-reading (fold-outcome h P s)
+    pub fold-refused : n ≢ 0 → (t : Tally) → t ≡ none → fold-numbers n 0 t ≡ as-fold-reading (fold-outcome h T s)
+    unfolding fold-outcome
+    fold-refused some t f = rw (headed-refused limits h (read R s) n checked some, f)
+
+    pub fold-read : n ≡ 0 → (w : Walk) → Whole R s w → as-fold-reading (outcome w) ≡ as-fold-reading (fold-outcome h T s)
     unfolding fold-outcome
     fold-read none w walked =
-        rw (headed-passed limits h (read (fold-rules (h .limit) P) s) (sym none ∙ checked)) (answered (fold-rules (h .limit) P) s w walked)
+        rw (headed-passed limits h (read R s) (sym none ∙ checked)) (answered R s w walked)
 
 -- The fold reader's answer: it is the reading, and on success means what the report says.
 pub with-meaning : (s : List ℕ) (k : ℕ) (T : Tariff) → Bytes s → (r : FoldReading)
-    → r ≡ as-fold-reading (fold-outcome (full-head T k) (priced T) s)
-    → (r ≡ fold-reading s k T) × (r .refusal ≡ 0 → MeansAtCost k (priced T) s (r .length) (r .cost))
+    → r ≡ as-fold-reading (fold-outcome (full-head T k) T s)
+    → (r ≡ fold-reading s k T) × (r .refusal ≡ 0 → MeansAtCost k T s (r .length) (r .cost))
 unfolding fold-reading
 with-meaning s k T small r e = (e, reading-means s k T small r e)

@@ -8,6 +8,7 @@ use format::Head;
 use format::RunReading;
 use format::Tally;
 use format::head_refusal;
+use format::marks_in_order;
 use format::wide_cost;
 use node::node_end;
 use node::starts_at;
@@ -16,7 +17,7 @@ use walk::Walk;
 use walk::whole;
 ghost use mathlib.Core.Path.{_≡_};
 ghost use mathlib.Core.Bool.{true};
-ghost use Rattle.format.specs.Limits.{tariff, priced};
+ghost use Rattle.format.specs.Limits.{tariff};
 ghost use Rattle.format.specs.Readings.{run-numbers, fold-numbers, as-run-reading, run-outcome, run-reading, fold-outcome, measured, fold-alone, fold-reading, as-fold-reading};
 ghost use Rattle.format.specs.Meaning.{MeansAtCost};
 ghost use Rattle.format.specs.Parts.{node-part, part-of};
@@ -62,7 +63,8 @@ pub fn read_run(run: &[u8]) -> RunReading
         first: 0,
         each: 0,
     };
-    let w = whole(run, &free, &free, a);
+    let unmarked: [u8; 0] = [0; 0];
+    let w = whole(run, &free, &free, &unmarked, a);
     let none = Tally::none();
     if w.refusal != 0 {
         return as_run(w.refusal, w.at, none);
@@ -127,17 +129,18 @@ fn answer(w: Walk) -> FoldReading
     as_fold(0, 0, w.tally)
 }
 
-// A fold at an entry point with this head: the checks of the head, then refusals 1 and 3 to 10; or the nodes, bytes, steps and
+// A fold at an entry point with this head: the checks of the head, then refusals 1, 3 to 10 and 19; or the nodes, bytes, steps and
 // depth of the run and the fold's cost.
 fn read_headed(
     fold: &[u8],
     head: Head,
     steps: &[u16],
     groups: &[u16],
+    marks: &[u8],
     first: u16,
     each: u16,
 ) -> FoldReading
-    ensures { λ r. ⌜ r ≡ as-fold-reading (fold-outcome head (priced (tariff (now (steps .entry)) (now (groups .entry)) first each)) (now (fold .entry))) ⌝ }
+    ensures { λ r. ⌜ r ≡ as-fold-reading (fold-outcome head (tariff (now (steps .entry)) (now (groups .entry)) (now (marks .entry)) first each) (now (fold .entry))) ⌝ }
 {
     let bounds = Format::limits();
     let number = head_refusal(bounds, head);
@@ -151,7 +154,7 @@ fn read_headed(
         first: wide_cost(first),
         each: wide_cost(each),
     };
-    answer(whole(fold, steps, groups, a))
+    answer(whole(fold, steps, groups, marks, a))
 }
 
 // A fold at a width limit, without costs: refusals 12, 1 and 3 to 10, or the nodes, bytes, steps and depth of the run at cost 0.
@@ -159,12 +162,14 @@ pub fn measure(fold: &[u8], limit: usize) -> FoldReading
     ensures { λ r. ⌜ r ≡ as-fold-reading (measured (now (fold .entry)) limit) ⌝ }
 {
     let free: [u16; 0] = [0; 0];
+    let unmarked: [u8; 0] = [0; 0];
     let head = Head {
         steps: Format::LABELS,
         groups: Format::LABELS,
         limit,
+        marks: true,
     };
-    read_headed(fold, head, &free, &free, 0, 0)
+    read_headed(fold, head, &free, &free, &unmarked, 0, 0)
 }
 
 // A fold by itself, without limit and costs: refusals 1, 3 to 6 and 8 to 10, or the nodes, bytes, steps and depth of the run at
@@ -173,6 +178,7 @@ pub fn read_alone(fold: &[u8]) -> FoldReading
     ensures { λ r. ⌜ r ≡ as-fold-reading (fold-alone (now (fold .entry))) ⌝ }
 {
     let free: [u16; 0] = [0; 0];
+    let unmarked: [u8; 0] = [0; 0];
     let a = Terms {
         limits: Format::limits(),
         folds: true,
@@ -180,27 +186,29 @@ pub fn read_alone(fold: &[u8]) -> FoldReading
         first: 0,
         each: 0,
     };
-    answer(whole(fold, &free, &free, a))
+    answer(whole(fold, &free, &free, &unmarked, a))
 }
 
-// The fold reader: refusals 11, 15, 12, 1 and 3 to 10, or the nodes, bytes, steps and depth of the run and the fold's cost.
-// `steps` and `groups` are the cost tables: what a step and what a group costs by its label. What it accepts means, in the
-// report's words, a run of that length at that cost.
+// The fold reader: refusals 11, 15, 12, 18, 1, 3 to 10 and 19, or the nodes, bytes, steps and depth of the run and the fold's
+// cost. `steps` and `groups` are the cost tables, what a step and what a group costs by its label; `marks` has 1 for each label
+// that may stand in no repeat. What it accepts means, in the report's words, a run of that length at that cost.
 pub fn read_fold(
     fold: &[u8],
     limit: usize,
     steps: &[u16],
     groups: &[u16],
+    marks: &[u8],
     first: u16,
     each: u16,
 ) -> FoldReading
-    ensures answered { λ r. ⌜ r ≡ fold-reading (now (fold .entry)) limit (tariff (now (steps .entry)) (now (groups .entry)) first each) ⌝ }
-    ensures meant { λ r. ⌜ (r .refusal ≡ 0 → MeansAtCost limit (priced (tariff (now (steps .entry)) (now (groups .entry)) first each)) (now (fold .entry)) (r .length) (r .cost)) ⌝ }
+    ensures answered { λ r. ⌜ r ≡ fold-reading (now (fold .entry)) limit (tariff (now (steps .entry)) (now (groups .entry)) (now (marks .entry)) first each) ⌝ }
+    ensures meant { λ r. ⌜ (r .refusal ≡ 0 → MeansAtCost limit (tariff (now (steps .entry)) (now (groups .entry)) (now (marks .entry)) first each) (now (fold .entry)) (r .length) (r .cost)) ⌝ }
 {
     let head = Head {
         steps: steps.len(),
         groups: groups.len(),
         limit,
+        marks: marks_in_order(marks),
     };
-    read_headed(fold, head, steps, groups, first, each)
+    read_headed(fold, head, steps, groups, marks, first, each)
 }

@@ -23,10 +23,13 @@ use reader::read_run;
 use unroller::unroll;
 
 // What is expected: the refusal and its place.
-struct Expected {
-    refusal: u8,
-    place: usize,
+pub struct Expected {
+    pub refusal: u8,
+    pub place: usize,
 }
+
+// Marks of 256 free labels.
+pub const FREE: [u8; 256] = [0; 256];
 
 // Whether a refusal is as expected.
 fn met(refusal: u8, place: usize, e: Expected) -> bool {
@@ -73,8 +76,15 @@ fn by_run_reader(run: &[u8], e: Expected) {
     );
 }
 
-fn by_fold_reader(fold: &[u8], limit: usize, steps: &[u16], groups: &[u16], e: Expected) {
-    let r = read_fold(fold, limit, steps, groups, 1, 0);
+pub fn by_fold_reader(
+    fold: &[u8],
+    limit: usize,
+    steps: &[u16],
+    groups: &[u16],
+    marks: &[u8],
+    e: Expected,
+) {
+    let r = read_fold(fold, limit, steps, groups, marks, 1, 0);
     let mut right = no_values(r.nodes, r.steps, r.depth);
     if r.length != 0 {
         right = false;
@@ -101,18 +111,26 @@ fn by_folder(
     limit: usize,
     steps: &[u16],
     groups: &[u16],
+    marks: &[u8],
     costs: &mut [u32],
     choices: &mut [u32],
     out: &mut [u8],
     e: Expected,
 ) {
-    let c = fold_checked(run, limit, steps, groups, 1, 0, costs, choices, out);
+    let c = fold_checked(run, limit, steps, groups, marks, 1, 0, costs, choices, out);
     let r = c.answer;
     told(b" folder", r.refusal, r.place, e, c.right);
 }
 
 // The folder with room enough.
-fn by_roomy_folder(run: &[u8], limit: usize, steps: &[u16], groups: &[u16], e: Expected) {
+pub fn by_roomy_folder(
+    run: &[u8],
+    limit: usize,
+    steps: &[u16],
+    groups: &[u16],
+    marks: &[u8],
+    e: Expected,
+) {
     let mut costs = [0u32; 60];
     let mut choices = [0u32; 60];
     let mut out = [0u8; 40];
@@ -121,6 +139,7 @@ fn by_roomy_folder(run: &[u8], limit: usize, steps: &[u16], groups: &[u16], e: E
         limit,
         steps,
         groups,
+        marks,
         &mut costs,
         &mut choices,
         &mut out,
@@ -139,7 +158,7 @@ fn example(refusal: u8, input: &[u8]) {
 }
 
 // The same with what the input is read at; repeats have unit prices everywhere.
-fn row(refusal: u8, input: &[u8], limit: usize) {
+pub fn row(refusal: u8, input: &[u8], limit: usize) {
     example(refusal, input);
     setting(limit, 1, 0);
 }
@@ -152,7 +171,17 @@ fn by_cramped_folder(run: &[u8], costs: &mut [u32], choices: &mut [u32], e: Expe
     number(b", work ", costs.len() as u64);
     number(b" and ", choices.len() as u64);
     word(b", output 1:");
-    by_folder(run, 1024, &labels, &labels, costs, choices, &mut out, e);
+    by_folder(
+        run,
+        1024,
+        &labels,
+        &labels,
+        &FREE,
+        costs,
+        choices,
+        &mut out,
+        e,
+    );
     word(b"\n");
 }
 
@@ -163,7 +192,7 @@ fn refused_run(refusal: u8, run: &[u8], place: usize) {
     row(refusal, run, 1024);
     by_run_reader(run, e);
     word(b",");
-    by_roomy_folder(run, 1024, &labels, &labels, e);
+    by_roomy_folder(run, 1024, &labels, &labels, &FREE, e);
     word(b"\n");
 }
 
@@ -172,7 +201,7 @@ fn by_limited(fold: &[u8], limit: usize, e: Expected) {
     let labels = [1u16; 256];
     let mut out = [0u8; 40];
     row(e.refusal, fold, limit);
-    by_fold_reader(fold, limit, &labels, &labels, e);
+    by_fold_reader(fold, limit, &labels, &labels, &FREE, e);
     word(b",");
     by_unroller(fold, limit, &mut out, e);
 }
@@ -262,8 +291,8 @@ fn nodes() {
     refused_run(10, &run, 2048);
 }
 
-// An expected refusal at place 0, where refusals 11 to 17 have theirs.
-fn placeless(refusal: u8) -> Expected {
+// An expected refusal at place 0, where refusals 11 to 18 have theirs.
+pub fn placeless(refusal: u8) -> Expected {
     Expected { refusal, place: 0 }
 }
 
@@ -283,9 +312,9 @@ fn refused_tables(refusal: u8, input: &[u8], limit: usize, steps: &[u16], groups
     number(b", costs of ", steps.len() as u64);
     number(b" steps and ", groups.len() as u64);
     word(b" groups");
-    by_fold_reader(input, limit, steps, groups, e);
+    by_fold_reader(input, limit, steps, groups, &FREE, e);
     word(b",");
-    by_roomy_folder(input, limit, steps, groups, e);
+    by_roomy_folder(input, limit, steps, groups, &FREE, e);
     word(b"\n");
 }
 
@@ -325,11 +354,11 @@ fn high_limit(labels: &[u16]) {
     let e = placeless(12);
     let mut out = [0u8; 8];
     row(12, b"\x13", 1025);
-    by_fold_reader(b"\x13", 1025, labels, labels, e);
+    by_fold_reader(b"\x13", 1025, labels, labels, &FREE, e);
     word(b",");
     by_unroller(b"\x13", 1025, &mut out, e);
     word(b",");
-    by_roomy_folder(b"\x13", 1025, labels, labels, e);
+    by_roomy_folder(b"\x13", 1025, labels, labels, &FREE, e);
     word(b"\n");
 }
 

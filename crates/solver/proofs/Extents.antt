@@ -1,5 +1,5 @@
 -- How far rows are solved: what stands again further on is, and one row more keeps it so.
-use mathlib.Core.Path.{_≡_, refl, sym, ap, _∙_}
+use mathlib.Core.Path.{_≡_, refl}
 use mathlib.Core.List.{List}
 use Prim.Native.Nat.{ℕ, suc, _+_, _-_, _*_, _<_, _≤_}
 use native.Mathlib.Nat.{mul-le-mul-right}
@@ -8,28 +8,28 @@ use native.Mathlib.Omega.{arith}
 use lib.ListN.{length, getD, set}
 use lib.Seq.{getD-set-same, getD-set-other}
 use Rattle.format.specs.Forest.{Forest, Allowed, siblings}
-use Rattle.optimum.specs.Cheapest.{Run, front, back, Power}
+use Rattle.optimum.specs.Cheapest.{Run, back, FreeCopy, Power}
 use Rattle.optimum.proofs.Cut.{back-back, back-piece, run-back, siblings-back}
-use Rattle.optimum.proofs.Powers.{front-less, reach, shift-from-power}
+use Rattle.optimum.proofs.Powers.{free-less, free-back, reach, shift-from-power}
 use Rattle.table.specs.Table.{stretch}
 use Rattle.solver.specs.declared.matches.Source.{Source}
 use Rattle.solver.specs.Rows.{Matches, Extending, Drawn}
 use Rattle.solver.proofs.Offers.{matched-most}
 
 module _ {A : Allowed} {t : Forest} {i m : ℕ} {extents same : List ℕ} {g : Source} (r : Run A t) (all : siblings t ≡ m) (some : i < m)
-    (x : Extending t (i + 1) extents) (matches : Matches (back i t) same) (drawn : Drawn extents i m same g) where
+    (x : Extending (A .marked) t (i + 1) extents) (matches : Matches (A .marked) (back i t) same) (drawn : Drawn extents i m same g) where
   from-here : i + siblings (back i t) ≡ m
   from-here = omega (arith, siblings-back i t (r .plain) (omega arith))
 
   -- What stands again is solved.
-  pub drawn-used : (d w : ℕ) → 0 < w → d ≤ w → i + w + d ≤ m → stretch t i d ≡ stretch t (i + w) d → d ≤ g .extent
+  pub drawn-used : (d w : ℕ) → 0 < w → d ≤ w → i + w + d ≤ m → FreeCopy (A .marked) (stretch t i d) (stretch t (i + w) d) → d ≤ g .extent
   drawn-used d w pos less fits e = by-size (decLt 0 d)
     where
       further : 0 < d → d ≤ getD extents (i + 1) 0 + 1
       further p =
           let rest : (j k : ℕ) → j + 1 ≡ k → back 1 (stretch t j d) ≡ stretch t k (d - 1) = λ j k q. back-piece j k 1 (d - 1) d t q (omega arith) in
-          let again : stretch t (i + 1) (d - 1) ≡ stretch t (i + 1 + w) (d - 1) =
-          sym (rest i (i + 1) refl) ∙ ap (back 1) e ∙ rest (i + w) (i + 1 + w) (omega arith) in
+          let again : FreeCopy (A .marked) (stretch t (i + 1) (d - 1)) (stretch t (i + 1 + w) (d - 1)) =
+          rw (rest i (i + 1) refl, rest (i + w) (i + 1 + w) (omega arith)) at (free-back (A .marked) 1 _ _ e) in
           omega (arith, x .used (i + 1) (d - 1) w (omega arith) pos (omega arith) (omega arith) again)
 
       by-size : Dec (0 < d) → d ≤ g .extent
@@ -48,8 +48,8 @@ module _ {A : Allowed} {t : Forest} {i m : ℕ} {extents same : List ℕ} {g : S
       let u : 1 ≤ h - 1 = omega arith in
       let n : w + ((h - 1) * w - w) ≡ (h - 1) * w = omega (arith, mul-le-mul-right w u) in
       drawn-used w w (q .some) (omega arith) (omega (arith, from-here))
-      (front-less w ((h - 1) * w - w) ((h - 1) * w) (back i t) (back w (back i t)) n (shift-from-power (h - 1) h w (run-back i r) one p)
-      ∙ ap (front w) (back-back i w (i + w) t refl))
+      (rw (back-back i w (i + w) t refl)
+      at (free-less (A .marked) w ((h - 1) * w) (back i t) (back w (back i t)) (omega (arith, n)) (shift-from-power (h - 1) h w (run-back i r) one p)))
 
   -- A row ends where its ends do.
   pub drawn-within : i + g .extent ≤ m
@@ -68,7 +68,7 @@ module _ {A : Allowed} {t : Forest} {i m : ℕ} {extents same : List ℕ} {g : S
     later : (j : ℕ) → i < j → getD (set extents i (g .extent)) j 0 ≡ getD extents j 0
     later j l = getD-set-other extents i j (g .extent) 0 (λ e. omega arith)
 
-    pub extending-more : Extending t i (set extents i (g .extent))
+    pub extending-more : Extending (A .marked) t i (set extents i (g .extent))
     extending-more = record { within = within; closed = closed; used = used }
       where
         within : (j : ℕ) → i ≤ j → j ≤ siblings t → j + getD (set extents i (g .extent)) j 0 ≤ siblings t
@@ -86,7 +86,7 @@ module _ {A : Allowed} {t : Forest} {i m : ℕ} {extents same : List ℕ} {g : S
           | no e ↦ rw (later j (omega arith), later (j + c) (omega arith)) (x .closed j c (omega arith) b)
         ]
 
-        used : (j d w : ℕ) → i ≤ j → 0 < w → d ≤ w → j + w + d ≤ siblings t → stretch t j d ≡ stretch t (j + w) d
+        used : (j d w : ℕ) → i ≤ j → 0 < w → d ≤ w → j + w + d ≤ siblings t → FreeCopy (A .marked) (stretch t j d) (stretch t (j + w) d)
             → d ≤ getD (set extents i (g .extent)) j 0
         used j d w a p l b e = elim (ℕ-discrete j i) [
           | yes q ↦ rw (q, here) (drawn-used d w p l (omega arith) (rw q at e))

@@ -7,10 +7,10 @@ use native.Mathlib.Decide.{decLt, ℕ-discrete}
 use native.Mathlib.Omega.{arith}
 use lib.ListN.{length, getD, set, length-set}
 use lib.Seq.{getD-set-same, getD-set-other}
-use Rattle.format.specs.Forest.{Forest, Allowed, siblings}
-use Rattle.optimum.specs.Cheapest.{Run, front, back, node}
+use Rattle.format.specs.Forest.{Forest, Allowed, siblings, holds}
+use Rattle.optimum.specs.Cheapest.{Run, front, back, node, FreeCopy}
 use Rattle.optimum.proofs.Cut.{back-back, siblings-back}
-use Rattle.optimum.proofs.Powers.{node-back, shift-grow}
+use Rattle.optimum.proofs.Powers.{node-back, free-grow}
 use Rattle.table.specs.Listing.{Classed}
 use Rattle.solver.specs.Rows.{Matched, Matches, Growing}
 use Rattle.table.proofs.Listings.{entry-more, equal-kinds, kinds-equal}
@@ -22,30 +22,32 @@ further A t r i h =
 
 -- One sibling more in front: the matches at a width grow by one, or there are none.
 module _ (A : Allowed) (t : Forest) (r : Run A t) (i : ℕ) (h : i < siblings t) (w : ℕ) where
-  matched-more : (k : ℕ) → node i t ≡ node (i + w) t → Matched (back (i + 1) t) w k → Matched (back i t) w (k + 1)
+  matched-more : (k : ℕ) → FreeCopy (A .marked) (node i t) (node (i + w) t) → Matched (A .marked) (back (i + 1) t) w k
+      → Matched (A .marked) (back i t) w (k + 1)
   unfolding back
   matched-more k e m =
       let next = back-back i 1 (i + 1) t refl in
-      let same : node 0 (back i t) ≡ node w (back i t) = e ∙ sym (node-back i w (i + w) t refl) in
+      let same : FreeCopy (A .marked) (node 0 (back i t)) (node w (back i t)) = rw (node-back i w (i + w) t refl) e in
       record {
-        shift = rw add-one (shift-grow k w (back i t) same (rw next (m .shift)));
+        shift = rw add-one (free-grow (A .marked) k w (back i t) same (rw next (m .shift)));
         bound = omega (arith, m .bound, further A t r i h);
         stop = λ l q. m .stop (omega (arith, further A t r i h))
-            (node-back (i + 1) k (i + (k + 1)) t (omega arith)
-            ∙ sym (node-back i (k + 1) (i + (k + 1)) t refl)
-            ∙ q
-            ∙ node-back i (k + 1 + w) (i + (k + 1 + w)) t refl
-            ∙ sym (node-back (i + 1) (k + w) (i + (k + 1 + w)) t (omega arith)));
+            (rw (
+              node-back (i + 1) k (i + (k + 1)) t (omega arith) ∙ sym (node-back i (k + 1) (i + (k + 1)) t refl),
+              node-back (i + 1) (k + w) (i + (k + 1 + w)) t (omega arith) ∙ sym (node-back i (k + 1 + w) (i + (k + 1 + w)) t refl),
+            )
+            q);
       }
 
-  matched-none : i + w ≤ siblings t → (i + w < siblings t → node i t ≡ node (i + w) t → ⊥) → Matched (back i t) w 0
-  unfolding front back
+  matched-none : i + w ≤ siblings t → (i + w < siblings t → FreeCopy (A .marked) (node i t) (node (i + w) t) → ⊥)
+      → Matched (A .marked) (back i t) w 0
+  unfolding front back holds
   matched-none l z =
       let all = siblings-back i t (r .plain) (omega arith) in
       record {
-        shift = refl;
+        shift = record { same = refl; unmarked = refl };
         bound = omega arith;
-        stop = λ m q. z (omega arith) (q ∙ node-back i (0 + w) (i + w) t (omega arith));
+        stop = λ m q. z (omega arith) (rw (node-back i (0 + w) (i + w) t (omega arith)) at q);
       }
 
 -- The matches below width w are grown, the others as they were.
@@ -93,23 +95,23 @@ module _ (kinds : List ℕ) (i w : ℕ) (before after : List ℕ) (g : GrownBelo
         matches = matches;
       }
     where
-      matches : (A : Allowed) (t : Forest) → Run A t → siblings t ≡ m → Classed t m kinds → Matches (back (i + 1) t) before
-          → Matches (back i t) (set after w 0)
+      matches : (A : Allowed) (t : Forest) → Run A t → siblings t ≡ m → Classed (A .marked) t m kinds
+          → Matches (A .marked) (back (i + 1) t) before → Matches (A .marked) (back i t) (set after w 0)
       matches A t r n c b = record { matched = λ v h l. by-place v h l (decLt v w) }
         where
-          by-place : (v : ℕ) → 0 < v → v ≤ siblings (back i t) → Dec (v < w) → Matched (back i t) v (getD (set after w 0) v 0)
+          by-place : (v : ℕ) → 0 < v → v ≤ siblings (back i t) → Dec (v < w) → Matched (A .marked) (back i t) v (getD (set after w 0) v 0)
           by-place v h l (yes k) = rw (getD-set-other after w v 0 0 (λ e. omega arith)) (by-kind (ℕ-discrete (getD kinds i 0) (getD kinds (i + v) 0)))
             where
-              by-kind : Dec (getD kinds i 0 ≡ getD kinds (i + v) 0) → Matched (back i t) v (getD after v 0)
+              by-kind : Dec (getD kinds i 0 ≡ getD kinds (i + v) 0) → Matched (A .marked) (back i t) v (getD after v 0)
               by-kind (yes e) =
                   rw (g .more v h k e)
                   (matched-more A t r i (omega arith) v (getD before v 0)
-                  (equal-kinds t i (i + v) _ _ (c .class i some) (c .class (i + v) (omega arith)) e)
+                  (equal-kinds (A .marked) t i (i + v) _ _ (λ q. omega arith) (c .class i some) (c .class (i + v) (omega arith)) e)
                   (b .matched v h (omega (arith, further A t r i (omega arith), siblings-back i t (r .plain) (omega arith)))))
               by-kind (no e) =
                   rw (g .none v h k e)
                   (matched-none A t r i (omega arith) v (omega arith)
-                  (λ a q. e (kinds-equal t i (i + v) _ _ (c .class i some) (c .class (i + v) (omega arith)) q)))
+                  (λ a q. e (kinds-equal (A .marked) t i (i + v) _ _ (c .class i some) (c .class (i + v) (omega arith)) q)))
           by-place v h l (no k) =
               let e : v ≡ w = omega (arith, siblings-back i t (r .plain) (omega arith)) in
               rw (e, getD-set-same after w 0 0 (omega (arith, g .long)))

@@ -133,7 +133,7 @@ module _ {costs choices numbers : List ℕ} {row : Row} {prices same tails stops
       by-end true f = let last : i + n ≡ m = eqb-true _ _ f in rw f (tail-adds c r p (omega arith))
       by-end false f = rw f (rest-adds c r n p q e h)
 
-  pub matched : (w : ℕ) → 0 < w → i + w ≤ m → Matched (back i t) w (getD same w 0)
+  pub matched : (w : ℕ) → 0 < w → i + w ≤ m → Matched (A .marked) (back i t) w (getD same w 0)
   matched w p h = z .matches .matched w p (omega (arith, from-here))
 
   -- No match reaches past the end.
@@ -177,7 +177,7 @@ module _ {costs choices numbers : List ℕ} {row : Row} {prices same tails stops
         same-stretch =
             let d = z .drawn in
             let k = getD same (row .shift) 0 in
-            front-less n (k - n) k (back i t) (back (row .shift) (back i t)) (omega (arith, d .spans)) (matched (row .shift) (d .some) (d .near) .shift)
+            front-less n (k - n) k (back i t) (back (row .shift) (back i t)) (omega (arith, d .spans)) (matched (row .shift) (d .some) (d .near) .shift .same)
             ∙ ap (front n) (back-back i (row .shift) (i + row .shift) t refl)
 
         by-place : Dec (1 < n) → BestKey A P (stretch t i n) (getD keys n 0)
@@ -252,7 +252,7 @@ module _ {costs choices numbers : List ℕ} {row : Row} {prices same tails stops
     best = keyed-best modest i e d k (omega arith) (omega arith) (omega (arith, inside, z .all)) (r .keyed d (omega arith) more)
 
     -- The siblings that match.
-    its-match : Matched (back i t) d (getD same d 0)
+    its-match : Matched (A .marked) (back i t) d (getD same d 0)
     its-match = matched d (omega arith) (omega (arith, inside))
 
     covers : covered k ≡ best .count * best .width

@@ -1,7 +1,7 @@
 -- One row of the table: the stretches that begin at one sibling. Those of up to as many siblings as the row's extent are solved, and
 -- the one up to the sequence's end. The prices count repeats, so that every cost is cost and repeats, combined.
 use mathlib.Core.Path.{_≡_}
-use mathlib.Core.Bool.{cond}
+use mathlib.Core.Bool.{Bool, cond}
 use mathlib.Core.Logic.{_⊎_}
 use mathlib.Core.List.{List}
 use Prim.Native.Nat.{ℕ, _+_, _-_, _*_, _<_, _≤_}
@@ -10,7 +10,7 @@ use lib.ListN.{length, getD, set}
 use Rattle.format.specs.Limits.{Prices, of-repeat}
 use Rattle.format.specs.Forest.{Forest, Allowed, siblings, nodes}
 use Rattle.optimum.specs.Fewest.{combined}
-use Rattle.optimum.specs.Cheapest.{Run, front, back, node, rank, usual, price, Candidate, Power, Least, best-cost}
+use Rattle.optimum.specs.Cheapest.{Run, front, back, node, FreeCopy, rank, usual, price, Candidate, Power, Least, best-cost}
 use Rattle.table.specs.Keys.{factor, packed, key, combined-digits, covered, combined-base, stored-key, top-price, top-key}
 use Rattle.table.specs.Table.{BestKey, Entry, cell, number, Falling, Stored, entry-at, key-at, rest-key, stretch}
 use Rattle.table.specs.Listing.{Numbered, Classed}
@@ -58,22 +58,22 @@ pub record Priced (P : Prices) (prices : List ℕ) : Type 0 where
   pub ready : PricesReady prices
   pub price-of : (h : ℕ) → 2 ≤ h → h ≤ 1024 → combined factor (getD prices h 0) 1 ≡ of-repeat P h
 
--- k siblings from the first on equal the one w further, and no more.
-pub record Matched (T : Forest) (w k : ℕ) : Type 0 where
-  pub shift : front k T ≡ front k (back w T)
+-- k siblings from the first on equal the one w further and hold no marked label, and no more.
+pub record Matched (marked : ℕ → Bool) (T : Forest) (w k : ℕ) : Type 0 where
+  pub shift : FreeCopy marked (front k T) (front k (back w T))
   pub bound : k + w ≤ siblings T
-  pub stop : k + w < siblings T → node k T ≡ node (k + w) T → ⊥
+  pub stop : k + w < siblings T → FreeCopy marked (node k T) (node (k + w) T) → ⊥
 
 -- The matches at every width.
-pub record Matches (T : Forest) (same : List ℕ) : Type 0 where
-  pub matched : (w : ℕ) → 0 < w → w ≤ siblings T → Matched T w (getD same w 0)
+pub record Matches (marked : ℕ → Bool) (T : Forest) (same : List ℕ) : Type 0 where
+  pub matched : (w : ℕ) → 0 < w → w ≤ siblings T → Matched marked T w (getD same w 0)
 
--- How far the rows from sibling i on are solved: what stands again d or more siblings further on is, and where a stretch is solved so
--- are its ends.
-pub record Extending (t : Forest) (i : ℕ) (extents : List ℕ) : Type 0 where
+-- How far the rows from sibling i on are solved: what stands again d or more siblings further on and holds no marked label is, and
+-- where a stretch is solved so are its ends.
+pub record Extending (marked : ℕ → Bool) (t : Forest) (i : ℕ) (extents : List ℕ) : Type 0 where
   pub within : (j : ℕ) → i ≤ j → j ≤ siblings t → j + getD extents j 0 ≤ siblings t
   pub closed : (j c : ℕ) → i ≤ j → j + c ≤ siblings t → getD extents j 0 ≤ getD extents (j + c) 0 + c
-  pub used : (j d w : ℕ) → i ≤ j → 0 < w → d ≤ w → j + w + d ≤ siblings t → stretch t j d ≡ stretch t (j + w) d → d ≤ getD extents j 0
+  pub used : (j d w : ℕ) → i ≤ j → 0 < w → d ≤ w → j + w + d ≤ siblings t → FreeCopy marked (stretch t j d) (stretch t (j + w) d) → d ≤ getD extents j 0
 
 -- The stretches of one sequence from sibling i on are entered, as far as the rows are solved.
 pub record Entered (A : Allowed) (P : Prices) (b : ℕ) (t : Forest) (i : ℕ) (extents costs choices : List ℕ) : Type 0 where
@@ -236,12 +236,12 @@ pub record RowReady (costs choices numbers : List ℕ) (row : Row) (prices same 
   pub step-low : (l : ℕ) → prices-are .of-step l ≤ 65535 * factor
   pub group-low : (l : ℕ) → prices-are .of-group l ≤ 65535 * factor
   pub numbers-are : Numbered base tree numbers
-  pub extending : Extending tree (row .at + 1) extents
+  pub extending : Extending (allowed .marked) tree (row .at + 1) extents
   pub rows-below : Entered allowed prices-are base tree (row .at + 1) extents costs choices
   pub tailing : Tailing allowed prices-are tree (row .at + 1) tails
   pub stopping : Stopping allowed prices-are tree (row .at + 1) extents stops
   pub own-cost : row .own ≡ best-cost allowed prices-are (node (row .at) tree)
-  pub matches : Matches (back (row .at) tree) same
+  pub matches : Matches (allowed .marked) (back (row .at) tree) same
   pub drawn : Drawn extents (row .at) (row .end) same (record { extent = row .extent; shift = row .shift; span = row .span })
 
 -- The keys of a row after the stretches of up to s siblings: those of up to `span` siblings are final.
@@ -289,4 +289,5 @@ pub record RowEntered (costs choices numbers : List ℕ) (row : Row) (prices sam
 pub record Growing (kinds : List ℕ) (i m : ℕ) (before after : List ℕ) : Type 0 where
   pub long : length after ≡ 1025
   pub low : (w : ℕ) → 0 < w → i + w ≤ m → getD after w 0 + i ≤ 1024
-  pub matches : (A : Allowed) (t : Forest) → Run A t → siblings t ≡ m → Classed t m kinds → Matches (back (i + 1) t) before → Matches (back i t) after
+  pub matches : (A : Allowed) (t : Forest) → Run A t → siblings t ≡ m → Classed (A .marked) t m kinds
+      → Matches (A .marked) (back (i + 1) t) before → Matches (A .marked) (back i t) after

@@ -177,7 +177,8 @@ fn follow(run: &[u8], string: &[u8], depth: usize, starts: &[usize], trail: &[us
 // Whether a string that follows the run up to a place may be the beginning of a fold of the run (1), is one (2), or neither.
 fn judge(run: &[u8], string: &[u8], at: usize) -> u8 {
     let labels = [1u16; 256];
-    let r = read_fold(string, Format::WIDTH, &labels, &labels, 1, 0);
+    let marks = [0u8; 256];
+    let r = read_fold(string, Format::WIDTH, &labels, &labels, &marks, 1, 0);
     if r.refusal == 3 {
         return 1;
     }
@@ -194,8 +195,9 @@ fn judge(run: &[u8], string: &[u8], at: usize) -> u8 {
 // depth.
 fn confirmed(fold: &[u8], run: &[u8]) -> bool {
     let labels = [1u16; 256];
+    let marks = [0u8; 256];
     let mut text = [0u8; 64];
-    let r = read_fold(fold, Format::WIDTH, &labels, &labels, 1, 0);
+    let r = read_fold(fold, Format::WIDTH, &labels, &labels, &marks, 1, 0);
     if !alike(r, run) {
         return false;
     }

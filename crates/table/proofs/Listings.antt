@@ -1,18 +1,20 @@
 -- The siblings of a sequence in its bytes: where their parts stand, and which of them are equal.
 use mathlib.Core.Path.{_≡_, refl, sym, ap, _∙_}
-use mathlib.Core.List.{List, _++_}
+use mathlib.Core.Bool.{Bool, true, false, true≢false, _||_, or-false}
+use mathlib.Core.List.{List, [], _∷_, _++_, map, append-assoc, append-nil}
 use Prim.Native.Nat.{ℕ, _+_, _-_, _<_, _≤_}
 use native.Mathlib.Decide.{decLt, ℕ-discrete}
 use native.Mathlib.Omega.{arith}
 use lib.ListN.{length, getD, set, take, drop, length-append}
 use lib.Seq.{take-at, drop-at, getD-drop, getD-set-same, getD-set-other}
-use Rattle.format.specs.Forest.{at-most, Forest, end, step, group, repeat, Plain, siblings, bytes}
+use Rattle.format.specs.Forest.{at-most, Forest, end, step, group, repeat, Plain, siblings, bytes, holds}
 use Rattle.format.specs.Tree.{tree-of}
 use Rattle.format.proofs.Forests.{bytes-join}
+use Rattle.format.proofs.Marks.{one, or-assoc}
 use Rattle.format.proofs.Bridge.{bytes-injective}
-use Rattle.optimum.specs.Cheapest.{Run, front, back, node}
+use Rattle.optimum.specs.Cheapest.{Run, front, back, node, FreeCopy}
 use Rattle.optimum.proofs.Cut.{join-cut, front-add, back-back, siblings-back, run-back}
-use Rattle.table.specs.Listing.{Spelled, FirstEqual, Classed}
+use Rattle.table.specs.Listing.{Spelled, FirstEqual, marked-from, ClassOf, free, alone, Classed}
 
 -- A list filled from the front: what holds of the first m entries, and of the one put next, holds of the first m + 1.
 pub entry-more : (P : ℕ → ℕ → Type 0) (xs : List ℕ) (m v : ℕ) → m < length xs → ((i : ℕ) → i < m → P i (getD xs i 0)) → P m v
@@ -99,13 +101,44 @@ module _ (s : List ℕ) (z : Spelled s) where
         by-form (group l g f) q = is-group g f (rw (byte (group l g f) q 1 (at + 1) refl) q) (byte (group l g f) q 0 at (omega arith))
         by-form (repeat h w g f) q = absurd (rw q at (run-back i run-any .plain))
 
+-- Which of these runs have a marked label, 01 being marked: the step, one beside it, a group of that label, one that holds it, one two
+-- deep; and a group without it, and a label that looks like a close.
+pub marked-hold : map (marked-from one false)
+    ((0x10 ∷ 0x01 ∷ [])
+    ∷ (0x10 ∷ 0x02 ∷ 0x10 ∷ 0x01 ∷ [])
+    ∷ (0x11 ∷ 0x01 ∷ 0x10 ∷ 0x02 ∷ 0x12 ∷ [])
+    ∷ (0x11 ∷ 0x02 ∷ 0x10 ∷ 0x01 ∷ 0x12 ∷ [])
+    ∷ (0x11 ∷ 0x02 ∷ 0x11 ∷ 0x03 ∷ 0x10 ∷ 0x01 ∷ 0x12 ∷ 0x12 ∷ [])
+    ∷ (0x11 ∷ 0x02 ∷ 0x10 ∷ 0x03 ∷ 0x12 ∷ [])
+    ∷ (0x10 ∷ 0x12 ∷ 0x10 ∷ 0x02 ∷ [])
+    ∷ [])
+    ≡ true ∷ true ∷ true ∷ true ∷ true ∷ false ∷ false ∷ []
+unfolding marked-from
+marked-hold = refl
+
+-- The marked labels of a run in its bytes.
+pub marked-bytes : (m : ℕ → Bool) (t : Forest) (s : List ℕ) → Plain t → marked-from m false (bytes t ++ s) ≡ (holds m t || marked-from m false s)
+unfolding bytes holds marked-from
+marked-bytes m end s p = refl
+marked-bytes m (step l f) s p = rw (marked-bytes m f s p, or-assoc)
+marked-bytes m (group l b f) s p =
+    let cut : bytes (group l b f) ++ s ≡ 0x11 ∷ l ∷ (bytes b ++ 0x12 ∷ (bytes f ++ s)) =
+    ap (λ (x : List ℕ). 0x11 ∷ l ∷ x) (append-assoc (bytes b) (0x12 ∷ bytes f) s) in
+    ap (marked-from m false) cut ∙ rw (marked-bytes m b (0x12 ∷ (bytes f ++ s)) (p .0), marked-bytes m f s (p .1), or-assoc, or-assoc)
+marked-bytes m (repeat h w b f) s p = absurd p
+
+pub marked-part : (m : ℕ → Bool) (t : Forest) (s : List ℕ) → Plain t → s ≡ bytes t → marked-from m false s ≡ holds m t
+unfolding marked-from
+marked-part m t s p e = rw (e, ← append-nil (bytes t)) (marked-bytes m t [] p ∙ or-false (holds m t))
+
 -- The first sibling that equals sibling i: none before j does.
 abbrev pub None : Forest → (i j : ℕ) → Type 0
 None t i j = (k : ℕ) → k < j → node k t ≡ node i t → ⊥
 
--- One that has an equal one before it need not be compared.
-pub none-again : (t : Forest) (i j r : ℕ) → FirstEqual t j r → (r ≡ j → ⊥) → None t i j → node j t ≡ node i t → ⊥
-none-again t i j r f z none e = none r (omega (arith, f .early)) (f .equal ∙ e)
+-- One whose class is an earlier one need not be compared.
+pub none-again : (m : ℕ → Bool) (t : Forest) (i j r : ℕ) → ClassOf m t j r → (r ≡ j → ⊥) → None t i j → node j t ≡ node i t → ⊥
+none-again m t i j r (free u f) z none e = none r (omega (arith, f .early)) (f .equal ∙ e)
+none-again m t i j r (alone u f) z none e = z f
 
 pub first-found : (t : Forest) (i j : ℕ) (x y : List ℕ) → j < i → x ≡ bytes (node j t) → y ≡ bytes (node i t) → x ≡ y → None t i j
     → FirstEqual t i j
@@ -115,22 +148,38 @@ first-found t i j x y h p q e none =
 pub first-itself : (t : Forest) (i : ℕ) → None t i i → FirstEqual t i i
 first-itself t i none = record { early = omega arith; equal = refl; first = none }
 
--- Two siblings are equal exactly where their first equal ones are.
-module _ (t : Forest) (i j p q : ℕ) (f : FirstEqual t i p) (g : FirstEqual t j q) where
-  pub equal-kinds : p ≡ q → node i t ≡ node j t
-  equal-kinds e = sym (f .equal) ∙ rw e (g .equal)
+pub class-early : (m : ℕ → Bool) (t : Forest) (i r : ℕ) → ClassOf m t i r → r ≤ i
+class-early m t i r (free u f) = f .early
+class-early m t i r (alone u e) = omega arith
 
-  pub kinds-equal : node i t ≡ node j t → p ≡ q
-  kinds-equal e = by-order (decLt p q) (decLt q p)
+-- Two siblings have one class exactly where they are equal and free.
+module _ (m : ℕ → Bool) (t : Forest) (i j p q : ℕ) where
+  pub equal-kinds : (i ≡ j → ⊥) → ClassOf m t i p → ClassOf m t j q → p ≡ q → FreeCopy m (node i t) (node j t)
+  equal-kinds apart (free u f) (free v g) e = record { same = sym (f .equal) ∙ rw e (g .equal); unmarked = u }
+  equal-kinds apart (free u f) (alone v g) e =
+      let same : node j t ≡ node i t = rw (e, g) at (f .equal) in
+      absurd (true≢false (sym v ∙ rw same u))
+  equal-kinds apart (alone u f) (free v g) e =
+      let same : node i t ≡ node j t = rw (← e, f) at (g .equal) in
+      absurd (true≢false (sym u ∙ rw same v))
+  equal-kinds apart (alone u f) (alone v g) e = absurd (apart (omega arith))
+
+  first-order : FirstEqual t i p → FirstEqual t j q → node i t ≡ node j t → p ≡ q
+  first-order f g e = by-order (decLt p q) (decLt q p)
     where
       by-order : Dec (p < q) → Dec (q < p) → p ≡ q
       by-order (yes l) d = absurd (g .first p l (f .equal ∙ e))
-      by-order (no l) (yes m) = absurd (f .first q m (g .equal ∙ sym e))
-      by-order (no l) (no m) = omega arith
+      by-order (no l) (yes k) = absurd (f .first q k (g .equal ∙ sym e))
+      by-order (no l) (no k) = omega arith
 
-pub classed-none : (t : Forest) (kinds : List ℕ) → Classed t 0 kinds
-classed-none t kinds = record { class = λ i h. absurd (omega arith) }
+  pub kinds-equal : ClassOf m t i p → ClassOf m t j q → FreeCopy m (node i t) (node j t) → p ≡ q
+  kinds-equal (free u f) (free v g) e = first-order f g (e .same)
+  kinds-equal (free u f) (alone v g) e = absurd (true≢false (sym v ∙ rw (← e .same) (e .unmarked)))
+  kinds-equal (alone u f) c e = absurd (true≢false (sym u ∙ e .unmarked))
 
-pub classed-more : (t : Forest) (i r : ℕ) (kinds : List ℕ) → i < length kinds → Classed t i kinds → FirstEqual t i r
-    → Classed t (i + 1) (set kinds i r)
-classed-more t i r kinds h c f = record { class = entry-more (FirstEqual t) kinds i r h (c .class) f }
+pub classed-none : (m : ℕ → Bool) (t : Forest) (kinds : List ℕ) → Classed m t 0 kinds
+classed-none m t kinds = record { class = λ i h. absurd (omega arith) }
+
+pub classed-more : (m : ℕ → Bool) (t : Forest) (i r : ℕ) (kinds : List ℕ) → i < length kinds → Classed m t i kinds → ClassOf m t i r
+    → Classed m t (i + 1) (set kinds i r)
+classed-more m t i r kinds h c f = record { class = entry-more (ClassOf m t) kinds i r h (c .class) f }

@@ -1,9 +1,12 @@
--- The siblings of a sequence: where each stands in the bytes, its number, and the first one that equals it.
+-- The siblings of a sequence: where each stands in the bytes, its number, and its class: the first one that equals it, or itself
+-- where it holds a marked label.
 use mathlib.Core.Path.{_≡_}
-use mathlib.Core.List.{List}
+use mathlib.Core.Bool.{Bool, true, false, not, _||_}
+use mathlib.Core.List.{List, [], _∷_}
 use Prim.Native.Nat.{ℕ, _<_, _≤_}
+use lib.Dec.{eqb}
 use lib.ListN.{length, getD}
-use Rattle.format.specs.Forest.{Forest, Allowed, siblings, bytes}
+use Rattle.format.specs.Forest.{Forest, Allowed, siblings, bytes, holds}
 use Rattle.format.specs.Tree.{tree-of}
 use Rattle.optimum.specs.Cheapest.{Run, front, node}
 use Rattle.table.specs.Table.{number}
@@ -26,6 +29,18 @@ pub record FirstEqual (t : Forest) (i r : ℕ) : Type 0 where
   pub equal : node r t ≡ node i t
   pub first : (j : ℕ) → j < r → node j t ≡ node i t → ⊥
 
--- Each of the first m siblings has its first equal one.
-pub record Classed (t : Forest) (m : ℕ) (kinds : List ℕ) : Type 0 where
-  pub class : (i : ℕ) → i < m → FirstEqual t i (getD kinds i 0)
+-- Whether a marked label stands in the bytes of a run: the byte behind each `10` and `11` is one. `label` says that one comes next.
+unfoldable pub marked-from : (marked : ℕ → Bool) → (label : Bool) → List ℕ → Bool
+marked-from m b [] = false
+marked-from m true (c ∷ s) = m c || marked-from m false s
+marked-from m false (c ∷ s) = marked-from m (not (eqb c 0x12)) s
+
+-- r is the class of sibling i: of a free one, the first that equals it; one that holds a marked label is alone in its class, so that
+-- it never matches another.
+pub data ClassOf (marked : ℕ → Bool) (t : Forest) (i r : ℕ) : Type 0 where
+  free : holds marked (node i t) ≡ false → FirstEqual t i r → ClassOf marked t i r
+  alone : holds marked (node i t) ≡ true → r ≡ i → ClassOf marked t i r
+
+-- Each of the first m siblings has its class.
+pub record Classed (marked : ℕ → Bool) (t : Forest) (m : ℕ) (kinds : List ℕ) : Type 0 where
+  pub class : (i : ℕ) → i < m → ClassOf marked t i (getD kinds i 0)

@@ -1,5 +1,5 @@
 // The folder against the trial of every fold: the best of all folds of a run, by cost, then by the number of repeats and then by
-// byte order, at several prices and limits.
+// byte order, at several prices, limits and marks.
 use format::Format;
 use format::wide;
 use harness::Checked;
@@ -130,7 +130,7 @@ fn goes_before(this: Best, fold: &[u8], best: Best, best_fold: &[u8]) -> bool {
     before(fold, best_fold)
 }
 
-// The better of the best so far and fold k, which counts only if it is within the limit.
+// The better of the best so far and fold k, which counts only if it is within the limit and repeats no marked label.
 fn better(
     best: Best,
     k: usize,
@@ -138,11 +138,12 @@ fn better(
     limit: usize,
     steps: &[u16],
     groups: &[u16],
+    marks: &[u8],
     first: u16,
     each: u16,
 ) -> Best {
     let fold = fold_at(pool, k);
-    let r = read_fold(fold, limit, steps, groups, first, each);
+    let r = read_fold(fold, limit, steps, groups, marks, first, each);
     if r.refusal != 0 {
         return best;
     }
@@ -165,6 +166,7 @@ fn best_of(
     limit: usize,
     steps: &[u16],
     groups: &[u16],
+    marks: &[u8],
     first: u16,
     each: u16,
 ) -> Best {
@@ -176,7 +178,7 @@ fn best_of(
     };
     let mut k = 0;
     while k < found {
-        best = better(best, k, pool, limit, steps, groups, first, each);
+        best = better(best, k, pool, limit, steps, groups, marks, first, each);
         k += 1;
     }
     best
@@ -214,8 +216,15 @@ fn compared(mut sums: Sums, right: bool, cost: u64, length: usize) -> Sums {
     sums
 }
 
-// The folder's fold at one setting of prices and limit, against the best of the pool.
-fn compare(sums: Sums, setting: usize, run: &[u8], found: usize, pool: &[u8]) -> Sums {
+// The folder's fold at one setting of prices and limit and under these marks, against the best of the pool.
+fn compare(
+    sums: Sums,
+    setting: usize,
+    marked: Marked,
+    run: &[u8],
+    found: usize,
+    pool: &[u8],
+) -> Sums {
     let p = prices_of(setting / 5);
     let limit = limit_of(setting % 5);
     let mut steps = [7u16; 256];
@@ -224,13 +233,17 @@ fn compare(sums: Sums, setting: usize, run: &[u8], found: usize, pool: &[u8]) ->
     let mut groups = [7u16; 256];
     groups[1] = p.group1;
     groups[2] = p.group2;
-    let best = best_of(found, pool, limit, &steps, &groups, p.first, p.each);
+    let mut marks = [0u8; 256];
+    marks[1] = marked.one;
+    marks[2] = marked.two;
+    let best = best_of(found, pool, limit, &steps, &groups, &marks, p.first, p.each);
     compare_best(
         sums,
         run,
         limit,
         &steps,
         &groups,
+        &marks,
         p.first,
         p.each,
         best,
@@ -245,6 +258,7 @@ fn compare_best(
     limit: usize,
     steps: &[u16],
     groups: &[u16],
+    marks: &[u8],
     first: u16,
     each: u16,
     best: Best,
@@ -258,6 +272,7 @@ fn compare_best(
         limit,
         steps,
         groups,
+        marks,
         first,
         each,
         &mut costs,
@@ -286,17 +301,24 @@ fn agree(c: Checked, best: Best) -> bool {
     c.right
 }
 
-// The settings of prices and limits from one up to another; there are 30.
+// The marks of the labels 1 and 2.
+pub struct Marked {
+    pub one: u8,
+    pub two: u8,
+}
+
+// The settings of prices and limits from one up to another, of which there are 30, and the marks.
 pub struct Settings {
     pub from: usize,
     pub to: usize,
+    pub marked: Marked,
 }
 
 fn compare_all(tried: Sums, settings: Settings, run: &[u8], found: usize, pool: &[u8]) -> Sums {
     let mut sums = tried;
     let mut setting = settings.from;
     while setting < settings.to {
-        sums = compare(sums, setting, run, found, pool);
+        sums = compare(sums, setting, settings.marked, run, found, pool);
         setting += 1;
     }
     sums

@@ -3,6 +3,7 @@
 mod compare;
 mod runs;
 
+use compare::Marked;
 use compare::Settings;
 use compare::Sums;
 use print::number;
@@ -20,10 +21,28 @@ fn show(name: &[u8], s: Sums) {
     word(b"\n");
 }
 
+// All settings, under marks of the labels 1 and 2.
+fn marked(one: u8, two: u8) -> Settings {
+    Settings {
+        from: 0,
+        to: 30,
+        marked: Marked { one, two },
+    }
+}
+
+// Some settings, with both labels free.
+fn free(from: usize, to: usize) -> Settings {
+    Settings {
+        from,
+        to,
+        marked: Marked { one: 0, two: 0 },
+    }
+}
+
 fn main() {
-    let all = Settings { from: 0, to: 30 };
-    let some = Settings { from: 4, to: 10 };
-    let apart = Settings { from: 25, to: 30 };
+    let all = free(0, 30);
+    let some = free(4, 10);
+    let apart = free(25, 30);
     show(b"runs of up to 5 nodes", try_runs(all, true, 5));
     show(b"runs of up to 6 nodes", try_runs(some, true, 6));
     show(
@@ -31,4 +50,20 @@ fn main() {
         try_runs(apart, true, 6),
     );
     show(b"runs of up to 9 steps", try_runs(all, false, 9));
+    show(
+        b"runs of up to 5 nodes, label 1 marked",
+        try_runs(marked(1, 0), true, 5),
+    );
+    show(
+        b"runs of up to 5 nodes, label 2 marked",
+        try_runs(marked(0, 1), true, 5),
+    );
+    show(
+        b"runs of up to 5 nodes, both marked",
+        try_runs(marked(1, 1), true, 5),
+    );
+    show(
+        b"runs of up to 9 steps, label 1 marked",
+        try_runs(marked(1, 0), false, 9),
+    );
 }

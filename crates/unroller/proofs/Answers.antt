@@ -14,7 +14,7 @@ use Rattle.format.specs.Forest.{at-most}
 use Rattle.format.specs.Machine.{Outcome, refused, accepted}
 use Rattle.format.specs.Order.{Bytes}
 use Rattle.format.specs.Head.{limit-head}
-use Rattle.format.specs.Readings.{free, fold-rules, as-fold-reading, measured}
+use Rattle.format.specs.Readings.{no-costs, free, fold-rules, as-fold-reading, measured}
 use Rattle.format.specs.Shape.{Reads}
 use Rattle.format.specs.Meaning.{Means}
 use Rattle.format.specs.declared.FoldReading.{FoldReading}
@@ -33,7 +33,7 @@ module _ (s : List ℕ) (k : ℕ) where
   abbrev pub Promised : (before after : List ℕ) → Unrolled → Type 0
   Promised before after r =
       (r ≡ unroll-answer (measured s k) (length before))
-      × ((after ≡ unroll-output (measured s k) before) × (r .refusal ≡ 0 → Means k s (take (r .length) after)))
+      × ((after ≡ unroll-output (measured s k) before) × (r .refusal ≡ 0 → Means (at-most k) s (take (r .length) after)))
 
   -- The third follows from the other two.
   pub promised : Bytes s → (before after : List ℕ) (r : Unrolled) → r ≡ unroll-answer (measured s k) (length before)
@@ -42,16 +42,16 @@ module _ (s : List ℕ) (k : ℕ) where
     where
       by-room : (t : Tally) (x : List ℕ) → measured s k ≡ accepted t x → (b : Bool) → ltb (length before) (length x) ≡ b
           → r ≡ unroll-answer (accepted t x) (length before) → after ≡ unroll-output (accepted t x) before → r .refusal ≡ 0
-          → Means k s (take (r .length) after)
+          → Means (at-most k) s (take (r .length) after)
       by-room t x m true b e f z = absurd (omega (arith, ap (λ (u : Unrolled). u .refusal) (rw b at e)))
       by-room t x m false b e f z =
           let long : r .length ≡ length x = ap (λ (u : Unrolled). u .length) (rw b at e) in
           rw (long, rw b at f, take-at x (drop (length x) before) (length x) refl)
-          (accepted-means k free s small t x (outcome-read (limit-head k) free s t x m))
+          (accepted-means (at-most k) free s small t x (outcome-read (limit-head k) no-costs s t x m))
 
       by-outcome : (o : Outcome) → measured s k ≡ o → r ≡ unroll-answer o (length before) → after ≡ unroll-output o before
-          → r .refusal ≡ 0 → Means k s (take (r .length) after)
-      by-outcome (refused n p) m e f z = absurd (outcome-some (limit-head k) free s n p m (sym (ap (λ (u : Unrolled). u .refusal) e) ∙ z))
+          → r .refusal ≡ 0 → Means (at-most k) s (take (r .length) after)
+      by-outcome (refused n p) m e f z = absurd (outcome-some (limit-head k) no-costs s n p m (sym (ap (λ (u : Unrolled). u .refusal) e) ∙ z))
       by-outcome (accepted t x) m e f z = by-room t x m (ltb (length before) (length x)) refl e f z
 
 -- A fold that was measured and not refused: it is the byte form of a tree, and n is the length of its run.
@@ -59,7 +59,7 @@ pub record Measured (s : List ℕ) (k n : ℕ) : Type 0 where
   pub tally : Tally
   pub text : List ℕ
   pub reading : measured s k ≡ accepted tally text
-  pub tree : Reads (fold-rules k free) s tally text
+  pub tree : Reads (fold-rules (at-most k) free) s tally text
   pub size : n ≡ length text
 
 -- The top of the walk.
@@ -69,14 +69,14 @@ top = record { at = 0; to = 0 }
 module _ (s : List ℕ) (small : Bytes s) (k : ℕ) (m : FoldReading) (reads : m ≡ as-fold-reading (measured s k)) where
   pub fold-measured : m .refusal ≡ 0 → Measured s k (m .length)
   fold-measured e =
-      let a = answered-accepted (measured s k) m reads (outcome-some (limit-head k) free s) e in
-      let r = outcome-read (limit-head k) free s (a .tally) (a .text) (a .reading) in
+      let a = answered-accepted (measured s k) m reads (outcome-some (limit-head k) no-costs s) e in
+      let r = outcome-read (limit-head k) no-costs s (a .tally) (a .text) (a .reading) in
       record {
         tally = a .tally;
         text = a .text;
         reading = a .reading;
-        tree = parses (fold-rules k free) s small (a .tally) (a .text) r;
-        size = ap (λ (u : FoldReading). u .length) (a .answer) ∙ sym (accepted-length k free s small (a .tally) (a .text) r);
+        tree = parses (fold-rules (at-most k) free) s small (a .tally) (a .text) r;
+        size = ap (λ (u : FoldReading). u .length) (a .answer) ∙ sym (accepted-length (at-most k) free s small (a .tally) (a .text) r);
       }
 
   module _ (out : List ℕ) where

@@ -7,6 +7,7 @@ use write::Place;
 use write::put_sequence;
 ghost use mathlib.Core.Path.{_≡_};
 ghost use lib.ListN.{length, take};
+ghost use Rattle.format.specs.Limits.{at-most};
 ghost use Rattle.format.specs.Readings.{measured};
 ghost use Rattle.format.specs.Meaning.{Means};
 ghost use Rattle.unroller.specs.Unrolling.{unroll-answer, unroll-output};
@@ -16,7 +17,7 @@ ghost use Rattle.unroller.specs.Unrolling.{unroll-answer, unroll-output}
 pub fn unroll(fold: &[u8], limit: usize, out: &mut [u8]) -> Unrolled
     ensures answered { λ r. ⌜ r ≡ unroll-answer (measured (now (fold .entry)) limit) (length (now (out .entry))) ⌝ }
     ensures written { λ _. ⌜ now (out .exit) ≡ unroll-output (measured (now (fold .entry)) limit) (now (out .entry)) ⌝ }
-    ensures meant { λ r. ⌜ (r .refusal ≡ 0 → Means limit (now (fold .entry)) (take (r .length) (now (out .exit)))) ⌝ }
+    ensures meant { λ r. ⌜ (r .refusal ≡ 0 → Means (at-most limit) (now (fold .entry)) (take (r .length) (now (out .exit)))) ⌝ }
 {
     // The whole fold is read before a byte is written: only then are its refusals and the length known.
     let m = measure(fold, limit);

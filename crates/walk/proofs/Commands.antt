@@ -10,14 +10,20 @@ use lib.Dec.{eqb}
 use lib.ListN.{length, getD, drop, length-drop}
 use lib.Seq.{getD-drop}
 use borrow.Author.Tests.{lt-ltb, le-ltb, eq-eqb, ne-eqb, le-leb, lt-leb}
-use Rattle.format.specs.Machine.{Rules, Open, a-group, a-repeat, refusal, place-of, put-step, enter-group, leave-group, enter-repeat, leave-repeat, with-step, group-entered, repeat-entered, after-group, after-repeat, count-operand, width-operand, times}
+use Rattle.format.specs.Machine.{Rules, Open, a-group, a-repeat, refusal, place-of, put-step, enter-group, leave-group, enter-repeat, leave-repeat, with-step, group-entered, repeat-entered, after-group, after-repeat, label-operand, count-operand, width-operand, times}
 use Rattle.format.specs.declared.Limits.{Limits}
 use Rattle.format.specs.declared.Tally.{Tally}
 use Rattle.format.proofs.Machine.{refusal-step, refusal-group, refusal-group-end, refusal-repeat, refusal-repeat-end, repeat-passes, group-end-passes, repeat-end-passes, scan-step, scan-group, scan-group-end, scan-repeat, scan-repeat-end}
-use Rattle.walk.specs.Walk.{rules-of, At, Halted, Room, Grown, OpenAt, ItemRead, OpenRead, CloseRead, in-group-of, in-repeat-of, word-at, repeat-at}
+use Rattle.walk.specs.Walk.{rules-of, At, Halted, Room, Grown, OpenAt, ItemRead, OpenRead, CloseRead, in-group-of, in-repeat-of, word-at, repeat-at, barred}
 use Rattle.walk.specs.declared.command.Terms.{Terms}
 use Rattle.walk.specs.declared.command.Depth.{Depth}
 use Rattle.walk.proofs.Walking.{at, cut-one, cut-two, cut-five, stop, stop-end, item-refused, open-refused, close-refused}
+
+-- The label behind a `10` or `11`.
+label-at : (s : List ℕ) (p : ℕ) → label-operand (drop (p + 1) s) ≡ getD s (p + 1) 0
+label-at s p =
+    let e : p + 1 + 0 ≡ p + 1 = omega arith in
+    simp (getD-drop, e)
 
 -- What is left behind a command, in numbers.
 rest-short : (s : List ℕ) (p k : ℕ) → p < length s → length s < p + suc k → length (drop (p + 1) s) < k
@@ -26,9 +32,9 @@ rest-short s p k h e = rw length-drop (omega arith)
 rest-long : (s : List ℕ) (p k : ℕ) → p + suc k ≤ length s → k ≤ length (drop (p + 1) s)
 rest-long s p k h = rw length-drop (omega arith)
 
-module _ (a : Terms) (steps groups s : List ℕ) (d : Depth) (p : ℕ) (t : Tally) where
+module _ (a : Terms) (steps groups marks s : List ℕ) (d : Depth) (p : ℕ) (t : Tally) where
   abbrev R : Rules
-  R = rules-of a steps groups
+  R = rules-of a steps groups marks
 
   -- `10`
   pub step-short : At s p 0x10 → length s < p + 2 → (u : Tally) → ItemRead R s d p t (record { refusal = 3; at = length s; tally = u })
@@ -36,17 +42,22 @@ module _ (a : Terms) (steps groups s : List ℕ) (d : Depth) (p : ℕ) (t : Tall
       item-refused R s d p t _ (λ z. omega arith)
       (λ os o x. stop R s p os t x 3 (h .below) (omega arith) (rw (h .byte, refusal-step R (at os t x) (drop (p + 1) s), lt-ltb _ _ (rest-short s p 1 (h .below) e))))
 
-  pub step-full : At s p 0x10 → p + 2 ≤ length s → a .limits .nodes ≤ t .nodes → (u : Tally) → ItemRead R s d p t (record { refusal = 10; at = p; tally = u })
-  step-full h e f u =
+  pub step-barred : At s p 0x10 → p + 2 ≤ length s → barred marks (getD s (p + 1) 0) d ≡ true → (u : Tally) → ItemRead R s d p t (record { refusal = 19; at = p; tally = u })
+  step-barred h e f u =
       item-refused R s d p t _ (λ z. omega arith)
-      (λ os o x. stop R s p os t x 10 (h .below) (omega arith) (rw (h .byte, refusal-step R (at os t x) (drop (p + 1) s), le-ltb _ _ (rest-long s p 1 e), lt-ltb (a .limits .nodes) (t .nodes + 1) (omega arith))))
+      (λ os o x. stop R s p os t x 19 (h .below) (omega arith) (rw (h .byte, refusal-step R (at os t x) (drop (p + 1) s), le-ltb _ _ (rest-long s p 1 e), label-at s p, o .repeats, f)))
 
-  pub step-on : At s p 0x10 → p + 2 ≤ length s → t .nodes < a .limits .nodes → (k : ℕ) → k ≡ getD steps (getD s (p + 1) 0) 0 → k < 65536 → ItemRead R s d p t (record { refusal = 0; at = p + 2; tally = with-step t k })
+  pub step-full : At s p 0x10 → p + 2 ≤ length s → barred marks (getD s (p + 1) 0) d ≡ false → a .limits .nodes ≤ t .nodes → (u : Tally) → ItemRead R s d p t (record { refusal = 10; at = p; tally = u })
+  step-full h e b f u =
+      item-refused R s d p t _ (λ z. omega arith)
+      (λ os o x. stop R s p os t x 10 (h .below) (omega arith) (rw (h .byte, refusal-step R (at os t x) (drop (p + 1) s), le-ltb _ _ (rest-long s p 1 e), label-at s p, o .repeats, b, lt-ltb (a .limits .nodes) (t .nodes + 1) (omega arith))))
+
+  pub step-on : At s p 0x10 → p + 2 ≤ length s → barred marks (getD s (p + 1) 0) d ≡ false → t .nodes < a .limits .nodes → (k : ℕ) → k ≡ getD steps (getD s (p + 1) 0) 0 → k < 65536 → ItemRead R s d p t (record { refusal = 0; at = p + 2; tally = with-step t k })
   unfolding put-step
-  step-on h e f k q g =
+  step-on h e b f k q g =
       record {
         moves = record {
-          goes = λ z os o x. (x ++ 0x10 ∷ getD s (p + 1) 0 ∷ [], rw (cut-two s p e, h .byte, q) (scan-step R p (at os t x) (drop (p + 2) s) (getD s (p + 1) 0) (refusal-step R (at os t x) (getD s (p + 1) 0 ∷ drop (p + 2) s) ∙ rw (le-ltb (a .limits .nodes) (t .nodes + 1) (omega arith), le-ltb (suc (length (drop (p + 2) s))) 1 (omega arith)))));
+          goes = λ z os o x. (x ++ 0x10 ∷ getD s (p + 1) 0 ∷ [], rw (cut-two s p e, h .byte, q) (scan-step R p (at os t x) (drop (p + 2) s) (getD s (p + 1) 0) (refusal-step R (at os t x) (getD s (p + 1) 0 ∷ drop (p + 2) s) ∙ rw (o .repeats, b, le-ltb (a .limits .nodes) (t .nodes + 1) (omega arith), le-ltb (suc (length (drop (p + 2) s))) 1 (omega arith)))));
           stops = λ z. absurd (z refl);
         };
         ahead = λ z. omega arith;
@@ -65,18 +76,23 @@ module _ (a : Terms) (steps groups s : List ℕ) (d : Depth) (p : ℕ) (t : Tall
       open-refused R s d p t _ (λ z. omega arith) (in-group-of d) o 2 1 65535
       (λ os m x. stop R s p os t x 8 (h .below) (omega arith) (rw (h .byte, refusal-group R (at os t x) (drop (p + 1) s), le-ltb _ _ (rest-long s p 1 e), m .groups, le-leb (a .limits .groups) (d .groups) f)))
 
-  pub group-full : At s p 0x11 → p + 2 ≤ length s → d .groups < a .limits .groups → a .limits .nodes ≤ t .nodes → (o : Open) (u : Tally) → OpenRead R s d (in-group-of d) p t o 2 1 65535 (record { refusal = 10; at = p; tally = u })
-  group-full h e f g o u =
+  pub group-barred : At s p 0x11 → p + 2 ≤ length s → d .groups < a .limits .groups → barred marks (getD s (p + 1) 0) d ≡ true → (o : Open) (u : Tally) → OpenRead R s d (in-group-of d) p t o 2 1 65535 (record { refusal = 19; at = p; tally = u })
+  group-barred h e f b o u =
       open-refused R s d p t _ (λ z. omega arith) (in-group-of d) o 2 1 65535
-      (λ os m x. stop R s p os t x 10 (h .below) (omega arith) (rw (h .byte, refusal-group R (at os t x) (drop (p + 1) s), le-ltb _ _ (rest-long s p 1 e), m .groups, lt-leb (a .limits .groups) (d .groups) f, lt-ltb (a .limits .nodes) (t .nodes + 1) (omega arith))))
+      (λ os m x. stop R s p os t x 19 (h .below) (omega arith) (rw (h .byte, refusal-group R (at os t x) (drop (p + 1) s), le-ltb _ _ (rest-long s p 1 e), m .groups, lt-leb (a .limits .groups) (d .groups) f, label-at s p, m .repeats, b)))
 
-  pub group-on : Room (a .limits) d t → At s p 0x11 → p + 2 ≤ length s → d .groups < a .limits .groups → t .nodes < a .limits .nodes → (k : ℕ) → k ≡ getD groups (getD s (p + 1) 0) 0 → k < 65536 → OpenRead R s d (in-group-of d) p t (a-group t) 2 1 65535 (record { refusal = 0; at = p + 2; tally = group-entered (d .groups) t k })
+  pub group-full : At s p 0x11 → p + 2 ≤ length s → d .groups < a .limits .groups → barred marks (getD s (p + 1) 0) d ≡ false → a .limits .nodes ≤ t .nodes → (o : Open) (u : Tally) → OpenRead R s d (in-group-of d) p t o 2 1 65535 (record { refusal = 10; at = p; tally = u })
+  group-full h e f b g o u =
+      open-refused R s d p t _ (λ z. omega arith) (in-group-of d) o 2 1 65535
+      (λ os m x. stop R s p os t x 10 (h .below) (omega arith) (rw (h .byte, refusal-group R (at os t x) (drop (p + 1) s), le-ltb _ _ (rest-long s p 1 e), m .groups, lt-leb (a .limits .groups) (d .groups) f, label-at s p, m .repeats, b, lt-ltb (a .limits .nodes) (t .nodes + 1) (omega arith))))
+
+  pub group-on : Room (a .limits) d t → At s p 0x11 → p + 2 ≤ length s → d .groups < a .limits .groups → barred marks (getD s (p + 1) 0) d ≡ false → t .nodes < a .limits .nodes → (k : ℕ) → k ≡ getD groups (getD s (p + 1) 0) 0 → k < 65536 → OpenRead R s d (in-group-of d) p t (a-group t) 2 1 65535 (record { refusal = 0; at = p + 2; tally = group-entered (d .groups) t k })
   unfolding enter-group
-  group-on room h e f g k q j =
+  group-on room h e f b g k q j =
       record {
         moves = record {
           goes = λ z os o x.
-              (x ++ 0x11 ∷ getD s (p + 1) 0 ∷ [], rw (cut-two s p e, h .byte, q, ← o .groups) (scan-group R p (at os t x) (drop (p + 2) s) (getD s (p + 1) 0) (refusal-group R (at os t x) (getD s (p + 1) 0 ∷ drop (p + 2) s) ∙ rw (le-ltb (suc (length (drop (p + 2) s))) 1 (omega arith), o .groups, lt-leb (a .limits .groups) (d .groups) f, le-ltb (a .limits .nodes) (t .nodes + 1) (omega arith)))));
+              (x ++ 0x11 ∷ getD s (p + 1) 0 ∷ [], rw (cut-two s p e, h .byte, q, ← o .groups) (scan-group R p (at os t x) (drop (p + 2) s) (getD s (p + 1) 0) (refusal-group R (at os t x) (getD s (p + 1) 0 ∷ drop (p + 2) s) ∙ rw (le-ltb (suc (length (drop (p + 2) s))) 1 (omega arith), o .groups, lt-leb (a .limits .groups) (d .groups) f, o .repeats, b, le-ltb (a .limits .nodes) (t .nodes + 1) (omega arith)))));
           stops = λ z. absurd (z refl);
         };
         ahead = λ z. omega arith;
@@ -101,38 +117,38 @@ width-at s p =
     let f : p + 1 + 3 ≡ p + 3 + 1 = omega arith in
     simp (getD-drop, e, f)
 
-module _ (a : Terms) (steps groups s : List ℕ) (d : Depth) (p : ℕ) (t : Tally) (h : At s p 0x20) (room : Room (a .limits) d t) where
-  refused-repeat : (n : ℕ) → n ≢ 0 → ((os : List Open) → OpenAt d os → (x : List ℕ) → refusal (rules-of a steps groups) (at os t x) 0x20 (drop (p + 1) s) ≡ n) → (o : Open) (u : Tally) → OpenRead (rules-of a steps groups) s d (in-repeat-of d) p t o 0 0 4294967295 (record { refusal = n; at = place-of n p (length s); tally = u })
+module _ (a : Terms) (steps groups marks s : List ℕ) (d : Depth) (p : ℕ) (t : Tally) (h : At s p 0x20) (room : Room (a .limits) d t) where
+  refused-repeat : (n : ℕ) → n ≢ 0 → ((os : List Open) → OpenAt d os → (x : List ℕ) → refusal (rules-of a steps groups marks) (at os t x) 0x20 (drop (p + 1) s) ≡ n) → (o : Open) (u : Tally) → OpenRead (rules-of a steps groups marks) s d (in-repeat-of d) p t o 0 0 4294967295 (record { refusal = n; at = place-of n p (length s); tally = u })
   refused-repeat n z e o u =
-      open-refused (rules-of a steps groups) s d p t _ z (in-repeat-of d) o 0 0 4294967295
-      (λ os m x. stop (rules-of a steps groups) s p os t x n (h .below) z (rw (h .byte) (e os m x)))
+      open-refused (rules-of a steps groups marks) s d p t _ z (in-repeat-of d) o 0 0 4294967295
+      (λ os m x. stop (rules-of a steps groups marks) s p os t x n (h .below) z (rw (h .byte) (e os m x)))
 
   -- `20`
-  pub repeat-in-run : a .folds ≡ false → (o : Open) (u : Tally) → OpenRead (rules-of a steps groups) s d (in-repeat-of d) p t o 0 0 4294967295 (record { refusal = 2; at = p; tally = u })
+  pub repeat-in-run : a .folds ≡ false → (o : Open) (u : Tally) → OpenRead (rules-of a steps groups marks) s d (in-repeat-of d) p t o 0 0 4294967295 (record { refusal = 2; at = p; tally = u })
   repeat-in-run f =
-      refused-repeat 2 (omega arith) (λ os m x. rw (refusal-repeat (rules-of a steps groups) (at os t x) (drop (p + 1) s) (room .nodes), f))
+      refused-repeat 2 (omega arith) (λ os m x. rw (refusal-repeat (rules-of a steps groups marks) (at os t x) (drop (p + 1) s) (room .nodes), f))
 
   module _ (folds : a .folds ≡ true) where
-    pub repeat-short : length s < p + 5 → (o : Open) (u : Tally) → OpenRead (rules-of a steps groups) s d (in-repeat-of d) p t o 0 0 4294967295 (record { refusal = 3; at = length s; tally = u })
+    pub repeat-short : length s < p + 5 → (o : Open) (u : Tally) → OpenRead (rules-of a steps groups marks) s d (in-repeat-of d) p t o 0 0 4294967295 (record { refusal = 3; at = length s; tally = u })
     repeat-short e =
-        refused-repeat 3 (omega arith) (λ os m x. rw (refusal-repeat (rules-of a steps groups) (at os t x) (drop (p + 1) s) (room .nodes), folds, lt-ltb _ _ (rest-short s p 4 (h .below) e)))
+        refused-repeat 3 (omega arith) (λ os m x. rw (refusal-repeat (rules-of a steps groups marks) (at os t x) (drop (p + 1) s) (room .nodes), folds, lt-ltb _ _ (rest-short s p 4 (h .below) e)))
 
     module _ (long : p + 5 ≤ length s) where
-      pub repeat-few : word-at s (p + 1) < 2 → (o : Open) (u : Tally) → OpenRead (rules-of a steps groups) s d (in-repeat-of d) p t o 0 0 4294967295 (record { refusal = 6; at = p; tally = u })
+      pub repeat-few : word-at s (p + 1) < 2 → (o : Open) (u : Tally) → OpenRead (rules-of a steps groups marks) s d (in-repeat-of d) p t o 0 0 4294967295 (record { refusal = 6; at = p; tally = u })
       repeat-few e =
-          refused-repeat 6 (omega arith) (λ os m x. rw (refusal-repeat (rules-of a steps groups) (at os t x) (drop (p + 1) s) (room .nodes), folds, le-ltb _ _ (rest-long s p 4 long), count-at s p, lt-ltb _ _ e))
+          refused-repeat 6 (omega arith) (λ os m x. rw (refusal-repeat (rules-of a steps groups marks) (at os t x) (drop (p + 1) s) (room .nodes), folds, le-ltb _ _ (rest-long s p 4 long), count-at s p, lt-ltb _ _ e))
 
       module _ (twice : 2 ≤ word-at s (p + 1)) where
-        pub repeat-wide : a .widest < word-at s (p + 3) → (o : Open) (u : Tally) → OpenRead (rules-of a steps groups) s d (in-repeat-of d) p t o 0 0 4294967295 (record { refusal = 7; at = p; tally = u })
+        pub repeat-wide : a .widest < word-at s (p + 3) → (o : Open) (u : Tally) → OpenRead (rules-of a steps groups marks) s d (in-repeat-of d) p t o 0 0 4294967295 (record { refusal = 7; at = p; tally = u })
         repeat-wide e =
-            refused-repeat 7 (omega arith) (λ os m x. rw (refusal-repeat (rules-of a steps groups) (at os t x) (drop (p + 1) s) (room .nodes), folds, le-ltb _ _ (rest-long s p 4 long), count-at s p, width-at s p, le-ltb _ _ twice, lt-ltb _ _ e))
+            refused-repeat 7 (omega arith) (λ os m x. rw (refusal-repeat (rules-of a steps groups marks) (at os t x) (drop (p + 1) s) (room .nodes), folds, le-ltb _ _ (rest-long s p 4 long), count-at s p, width-at s p, le-ltb _ _ twice, lt-ltb _ _ e))
 
         module _ (narrow : word-at s (p + 3) ≤ a .widest) where
-          pub repeat-deep : a .limits .repeats ≤ d .repeats → (o : Open) (u : Tally) → OpenRead (rules-of a steps groups) s d (in-repeat-of d) p t o 0 0 4294967295 (record { refusal = 8; at = p; tally = u })
+          pub repeat-deep : a .limits .repeats ≤ d .repeats → (o : Open) (u : Tally) → OpenRead (rules-of a steps groups marks) s d (in-repeat-of d) p t o 0 0 4294967295 (record { refusal = 8; at = p; tally = u })
           repeat-deep e =
-              refused-repeat 8 (omega arith) (λ os m x. rw (refusal-repeat (rules-of a steps groups) (at os t x) (drop (p + 1) s) (room .nodes), folds, le-ltb _ _ (rest-long s p 4 long), count-at s p, width-at s p, le-ltb _ _ twice, le-ltb _ _ narrow, m .repeats, le-leb (a .limits .repeats) (d .repeats) e))
+              refused-repeat 8 (omega arith) (λ os m x. rw (refusal-repeat (rules-of a steps groups marks) (at os t x) (drop (p + 1) s) (room .nodes), folds, le-ltb _ _ (rest-long s p 4 long), count-at s p, width-at s p, le-ltb _ _ twice, le-ltb _ _ narrow, m .repeats, le-leb (a .limits .repeats) (d .repeats) e))
 
-          pub repeat-on : d .repeats < a .limits .repeats → (k : ℕ) → k ≡ a .first + a .each * (word-at s (p + 1) - 2) → k ≤ 4294967295 → OpenRead (rules-of a steps groups) s d (in-repeat-of d) p t (repeat-at s p t) 0 0 4294967295 (record { refusal = 0; at = p + 5; tally = repeat-entered t k })
+          pub repeat-on : d .repeats < a .limits .repeats → (k : ℕ) → k ≡ a .first + a .each * (word-at s (p + 1) - 2) → k ≤ 4294967295 → OpenRead (rules-of a steps groups marks) s d (in-repeat-of d) p t (repeat-at s p t) 0 0 4294967295 (record { refusal = 0; at = p + 5; tally = repeat-entered t k })
           unfolding enter-repeat
           repeat-on e k q j =
               record {
@@ -142,8 +158,8 @@ module _ (a : Terms) (steps groups s : List ℕ) (d : Depth) (p : ℕ) (t : Tall
                       let n : p + 3 + 1 ≡ p + 4 = omega arith in (
                         x,
                         rw (cut-five s p long, h .byte, q, m, n)
-                            (scan-repeat (rules-of a steps groups) p (at os t x) (drop (p + 5) s) (getD s (p + 1) 0) (getD s (p + 2) 0) (getD s (p + 3) 0) (getD s (p + 4) 0)
-                            (repeat-passes (rules-of a steps groups) (at os t x) _ (room .nodes)
+                            (scan-repeat (rules-of a steps groups marks) p (at os t x) (drop (p + 5) s) (getD s (p + 1) 0) (getD s (p + 2) 0) (getD s (p + 3) 0) (getD s (p + 4) 0)
+                            (repeat-passes (rules-of a steps groups marks) (at os t x) _ (room .nodes)
                             (record { folds = folds; operand = omega arith; twice = rw m at twice; narrow = rw n at narrow; room = omega (arith, o .repeats) }))),
                       );
                   stops = λ z. absurd (z refl);
@@ -159,34 +175,34 @@ module _ (a : Terms) (steps groups s : List ℕ) (d : Depth) (p : ℕ) (t : Tall
               }
 
 -- `12` and `21`, where a sequence has come to its end inside an open group or repeat.
-module _ (a : Terms) (steps groups s : List ℕ) (d : Depth) (p : ℕ) (t i : Tally) (h : Halted s p) (within : i .nodes ≤ a .limits .nodes) where
-  pub left-open : p ≡ length s → (o : Open) (u : Tally) → CloseRead (rules-of a steps groups) s d p t i o (record { refusal = 3; at = p; tally = u })
+module _ (a : Terms) (steps groups marks s : List ℕ) (d : Depth) (p : ℕ) (t i : Tally) (h : Halted s p) (within : i .nodes ≤ a .limits .nodes) where
+  pub left-open : p ≡ length s → (o : Open) (u : Tally) → CloseRead (rules-of a steps groups marks) s d p t i o (record { refusal = 3; at = p; tally = u })
   left-open e o u =
-      close-refused (rules-of a steps groups) s d p t _ (λ z. omega arith) i o (λ os m x. stop-end (rules-of a steps groups) s p o os i x e)
+      close-refused (rules-of a steps groups marks) s d p t _ (λ z. omega arith) i o (λ os m x. stop-end (rules-of a steps groups marks) s p o os i x e)
 
   module _ (more : p ≡ length s → ⊥) where
-    refused-close : (c n : ℕ) → getD s p 0 ≡ c → eqb n 3 ≡ false → n ≢ 0 → (o : Open) → ((os : List Open) → (x : List ℕ) → refusal (rules-of a steps groups) (at (o ∷ os) i x) c (drop (p + 1) s) ≡ n) → (u : Tally) → CloseRead (rules-of a steps groups) s d p t i o (record { refusal = n; at = p; tally = u })
+    refused-close : (c n : ℕ) → getD s p 0 ≡ c → eqb n 3 ≡ false → n ≢ 0 → (o : Open) → ((os : List Open) → (x : List ℕ) → refusal (rules-of a steps groups marks) (at (o ∷ os) i x) c (drop (p + 1) s) ≡ n) → (u : Tally) → CloseRead (rules-of a steps groups marks) s d p t i o (record { refusal = n; at = p; tally = u })
     refused-close c n b z y o e u =
-        close-refused (rules-of a steps groups) s d p t _ y i o
-        (λ os m x. stop (rules-of a steps groups) s p (o ∷ os) i x n (omega (arith, h .within)) y (rw b (e os x)) ∙ rw z)
+        close-refused (rules-of a steps groups marks) s d p t _ y i o
+        (λ os m x. stop (rules-of a steps groups marks) s p (o ∷ os) i x n (omega (arith, h .within)) y (rw b (e os x)) ∙ rw z)
 
     -- the close of a group
-    pub group-empty : getD s p 0 ≡ 0x12 → i .siblings ≡ 0 → (u : Tally) → CloseRead (rules-of a steps groups) s d p t i (a-group t) (record { refusal = 5; at = p; tally = u })
+    pub group-empty : getD s p 0 ≡ 0x12 → i .siblings ≡ 0 → (u : Tally) → CloseRead (rules-of a steps groups marks) s d p t i (a-group t) (record { refusal = 5; at = p; tally = u })
     group-empty b e =
         refused-close 0x12 5 b refl (omega arith) (a-group t)
-        (λ os x. rw (refusal-group-end (rules-of a steps groups) (at (a-group t ∷ os) i x) (drop (p + 1) s) within, e))
+        (λ os x. rw (refusal-group-end (rules-of a steps groups marks) (at (a-group t ∷ os) i x) (drop (p + 1) s) within, e))
 
-    pub group-crossed-run : getD s p 0 ≡ 0x21 → a .folds ≡ false → (u : Tally) → CloseRead (rules-of a steps groups) s d p t i (a-group t) (record { refusal = 2; at = p; tally = u })
+    pub group-crossed-run : getD s p 0 ≡ 0x21 → a .folds ≡ false → (u : Tally) → CloseRead (rules-of a steps groups marks) s d p t i (a-group t) (record { refusal = 2; at = p; tally = u })
     group-crossed-run b e =
         refused-close 0x21 2 b refl (omega arith) (a-group t)
-        (λ os x. rw (refusal-repeat-end (rules-of a steps groups) (at (a-group t ∷ os) i x) (drop (p + 1) s), e))
+        (λ os x. rw (refusal-repeat-end (rules-of a steps groups marks) (at (a-group t ∷ os) i x) (drop (p + 1) s), e))
 
-    pub group-crossed : getD s p 0 ≡ 0x21 → a .folds ≡ true → (u : Tally) → CloseRead (rules-of a steps groups) s d p t i (a-group t) (record { refusal = 4; at = p; tally = u })
+    pub group-crossed : getD s p 0 ≡ 0x21 → a .folds ≡ true → (u : Tally) → CloseRead (rules-of a steps groups marks) s d p t i (a-group t) (record { refusal = 4; at = p; tally = u })
     group-crossed b e =
         refused-close 0x21 4 b refl (omega arith) (a-group t)
-        (λ os x. rw (refusal-repeat-end (rules-of a steps groups) (at (a-group t ∷ os) i x) (drop (p + 1) s), e))
+        (λ os x. rw (refusal-repeat-end (rules-of a steps groups marks) (at (a-group t ∷ os) i x) (drop (p + 1) s), e))
 
-    pub group-left : getD s p 0 ≡ 0x12 → (i .siblings ≡ 0 → ⊥) → Grown (a .limits) t (after-group t i) → CloseRead (rules-of a steps groups) s d p t i (a-group t) (record { refusal = 0; at = p + 1; tally = after-group t i })
+    pub group-left : getD s p 0 ≡ 0x12 → (i .siblings ≡ 0 → ⊥) → Grown (a .limits) t (after-group t i) → CloseRead (rules-of a steps groups marks) s d p t i (a-group t) (record { refusal = 0; at = p + 1; tally = after-group t i })
     unfolding leave-group
     group-left b e g =
         record {
@@ -194,8 +210,8 @@ module _ (a : Terms) (steps groups s : List ℕ) (d : Depth) (p : ℕ) (t i : Ta
             goes = λ z os o x. (
               x ++ 0x12 ∷ [],
               rw (cut-one s p (omega (arith, h .within)), b)
-                  (scan-group-end (rules-of a steps groups) p (at (a-group t ∷ os) i x) (drop (p + 1) s)
-                  (group-end-passes (rules-of a steps groups) (at (a-group t ∷ os) i x) (drop (p + 1) s) within (record { inner = refl; some = omega arith }))),
+                  (scan-group-end (rules-of a steps groups marks) p (at (a-group t ∷ os) i x) (drop (p + 1) s)
+                  (group-end-passes (rules-of a steps groups marks) (at (a-group t ∷ os) i x) (drop (p + 1) s) within (record { inner = refl; some = omega arith }))),
             );
             stops = λ z. absurd (z refl);
           };
@@ -206,30 +222,30 @@ module _ (a : Terms) (steps groups s : List ℕ) (d : Depth) (p : ℕ) (t i : Ta
 
     -- the close of a repeat
     module _ (folds : a .folds ≡ true) (n w : ℕ) where
-      pub repeat-crossed : getD s p 0 ≡ 0x12 → (u : Tally) → CloseRead (rules-of a steps groups) s d p t i (a-repeat n w t) (record { refusal = 4; at = p; tally = u })
+      pub repeat-crossed : getD s p 0 ≡ 0x12 → (u : Tally) → CloseRead (rules-of a steps groups marks) s d p t i (a-repeat n w t) (record { refusal = 4; at = p; tally = u })
       repeat-crossed b =
           refused-close 0x12 4 b refl (omega arith) (a-repeat n w t)
-          (λ os x. rw (refusal-group-end (rules-of a steps groups) (at (a-repeat n w t ∷ os) i x) (drop (p + 1) s) within))
+          (λ os x. rw (refusal-group-end (rules-of a steps groups marks) (at (a-repeat n w t ∷ os) i x) (drop (p + 1) s) within))
 
       module _ (b : getD s p 0 ≡ 0x21) where
-        pub repeat-empty : i .siblings ≡ 0 → (u : Tally) → CloseRead (rules-of a steps groups) s d p t i (a-repeat n w t) (record { refusal = 5; at = p; tally = u })
+        pub repeat-empty : i .siblings ≡ 0 → (u : Tally) → CloseRead (rules-of a steps groups marks) s d p t i (a-repeat n w t) (record { refusal = 5; at = p; tally = u })
         repeat-empty e =
             refused-close 0x21 5 b refl (omega arith) (a-repeat n w t)
-            (λ os x. rw (refusal-repeat-end (rules-of a steps groups) (at (a-repeat n w t ∷ os) i x) (drop (p + 1) s), folds, e))
+            (λ os x. rw (refusal-repeat-end (rules-of a steps groups marks) (at (a-repeat n w t ∷ os) i x) (drop (p + 1) s), folds, e))
 
         module _ (some : i .siblings ≡ 0 → ⊥) where
-          pub repeat-untrue : (i .siblings ≡ w → ⊥) → (u : Tally) → CloseRead (rules-of a steps groups) s d p t i (a-repeat n w t) (record { refusal = 9; at = p; tally = u })
+          pub repeat-untrue : (i .siblings ≡ w → ⊥) → (u : Tally) → CloseRead (rules-of a steps groups marks) s d p t i (a-repeat n w t) (record { refusal = 9; at = p; tally = u })
           repeat-untrue e =
               refused-close 0x21 9 b refl (omega arith) (a-repeat n w t)
-              (λ os x. rw (refusal-repeat-end (rules-of a steps groups) (at (a-repeat n w t ∷ os) i x) (drop (p + 1) s), folds, ne-eqb _ _ some, ne-eqb _ _ e))
+              (λ os x. rw (refusal-repeat-end (rules-of a steps groups marks) (at (a-repeat n w t ∷ os) i x) (drop (p + 1) s), folds, ne-eqb _ _ some, ne-eqb _ _ e))
 
           module _ (true-width : i .siblings ≡ w) where
-            pub repeat-full : a .limits .nodes < after-repeat n t i .nodes → (u : Tally) → CloseRead (rules-of a steps groups) s d p t i (a-repeat n w t) (record { refusal = 10; at = p; tally = u })
+            pub repeat-full : a .limits .nodes < after-repeat n t i .nodes → (u : Tally) → CloseRead (rules-of a steps groups marks) s d p t i (a-repeat n w t) (record { refusal = 10; at = p; tally = u })
             repeat-full e =
                 refused-close 0x21 10 b refl (omega arith) (a-repeat n w t)
-                (λ os x. rw (refusal-repeat-end (rules-of a steps groups) (at (a-repeat n w t ∷ os) i x) (drop (p + 1) s), folds, ne-eqb _ _ some, eq-eqb _ _ true-width, lt-ltb _ _ e))
+                (λ os x. rw (refusal-repeat-end (rules-of a steps groups marks) (at (a-repeat n w t ∷ os) i x) (drop (p + 1) s), folds, ne-eqb _ _ some, eq-eqb _ _ true-width, lt-ltb _ _ e))
 
-            pub repeat-left : after-repeat n t i .nodes ≤ a .limits .nodes → Grown (a .limits) t (after-repeat n t i) → CloseRead (rules-of a steps groups) s d p t i (a-repeat n w t) (record { refusal = 0; at = p + 1; tally = after-repeat n t i })
+            pub repeat-left : after-repeat n t i .nodes ≤ a .limits .nodes → Grown (a .limits) t (after-repeat n t i) → CloseRead (rules-of a steps groups marks) s d p t i (a-repeat n w t) (record { refusal = 0; at = p + 1; tally = after-repeat n t i })
             unfolding leave-repeat
             repeat-left e g =
                 record {
@@ -237,8 +253,8 @@ module _ (a : Terms) (steps groups s : List ℕ) (d : Depth) (p : ℕ) (t i : Ta
                     goes = λ z os o x. (
                       x ++ times (n - 1) (drop (t .size) x),
                       rw (cut-one s p (omega (arith, h .within)), b)
-                          (scan-repeat-end (rules-of a steps groups) p (at (a-repeat n w t ∷ os) i x) (drop (p + 1) s)
-                          (repeat-end-passes (rules-of a steps groups) (at (a-repeat n w t ∷ os) i x) (drop (p + 1) s)
+                          (scan-repeat-end (rules-of a steps groups marks) p (at (a-repeat n w t ∷ os) i x) (drop (p + 1) s)
+                          (repeat-end-passes (rules-of a steps groups marks) (at (a-repeat n w t ∷ os) i x) (drop (p + 1) s)
                           (record { folds = folds; inner = refl; some = omega arith; true-width = true-width; total = e }))),
                     );
                     stops = λ z. absurd (z refl);

@@ -1,11 +1,11 @@
 -- What the functions of the walk promise: reading on from here is reading on from there, or refusing.
 use mathlib.Core.Path.{_≡_}
-use mathlib.Core.Bool.{cond}
+use mathlib.Core.Bool.{Bool, cond, _&&_}
 use mathlib.Core.List.{List, [], _∷_}
 use Prim.Native.Nat.{ℕ, _+_, _*_, _<_, _≤_}
-use lib.Dec.{eqb}
+use lib.Dec.{eqb, ltb}
 use lib.ListN.{length, getD, drop}
-use Rattle.format.specs.Limits.{tariff, priced}
+use Rattle.format.specs.Limits.{tariff, priced, marked-in, allowed}
 use Rattle.format.specs.declared.Limits.{Limits}
 use Rattle.format.specs.Machine.{Rules, Open, a-repeat, Outcome, refused, accepted, scan, read, open-groups, open-repeats}
 use Rattle.format.specs.declared.Tally.{Tally}
@@ -13,10 +13,19 @@ use Rattle.walk.specs.declared.command.Terms.{Terms}
 use Rattle.walk.specs.declared.command.Depth.{Depth}
 use Rattle.walk.specs.declared.command.Walk.{Walk}
 
--- The machine's rules for what was asked, with the cost tables of steps and of groups.
-abbrev pub rules-of : Terms → (steps groups : List ℕ) → Rules
-rules-of a steps groups =
-    record { limits = a .limits; folds = a .folds; widest = a .widest; prices = priced (tariff steps groups (a .first) (a .each)) }
+-- The machine's rules for what was asked, with the cost tables of steps and of groups and the marks.
+abbrev pub rules-of : Terms → (steps groups marks : List ℕ) → Rules
+rules-of a steps groups marks =
+    record {
+      limits = a .limits;
+      folds = a .folds;
+      allowed = allowed (a .widest) marks;
+      prices = priced (tariff steps groups marks (a .first) (a .each));
+    }
+
+-- Whether a label may not stand at a depth: it is marked, and a repeat is open.
+abbrev pub barred : (marks : List ℕ) → (label : ℕ) → Depth → Bool
+barred marks l d = marked-in marks l && ltb 0 (d .repeats)
 
 -- The reading from offset p on, with these things open, these counts and this text.
 abbrev pub from : Rules → List ℕ → ℕ → List Open → Tally → List ℕ → Outcome

@@ -9,6 +9,7 @@ use crate::counts::inside_repeat;
 use format::Format;
 use format::Limits;
 use format::Tally;
+use format::is_marked;
 use format::wide;
 use format::wide_cost;
 ghost use mathlib.Core.Path.{_≡_};
@@ -17,7 +18,7 @@ ghost use mathlib.Core.List.{List};
 ghost use Prim.Native.Nat.{ℕ, _+_, _*_, _<_, _≤_};
 ghost use lib.ListN.{length, getD};
 ghost use Rattle.format.specs.Machine.{a-group, a-repeat};
-ghost use Rattle.walk.specs.Walk.{At, Room, RoomSomewhere, Halted, Sane, ItemRead, OpenRead, CloseRead, in-group-of, in-repeat-of, rules-of, word-at, repeat-at};
+ghost use Rattle.walk.specs.Walk.{At, Room, RoomSomewhere, Halted, Sane, ItemRead, OpenRead, CloseRead, in-group-of, in-repeat-of, rules-of, word-at, repeat-at, barred};
 
 // What a reader was asked: the limits, whether repeats may stand in the input, the width limit, and the repeat prices.
 pub struct Terms {
@@ -89,15 +90,28 @@ pub fn refused(number: u8, at: usize, t: Tally) -> Walk
     }
 }
 
-// A step: refusals 3 and 10.
-pub fn step(s: &[u8], steps: &[u16], a: Terms, at: usize, t: Tally) -> Walk
+// Whether a label may not stand at a depth: it is marked, and a repeat is open.
+fn is_barred(marks: &[u8], label: u8, d: Depth) -> bool
+    ensures { λ r. ⌜ r ≡ barred (now (marks .entry)) label d ⌝ }
+{
+    if d.repeats == 0 {
+        return false;
+    }
+    is_marked(marks, label)
+}
+
+// A step: refusals 3, 19 and 10.
+pub fn step(s: &[u8], steps: &[u16], marks: &[u8], a: Terms, at: usize, d: Depth, t: Tally) -> Walk
     requires { ⌜ At (now s) at 0x10 ⌝ }
     requires { ⌜ RoomSomewhere (a .limits) t ⌝ }
     requires { ⌜ Sane a ⌝ }
-    ensures { λ r. ⌜ ((groups : List ℕ) (d : Depth) → ItemRead (rules-of a (now (steps .entry)) groups) (now (s .entry)) d at t r) ⌝ }
+    ensures { λ r. ⌜ ((groups : List ℕ) → ItemRead (rules-of a (now (steps .entry)) groups (now (marks .entry))) (now (s .entry)) d at t r) ⌝ }
 {
     if s.len() - at < 2 {
         return refused(3, s.len(), t);
+    }
+    if is_barred(marks, s[at + 1], d) {
+        return refused(19, at, t);
     }
     let bounds = a.limits;
     if bounds.nodes <= t.nodes {
@@ -111,12 +125,20 @@ pub fn step(s: &[u8], steps: &[u16], a: Terms, at: usize, t: Tally) -> Walk
     }
 }
 
-// The open of a group: refusals 3, 8 and 10.
-pub fn enter_group(s: &[u8], groups: &[u16], a: Terms, at: usize, d: Depth, t: Tally) -> Walk
+// The open of a group: refusals 3, 8, 19 and 10.
+pub fn enter_group(
+    s: &[u8],
+    groups: &[u16],
+    marks: &[u8],
+    a: Terms,
+    at: usize,
+    d: Depth,
+    t: Tally,
+) -> Walk
     requires { ⌜ At (now s) at 0x11 ⌝ }
     requires { ⌜ Room (a .limits) d t ⌝ }
     requires { ⌜ Sane a ⌝ }
-    ensures { λ r. ⌜ ((steps : List ℕ) → OpenRead (rules-of a steps (now (groups .entry))) (now (s .entry)) d (in-group-of d) at t (a-group t) 2 1 65535 r) ⌝ }
+    ensures { λ r. ⌜ ((steps : List ℕ) → OpenRead (rules-of a steps (now (groups .entry)) (now (marks .entry))) (now (s .entry)) d (in-group-of d) at t (a-group t) 2 1 65535 r) ⌝ }
 {
     if s.len() - at < 2 {
         return refused(3, s.len(), t);
@@ -124,6 +146,9 @@ pub fn enter_group(s: &[u8], groups: &[u16], a: Terms, at: usize, d: Depth, t: T
     let bounds = a.limits;
     if bounds.groups <= d.groups {
         return refused(8, at, t);
+    }
+    if is_barred(marks, s[at + 1], d) {
+        return refused(19, at, t);
     }
     if bounds.nodes <= t.nodes {
         return refused(10, at, t);
@@ -145,7 +170,7 @@ pub fn leave_group(s: &[u8], a: Terms, at: usize, t: Tally, i: Tally) -> Walk
     requires { ⌜ (t .size ≤ i .size) × (i .size + 3 * t .nodes + 1 ≤ t .size + 3 * i .nodes) ⌝ }
     requires { ⌜ i .cost + 4294967296 * t .nodes ≤ t .cost + 4294967296 * i .nodes ⌝ }
     requires { ⌜ (t .steps ≤ i .steps) × (i .steps + t .nodes ≤ t .steps + i .nodes) ⌝ }
-    ensures { λ r. ⌜ ((steps groups : List ℕ) (d : Depth) → CloseRead (rules-of a steps groups) (now (s .entry)) d at t i (a-group t) r) ⌝ }
+    ensures { λ r. ⌜ ((steps groups marks : List ℕ) (d : Depth) → CloseRead (rules-of a steps groups marks) (now (s .entry)) d at t i (a-group t) r) ⌝ }
 {
     if at == s.len() {
         return refused(3, at, t);
@@ -171,7 +196,7 @@ pub fn enter_repeat(s: &[u8], a: Terms, at: usize, d: Depth, t: Tally) -> Walk
     requires { ⌜ At (now s) at 0x20 ⌝ }
     requires { ⌜ Room (a .limits) d t ⌝ }
     requires { ⌜ Sane a ⌝ }
-    ensures { λ r. ⌜ ((steps groups : List ℕ) → OpenRead (rules-of a steps groups) (now (s .entry)) d (in-repeat-of d) at t (repeat-at (now (s .entry)) at t) 0 0 4294967295 r) ⌝ }
+    ensures { λ r. ⌜ ((steps groups marks : List ℕ) → OpenRead (rules-of a steps groups marks) (now (s .entry)) d (in-repeat-of d) at t (repeat-at (now (s .entry)) at t) 0 0 4294967295 r) ⌝ }
     ensures { λ r. ⌜ (r .refusal ≡ 0 → (a .folds ≡ true) × (2 ≤ word-at (now (s .entry)) (at + 1)) × (at + 5 ≤ length (now (s .entry)))) ⌝ }
 {
     if !a.folds {
@@ -209,7 +234,7 @@ pub fn leave_repeat(s: &[u8], a: Terms, at: usize, o: Operands, t: Tally, i: Tal
     requires { ⌜ (t .nodes + i .siblings ≤ i .nodes) × (i .nodes ≤ a .limits .nodes) ⌝ }
     requires { ⌜ (t .size ≤ i .size) × (i .size + 3 * t .nodes ≤ t .size + 3 * i .nodes) × (i .cost + 4294967296 * t .nodes ≤ t .cost + 4294967296 * i .nodes + 4294967296) ⌝ }
     requires { ⌜ (t .steps ≤ i .steps) × (i .steps + t .nodes ≤ t .steps + i .nodes) ⌝ }
-    ensures { λ r. ⌜ ((steps groups : List ℕ) (d : Depth) → CloseRead (rules-of a steps groups) (now (s .entry)) d at t i (a-repeat (o .count) (o .width) t) r) ⌝ }
+    ensures { λ r. ⌜ ((steps groups marks : List ℕ) (d : Depth) → CloseRead (rules-of a steps groups marks) (now (s .entry)) d at t i (a-repeat (o .count) (o .width) t) r) ⌝ }
 {
     if at == s.len() {
         return refused(3, at, t);

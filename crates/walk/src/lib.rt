@@ -15,17 +15,17 @@ use format::Tally;
 use walk::sequence;
 ghost use Rattle.walk.specs.Walk.{Sane, Whole, rules-of};
 
-// The whole input, at the cost tables of steps and of groups: the top sequence, then the end and no close.
-pub fn whole(s: &[u8], steps: &[u16], groups: &[u16], a: Terms) -> Walk
+// The whole input, at the cost tables of steps and of groups and under the marks: the top sequence, then the end and no close.
+pub fn whole(s: &[u8], steps: &[u16], groups: &[u16], marks: &[u8], a: Terms) -> Walk
     requires { ⌜ Sane a ⌝ }
-    ensures { λ r. ⌜ Whole (rules-of a (now (steps .entry)) (now (groups .entry))) (now (s .entry)) r ⌝ }
+    ensures { λ r. ⌜ Whole (rules-of a (now (steps .entry)) (now (groups .entry)) (now (marks .entry))) (now (s .entry)) r ⌝ }
 {
     let none = Tally::none();
     let top = Depth {
         groups: 0,
         repeats: 0,
     };
-    let w = sequence(s, steps, groups, a, 0, top, none);
+    let w = sequence(s, steps, groups, marks, a, 0, top, none);
     if w.refusal != 0 {
         return w;
     }

@@ -1,5 +1,6 @@
 // The walk over a sequence: a sequence is made of items, and a group or a repeat holds a sequence. The functions here call
-// each other, remaining bytes falling; every test stands in command.rt. `steps` and `groups` are the cost tables.
+// each other, remaining bytes falling; every test stands in command.rt. `steps` and `groups` are the cost
+// tables, `marks` the marks of the labels.
 use crate::command::Depth;
 use crate::command::Operands;
 use crate::command::Terms;
@@ -22,6 +23,7 @@ pub fn sequence(
     s: &[u8],
     steps: &[u16],
     groups: &[u16],
+    marks: &[u8],
     a: Terms,
     at: usize,
     d: Depth,
@@ -30,7 +32,7 @@ pub fn sequence(
     requires { ⌜ at ≤ length (now s) ⌝ }
     requires { ⌜ Room (a .limits) d t ⌝ }
     requires { ⌜ Sane a ⌝ }
-    ensures { λ r. ⌜ SequenceRead (rules-of a (now (steps .entry)) (now (groups .entry))) (now (s .entry)) d at t r ⌝ }
+    ensures { λ r. ⌜ SequenceRead (rules-of a (now (steps .entry)) (now (groups .entry)) (now (marks .entry))) (now (s .entry)) d at t r ⌝ }
 {
     let mut p = at;
     let mut now = t;
@@ -50,7 +52,7 @@ pub fn sequence(
                 tally: now,
             };
         }
-        let w = item(s, steps, groups, a, p, d, now);
+        let w = item(s, steps, groups, marks, a, p, d, now);
         if w.refusal != 0 {
             return w;
         }
@@ -65,33 +67,51 @@ pub fn sequence(
 }
 
 // The item at `at`, which is no close.
-fn item(s: &[u8], steps: &[u16], groups: &[u16], a: Terms, at: usize, d: Depth, t: Tally) -> Walk
+fn item(
+    s: &[u8],
+    steps: &[u16],
+    groups: &[u16],
+    marks: &[u8],
+    a: Terms,
+    at: usize,
+    d: Depth,
+    t: Tally,
+) -> Walk
     requires { ⌜ NoClose (now s) at ⌝ }
     requires { ⌜ Room (a .limits) d t ⌝ }
     requires { ⌜ Sane a ⌝ }
-    ensures { λ r. ⌜ ItemRead (rules-of a (now (steps .entry)) (now (groups .entry))) (now (s .entry)) d at t r ⌝ }
+    ensures { λ r. ⌜ ItemRead (rules-of a (now (steps .entry)) (now (groups .entry)) (now (marks .entry))) (now (s .entry)) d at t r ⌝ }
 {
     let c = s[at];
     if c == Format::STEP {
-        return step(s, steps, a, at, t);
+        return step(s, steps, marks, a, at, d, t);
     }
     if c == Format::GROUP {
-        return group(s, steps, groups, a, at, d, t);
+        return group(s, steps, groups, marks, a, at, d, t);
     }
     if c == Format::REPEAT {
-        return repeat(s, steps, groups, a, at, d, t);
+        return repeat(s, steps, groups, marks, a, at, d, t);
     }
     refused(1, at, t)
 }
 
 // The group at `at`.
-fn group(s: &[u8], steps: &[u16], groups: &[u16], a: Terms, at: usize, d: Depth, t: Tally) -> Walk
+fn group(
+    s: &[u8],
+    steps: &[u16],
+    groups: &[u16],
+    marks: &[u8],
+    a: Terms,
+    at: usize,
+    d: Depth,
+    t: Tally,
+) -> Walk
     requires { ⌜ At (now s) at 0x11 ⌝ }
     requires { ⌜ Room (a .limits) d t ⌝ }
     requires { ⌜ Sane a ⌝ }
-    ensures { λ r. ⌜ ItemRead (rules-of a (now (steps .entry)) (now (groups .entry))) (now (s .entry)) d at t r ⌝ }
+    ensures { λ r. ⌜ ItemRead (rules-of a (now (steps .entry)) (now (groups .entry)) (now (marks .entry))) (now (s .entry)) d at t r ⌝ }
 {
-    let e = enter_group(s, groups, a, at, d, t);
+    let e = enter_group(s, groups, marks, a, at, d, t);
     if e.refusal != 0 {
         return e;
     }
@@ -101,7 +121,7 @@ fn group(s: &[u8], steps: &[u16], groups: &[u16], a: Terms, at: usize, d: Depth,
         groups: d.groups + 1,
         repeats: d.repeats,
     };
-    let w = sequence(s, steps, groups, a, from, deeper, inner);
+    let w = sequence(s, steps, groups, marks, a, from, deeper, inner);
     if w.refusal != 0 {
         return w;
     }
@@ -111,11 +131,20 @@ fn group(s: &[u8], steps: &[u16], groups: &[u16], a: Terms, at: usize, d: Depth,
 }
 
 // The repeat at `at`.
-fn repeat(s: &[u8], steps: &[u16], groups: &[u16], a: Terms, at: usize, d: Depth, t: Tally) -> Walk
+fn repeat(
+    s: &[u8],
+    steps: &[u16],
+    groups: &[u16],
+    marks: &[u8],
+    a: Terms,
+    at: usize,
+    d: Depth,
+    t: Tally,
+) -> Walk
     requires { ⌜ At (now s) at 0x20 ⌝ }
     requires { ⌜ Room (a .limits) d t ⌝ }
     requires { ⌜ Sane a ⌝ }
-    ensures { λ r. ⌜ ItemRead (rules-of a (now (steps .entry)) (now (groups .entry))) (now (s .entry)) d at t r ⌝ }
+    ensures { λ r. ⌜ ItemRead (rules-of a (now (steps .entry)) (now (groups .entry)) (now (marks .entry))) (now (s .entry)) d at t r ⌝ }
 {
     let e = enter_repeat(s, a, at, d, t);
     if e.refusal != 0 {
@@ -131,7 +160,7 @@ fn repeat(s: &[u8], steps: &[u16], groups: &[u16], a: Terms, at: usize, d: Depth
         groups: d.groups,
         repeats: d.repeats + 1,
     };
-    let w = sequence(s, steps, groups, a, from, deeper, inner);
+    let w = sequence(s, steps, groups, marks, a, from, deeper, inner);
     if w.refusal != 0 {
         return w;
     }

@@ -1,6 +1,7 @@
 -- A stretch of a sequence that a fold can use is a sequence of its own: the table has the stretches of it that a fold can use, and
 -- all else that the writer rests on holds for it too.
 use mathlib.Core.Path.{_≡_, refl, sym, ap, _∙_}
+use mathlib.Core.Bool.{Bool}
 use mathlib.Core.List.{List, _++_, append-assoc}
 use Prim.Native.Nat.{ℕ, zero, suc, _+_, _-_, _<_, _≤_}
 use native.Mathlib.Decide.{decLt}
@@ -67,27 +68,28 @@ module _ (t : Forest) (i d : ℕ) where
       by-place (no z) = absurd (group-not-end l h f (sym e ∙ back-past k d (back i t) (omega arith)))
 
   -- What is used in a used stretch is used, and the table has it.
-  module _ (size : siblings (stretch t i d) ≡ d) (fits : i + d ≤ siblings t) (u : Used t i d) where
-    used-part : (k n : ℕ) → k + n ≤ d → Used (stretch t i d) k n → Used t (i + k) n
+  module _ (size : siblings (stretch t i d) ≡ d) (fits : i + d ≤ siblings t) (m : ℕ → Bool) (u : Used m t i d) where
+    used-part : (k n : ℕ) → k + n ≤ d → Used m (stretch t i d) k n → Used m t (i + k) n
     used-part k n h (to-end e) =
         let whole : i + d - i ≡ d = omega arith in
         let left : i + d - (i + k) ≡ n = omega arith in
-        rw left at (used-from t i (i + d) (i + k) (omega arith) (omega arith) (rw whole u))
-    used-part k n h (again w l m e) =
+        rw left at (used-from m t i (i + d) (i + k) (omega arith) (omega arith) (rw whole u))
+    used-part k n h (again w l q e) =
         let further : i + (k + w) ≡ i + k + w = omega arith in
-        again w l (omega arith) (sym (stretch-part k n h) ∙ e ∙ stretch-part (k + w) n (omega arith) ∙ ap (λ (x : ℕ). stretch t x n) further)
+        again w l (omega arith) (rw (stretch-part k n h, stretch-part (k + w) n (omega arith), further) at e)
 
-    module _ {A : Allowed} {P : Prices} {b : ℕ} {costs choices : List ℕ} (filled : UsedFilled A P b t costs choices) where
-      pub filled-part : UsedFilled A P (number b t (i + d)) (stretch t i d) costs choices
-      filled-part = record { entry = entry }
-        where
-          entry : (c : ℕ) (g : Forest) → Inside (number b t (i + d)) (stretch t i d) c g → (k n : ℕ) → 0 < n → k + n ≤ siblings g → Used g k n
-              → Entry A P (stretch g k n) (getD costs (cell (number c g (k + n)) (number c g k)) 0) (getD choices (cell (number c g (k + n)) (number c g k)) 0)
-          entry c g itself k n p h w =
-              let further : i + (k + n) ≡ i + k + n = omega arith in
-              rw (stretch-part k n (omega arith), number-part b (k + n) (omega arith), number-part b k (omega arith), further)
-              (filled .entry b t itself (i + k) n p (omega arith) (used-part k n (omega arith) w))
-          entry c g (deeper k l h f e x) m n p q w = filled .entry c g (deeper-part b c g k l h f e x) m n p q w
+  module _ {A : Allowed} {P : Prices} {b : ℕ} {costs choices : List ℕ} (size : siblings (stretch t i d) ≡ d) (fits : i + d ≤ siblings t)
+      (u : Used (A .marked) t i d) (filled : UsedFilled A P b t costs choices) where
+    pub filled-part : UsedFilled A P (number b t (i + d)) (stretch t i d) costs choices
+    filled-part = record { entry = entry }
+      where
+        entry : (c : ℕ) (g : Forest) → Inside (number b t (i + d)) (stretch t i d) c g → (k n : ℕ) → 0 < n → k + n ≤ siblings g → Used (A .marked) g k n
+            → Entry A P (stretch g k n) (getD costs (cell (number c g (k + n)) (number c g k)) 0) (getD choices (cell (number c g (k + n)) (number c g k)) 0)
+        entry c g itself k n p h w =
+            let further : i + (k + n) ≡ i + k + n = omega arith in
+            rw (stretch-part k n (omega arith), number-part b (k + n) (omega arith), number-part b k (omega arith), further)
+            (filled .entry b t itself (i + k) n p (omega arith) (used-part size fits (A .marked) u k n (omega arith) w))
+        entry c g (deeper k l h f e x) m n p q w = filled .entry c g (deeper-part b c g k l h f e x) m n p q w
 
 -- Its bytes stand in the run.
 stands-part : (run rest : List ℕ) (place i d : ℕ) (t : Forest) → drop place run ≡ bytes t ++ rest
@@ -104,7 +106,7 @@ pub record Part {run places nexts choices : List ℕ} {first behind : ℕ} (z : 
   pub same : fold-bytes ready ≡ bytes (cheapest (z .allowed) (z .prices-are) u)
 
 module _ {run places nexts choices : List ℕ} {first behind : ℕ} (z : WriteReady run places nexts choices first behind) where
-  module _ (i d from to : ℕ) (fits : i + d ≤ siblings (z .tree)) (u : Used (z .tree) i d)
+  module _ (i d from to : ℕ) (fits : i + d ≤ siblings (z .tree)) (u : Used (z .allowed .marked) (z .tree) i d)
       (e : from ≡ number behind (z .tree) i) (e′ : to ≡ number behind (z .tree) (i + d)) where
     part-ready : WriteReady run places nexts choices from to
     part-ready =
@@ -138,7 +140,7 @@ module _ {run places nexts choices : List ℕ} {first behind : ℕ} (z : WriteRe
     part = record { ready = part-ready; same = refl }
 
   -- The first w siblings, and what follows the first k.
-  pub body-part : (w to : ℕ) → w ≤ siblings (z .tree) → Used (z .tree) 0 w → to ≡ number behind (z .tree) w → Part z (front w (z .tree)) first to
+  pub body-part : (w to : ℕ) → w ≤ siblings (z .tree) → Used (z .allowed .marked) (z .tree) 0 w → to ≡ number behind (z .tree) w → Part z (front w (z .tree)) first to
   unfolding back
   body-part w to h u e = let zero-w : 0 + w ≡ w = omega arith in part 0 w first to (omega arith) u (z .counted) (rw zero-w e)
 

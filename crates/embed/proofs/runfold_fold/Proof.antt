@@ -5,7 +5,7 @@ use mathlib.Core.Path.{ap, _∙_}
 use Prim.Native.Nat.{ℕ}
 use native.Mathlib.Omega.{arith}
 use lib.ListN.{take}
-use Rattle.format.specs.Limits.{Prices, tariff, priced}
+use Rattle.format.specs.Limits.{Tariff, tariff}
 use Rattle.format.specs.Readings.{format-rules}
 use Rattle.optimum.specs.Demands.{CheapestWithin, MinimumTree}
 use Rattle.embed.specs.Answers.{of-folded}
@@ -15,7 +15,7 @@ use Rattle.embed.proofs.runfold_fold.Tie as tie
 
 returns : tie.Need-returns
 returns c =
-    let a = c .before .before .before .before .before .before .before .before .args .answer .now in
+    let a = c .before .before .before .before .before .before .before .before .before .args .answer .now in
     let short = c .if1 .taken in (
       short-status a short _,
       (
@@ -56,18 +56,18 @@ returns-2 c =
     let after = c .before .before in
     let done = after .before .before .before .before .before .before .before .before in
     let entry = done .before .before .before .before in
-    let args = entry .before .before .before .before .before .before .before .before .args in
+    let args = entry .before .before .before .before .before .before .before .before .before .args in
     let a = args .answer .now in
     let long = entry .if1 .left in
     let said = done .fold .ensures in
     let put = after .store .ensures in
     let answer = of-folded (done .fold .result) in
     let numbers = stored a long _ answer _ (ap of-folded (said .0)) put in
-    let P : Prices = priced (tariff (args .steps .now) (args .groups .now) (args .first) (args .each)) in
+    let T : Tariff = tariff (args .steps .now) (args .groups .now) (args .marks .now) (args .first) (args .each) in
     let demand = said .1 .1 .1 .1 in
-    let out = done .fold .last .1 .1 .1 .1 .1 .1 .1 .1 .0 in
-    let Q : ℕ → ℕ → Type 0 = λ n m. CheapestWithin (args .run .now) (args .limit) (format-rules P) (take n out) m in
-    let S : ℕ → ℕ → Type 0 = λ n m. MinimumTree (args .run .now) (args .limit) P (take n out) in (
+    let out = done .fold .last .1 .1 .1 .1 .1 .1 .1 .1 .1 .0 in
+    let Q : ℕ → ℕ → Type 0 = λ n m. CheapestWithin (args .run .now) (args .limit) (format-rules T) (take n out) m in
+    let S : ℕ → ℕ → Type 0 = λ n m. MinimumTree (args .run .now) (args .limit) T (take n out) in (
       numbers .0,
       (
         numbers .1,

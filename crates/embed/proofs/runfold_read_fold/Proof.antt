@@ -2,7 +2,7 @@
 use borrow.Author.Needs.{needs}
 use mathlib.Core.Path.{ap}
 use native.Mathlib.Omega.{arith}
-use Rattle.format.specs.Limits.{tariff, priced}
+use Rattle.format.specs.Limits.{tariff}
 use Rattle.format.specs.Meaning.{MeansAtCost}
 use Rattle.embed.specs.Answers.{of-fold}
 use Rattle.embed.proofs.Entries.{short-status, short-entries, stored, of-stored}
@@ -11,7 +11,7 @@ use Rattle.embed.proofs.runfold_read_fold.Tie as tie
 
 returns : tie.Need-returns
 returns c =
-    let a = c .before .before .before .before .before .args .answer .now in
+    let a = c .before .before .before .before .before .before .args .answer .now in
     (short-status a (c .if1 .taken) _, (short-entries a (c .if1 .taken) _, λ z. absurd (omega (arith, z))))
 
 read-fold-requires : tie.Need-read-fold-requires
@@ -26,11 +26,11 @@ same-length c = search needs
 returns-2 : tie.Need-returns-2
 returns-2 c =
     let done = c .before .before .before .before in
-    let a = done .before .before .before .before .before .before .args in
+    let a = done .before .before .before .before .before .before .before .args in
     let said = done .read-fold .ensures in
     let put = c .before .before .store .ensures in
     let numbers = stored (a .answer .now) (done .before .if1 .left) _ (of-fold (done .read-fold .result)) _ (ap of-fold (said .0)) put in
-    let Q = MeansAtCost (a .limit) (priced (tariff (a .steps .now) (a .groups .now) (a .first) (a .each))) (a .fold .now) in
+    let Q = MeansAtCost (a .limit) (tariff (a .steps .now) (a .groups .now) (a .marks .now) (a .first) (a .each)) (a .fold .now) in
     (numbers .0, (numbers .1, λ z. of-stored Q _ (of-fold (done .read-fold .result)) _ put (said .1 z)))
 
 pub runfold-read-fold-spec : {M : Type 1} → statement M

@@ -4,6 +4,7 @@ use mathlib.Core.Path.{ap, _∙_}
 use Prim.Native.Nat.{ℕ}
 use native.Mathlib.Omega.{arith}
 use lib.ListN.{take}
+use Rattle.format.specs.Limits.{at-most}
 use Rattle.format.specs.Meaning.{Means}
 use Rattle.embed.specs.Answers.{of-unrolled}
 use Rattle.embed.proofs.Entries.{short-status, short-kept, short-entries, long-kept, stored, of-stored}
@@ -39,7 +40,7 @@ returns-2 c =
     let put = c .before .before .store .ensures in
     let answer = of-unrolled (done .unroll .result) in
     let numbers = stored a long _ answer _ (ap of-unrolled (said .0)) put in
-    let Q : ℕ → ℕ → Type 0 = λ n m. Means (args .limit) (args .fold .now) (take n (done .unroll .last .1 .1 .0)) in
+    let Q : ℕ → ℕ → Type 0 = λ n m. Means (at-most (args .limit)) (args .fold .now) (take n (done .unroll .last .1 .1 .0)) in
     (numbers .0, (numbers .1, (said .1 .0 ∙ long-kept a long _ _, λ z. of-stored Q _ answer _ put (said .1 .1 z))))
 
 pub runfold-unroll-spec : {M : Type 1} → statement M

@@ -15,13 +15,13 @@ use Rattle.fold.proofs.answer.Tie as tie
 
 -- The function's start, from where the folder has answered; the run's bytes; and what stands in the output.
 abbrev start : tie.After-fold → tie.Start
-start c = c .before .before .before .before .before .before .before .before
+start c = c .before .before .before .before .before .before .before .before .before
 
 small : (c : tie.After-fold) → Bytes (start c .args .run .now)
-small c = λ i. c .before .before .before .before .before .before .before .shared-slice-known .given i .fits
+small c = λ i. c .before .before .before .before .before .before .before .before .shared-slice-known .given i .fits
 
 abbrev output : tie.After-fold → List ℕ
-output c = c .fold .last .1 .1 .1 .1 .1 .1 .1 .1 .0
+output c = c .fold .last .1 .1 .1 .1 .1 .1 .1 .1 .1 .0
 
 slice-aggregate-fold : tie.Need-slice-aggregate-fold
 slice-aggregate-fold c = search needs
@@ -37,6 +37,9 @@ slice-aggregate-fold-4 c = search needs
 
 slice-aggregate-fold-5 : tie.Need-slice-aggregate-fold-5
 slice-aggregate-fold-5 c = search needs
+
+slice-aggregate-fold-6 : tie.Need-slice-aggregate-fold-6
+slice-aggregate-fold-6 c = search needs
 
 fold-requires : tie.Need-fold-requires
 fold-requires c κs = tt
@@ -94,6 +97,7 @@ answer-spec =
     slice-aggregate-fold-3
     slice-aggregate-fold-4
     slice-aggregate-fold-5
+    slice-aggregate-fold-6
     fold-requires
     cast-put-refusal
     put-refusal-requires

@@ -1,8 +1,10 @@
 -- `fold` meets its contract: admitted or refused, with work enough or not, and folded.
-use mathlib.Core.Path.{sym, _∙_}
+use mathlib.Core.Path.{_≡_, sym, _∙_}
 use borrow.Author.Needs.{needs}
 use Rattle.format.specs.Limits.{Tariff, tariff}
 use Rattle.format.specs.Order.{Bytes}
+use Rattle.format.specs.Head.{full-head}
+use Rattle.format.specs.Readings.{as-run-reading, run-outcome}
 use Rattle.folder.specs.Folding.{folding}
 use Rattle.folder.proofs.Verdicts.{Accepted, prices-priced, prepared, verdict-refused, verdict-folds, accepted-run, few, level-ready, node-count-is, demands, run-number, long-enough, met-refused, met-short, met-folded}
 use Rattle.folder.proofs.fold.Statement.{statement}
@@ -10,24 +12,31 @@ use Rattle.folder.proofs.fold.Tie as tie
 
 -- The function's start, from the admission; what is lent to price the fold; the run's bytes; the verdict.
 abbrev start : tie.After-admit → tie.Start
-start c = c .before .before .before .before .before .before .before
+start c = c .before .before .before .before .before .before .before .before .before
 
 abbrev lent : tie.Start → Tariff
-lent S = let a = S .args in tariff (a .steps .now) (a .groups .now) (a .first) (a .each)
+lent S = let a = S .args in tariff (a .steps .now) (a .groups .now) (a .marks .now) (a .first) (a .each)
 
 small : (c : tie.After-admit) → Bytes (start c .args .run .now)
-small c = λ i. c .before .before .before .before .before .before .shared-slice-known .given i .fits
+small c = λ i. c .before .before .before .before .before .before .before .before .shared-slice-known .given i .fits
+
+-- The admission's answer, by the lent marks.
+admits : (c : tie.After-admit) → (let a = start c .args in c .admit .result ≡ as-run-reading (run-outcome (full-head (lent (start c)) (a .limit)) (a .run .now)))
+admits c = rw (c .before .marks-in-order .ensures) at (c .admit .ensures)
 
 abbrev Accepts : tie.After-admit → Type 0
 Accepts c =
     let a = start c .args in
-    Accepted (a .run .now) (a .limit) (lent (start c)) (c .admit .result) (c .admit .ensures)
+    Accepted (a .run .now) (a .limit) (lent (start c)) (c .admit .result) (admits c)
 
 accepts : (c : tie.Else1) → Accepts (c .before .before)
 accepts c =
     let A = c .before .before in
     let a = start A .args in
-    accepted-run (a .run .now) (a .limit) (lent (start A)) (A .admit .result) (A .admit .ensures) (c .if1 .left)
+    accepted-run (a .run .now) (a .limit) (lent (start A)) (A .admit .result) (admits A) (c .if1 .left)
+
+marks-in-order-requires : tie.Need-marks-in-order-requires
+marks-in-order-requires c κs = search needs
 
 admit-requires : tie.Need-admit-requires
 admit-requires c κs = search needs
@@ -41,16 +50,16 @@ returns c =
     let a = start A .args in
     met-refused (a .run .now) (a .limit) (lent (start A)) (folding (a .run .now) (a .limit) (lent (start A))) (a .costs .now)
     (a .choices .now) (a .out .now) (A .admit .result .refusal) (A .admit .result .place)
-    (verdict-refused (a .run .now) (a .limit) (lent (start A)) (A .admit .result) (A .admit .ensures) (c .before .if1 .taken))
+    (verdict-refused (a .run .now) (a .limit) (lent (start A)) (A .admit .result) (admits A) (c .before .if1 .taken))
     (c .before .if1 .taken)
-    (run-number (a .run .now) (a .limit) (lent (start A)) (A .admit .result) (A .admit .ensures))
+    (run-number (a .run .now) (a .limit) (lent (start A)) (A .admit .result) (admits A))
     (c .refuse .result) (c .refuse .ensures)
 
 short-of-requires : tie.Need-short-of-requires
 short-of-requires c κs =
     let A = c .before .before in
     let a = start A .args in
-    few (a .run .now) (a .limit) (lent (start A)) (A .admit .result) (A .admit .ensures) (accepts c) (small A)
+    few (a .run .now) (a .limit) (lent (start A)) (A .admit .result) (admits A) (accepts c) (small A)
 
 refuse-requires-2 : tie.Need-refuse-requires-2
 refuse-requires-2 c κs = search needs
@@ -62,7 +71,7 @@ returns-2 c =
     let a = start A .args in
     met-short (a .run .now) (a .limit) (lent (start A)) (folding (a .run .now) (a .limit) (lent (start A))) (a .costs .now)
     (a .choices .now) (a .out .now) _ _ _
-    (verdict-folds (a .run .now) (a .limit) (lent (start A)) (A .admit .result) (A .admit .ensures) (accepts (W .before)))
+    (verdict-folds (a .run .now) (a .limit) (lent (start A)) (A .admit .result) (admits A) (accepts (W .before)))
     (sym (W .short-of .ensures) ∙ c .before .if2 .taken) (c .refuse2 .result) (c .refuse2 .ensures)
 
 wide-cost-requires : tie.Need-wide-cost-requires
@@ -92,11 +101,11 @@ fold-run-requires c κs =
     let a = start A .args in
     let long = long-enough _ _ _ (sym (W .before .short-of .ensures) ∙ W .if2 .left) in
     let d = accepts (W .before .before) in (
-      level-ready (a .run .now) (a .limit) (lent (start A)) (A .admit .result) (A .admit .ensures) d (small A) (P .prepare .last .1 .1 .0) (a .costs .now) (a .choices .now) (long .0) (long .1)
+      level-ready (a .run .now) (a .limit) (lent (start A)) (A .admit .result) (admits A) d (small A) (P .prepare .last .1 .1 .0) (a .costs .now) (a .choices .now) (long .0) (long .1)
           (prepared (a .steps .now) (a .groups .now) _ _ _ (P .prepare .ensures) (P .before .before .before .wide-cost .ensures .1) (P .before .before .wide-cost2 .ensures .1)
-          (λ l. A .before .before .before .before .before .shared-slice-known2 .given l .fits)
-          (λ l. A .before .before .before .before .shared-slice-known3 .given l .fits)),
-      node-count-is (a .run .now) (a .limit) (lent (start A)) (A .admit .result) (A .admit .ensures) d (small A),
+          (λ l. A .before .before .before .before .before .before .before .shared-slice-known2 .given l .fits)
+          (λ l. A .before .before .before .before .before .before .shared-slice-known3 .given l .fits)),
+      node-count-is (a .run .now) (a .limit) (lent (start A)) (A .admit .result) (admits A) d (small A),
     )
 
 same-length : tie.Need-same-length
@@ -118,18 +127,19 @@ returns-3 c =
     let d = accepts (W .before .before) in
     let first = P .before .before .before .wide-cost in
     let each = P .before .before .wide-cost2 in
-    let same = prices-priced (a .steps .now) (a .groups .now) (P .prepare .last .1 .1 .0) (a .first) (a .each) _ _ (first .ensures .0) (each .ensures .0) (P .prepare .ensures) in
+    let same = prices-priced (a .steps .now) (a .groups .now) (a .marks .now) (P .prepare .last .1 .1 .0) (a .first) (a .each) _ _ (first .ensures .0) (each .ensures .0) (P .prepare .ensures) in
     met-folded (a .run .now) (a .limit) (lent (start A)) (folding (a .run .now) (a .limit) (lent (start A))) (a .costs .now)
     (a .choices .now) (a .out .now) _
-    (verdict-folds (a .run .now) (a .limit) (lent (start A)) (A .admit .result) (A .admit .ensures) d)
+    (verdict-folds (a .run .now) (a .limit) (lent (start A)) (A .admit .result) (admits A) d)
     (sym (W .before .short-of .ensures) ∙ W .if2 .left) _ _ _ (F .fold-run .result)
     (rw same at (F .fold-run .ensures))
-    (demands (a .run .now) (a .limit) (lent (start A)) (A .admit .result) (A .admit .ensures) d (small A))
+    (demands (a .run .now) (a .limit) (lent (start A)) (A .admit .result) (admits A) d (small A))
 
 pub fold-spec : {M : Type 1} → statement M
 fold-spec =
     tie.close
     (tie.spec
+    marks-in-order-requires
     admit-requires
     refuse-requires
     returns

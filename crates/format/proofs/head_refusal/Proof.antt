@@ -43,9 +43,18 @@ returns-3 c =
 returns-4 : tie.Need-returns-4
 unfolding head-checks
 returns-4 c =
-    let g = c .before .before .before in
+    let n = c .before .before in
+    let g = n .before .before .before in
     let a = start (first g) .args in
-    rw (eq-eqb _ _ (steps-right (first g)), eq-eqb _ _ (groups-right g), le-ltb (a .bounds .width) (a .head .limit) (omega (arith, c .if3 .left)))
+    rw (eq-eqb _ _ (steps-right (first g)), eq-eqb _ _ (groups-right g), le-ltb (a .bounds .width) (a .head .limit) (omega (arith, n .if3 .left)), c .if4 .taken)
+
+returns-5 : tie.Need-returns-5
+unfolding head-checks
+returns-5 c =
+    let n = c .before .before in
+    let g = n .before .before .before in
+    let a = start (first g) .args in
+    rw (eq-eqb _ _ (steps-right (first g)), eq-eqb _ _ (groups-right g), le-ltb (a .bounds .width) (a .head .limit) (omega (arith, n .if3 .left)), c .if4 .left)
 
 pub head-refusal-spec : {M : Type 1} → statement M
-head-refusal-spec = tie.close (tie.spec returns returns-2 returns-3 returns-4)
+head-refusal-spec = tie.close (tie.spec returns returns-2 returns-3 returns-4 returns-5)

@@ -21,7 +21,7 @@ returns : tie.Need-returns
 returns c =
     let no = c .before .before in
     let checked = no .before in
-    let a = checked .before .before .before .before .before .args in
+    let a = checked .before .before .before .before .before .before .args in
     c .as-fold .ensures
     ∙ fold-refused (a .head) (checked .head-refusal .result) (rw (checked .before .limits .ensures) at (checked .head-refusal .ensures)) _ (a .fold .now) (no .if1 .taken)
     (c .before .none .result) (c .before .none .ensures)
@@ -42,7 +42,7 @@ returns-2 : tie.Need-returns-2
 returns-2 c =
     let first = c .before .before .before in
     let checked = first .before .before in
-    let a = checked .before .before .before .before .before .args in
+    let a = checked .before .before .before .before .before .before .args in
     c .answer .ensures
     ∙ fold-read (a .head) (checked .head-refusal .result) (rw (checked .before .limits .ensures) at (checked .head-refusal .ensures)) _ (a .fold .now) (first .before .if1 .left)
     (c .before .whole .result)

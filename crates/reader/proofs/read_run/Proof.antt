@@ -9,7 +9,7 @@ use Rattle.reader.proofs.read_run.Tie as tie
 
 -- The function's start, from behind the walk.
 abbrev start : tie.After-whole → tie.Start
-start c = c .before .before .before .before .before
+start c = c .before .before .before .before .before .before
 
 limits-requires : tie.Need-limits-requires
 limits-requires c κs = search needs
@@ -20,12 +20,15 @@ slice-aggregate-whole c = search needs
 slice-aggregate-whole-2 : tie.Need-slice-aggregate-whole-2
 slice-aggregate-whole-2 c = search needs
 
+slice-aggregate-whole-3 : tie.Need-slice-aggregate-whole-3
+slice-aggregate-whole-3 c = search needs
+
 whole-requires : tie.Need-whole-requires
-whole-requires c κs = rw (c .before .before .limits .ensures) (search needs)
+whole-requires c κs = rw (c .before .before .before .limits .ensures) (search needs)
 
 -- The walk was by the rules of runs.
 walked : (c : tie.After-whole) → Whole run-rules (start c .args .run .now) (c .whole .result)
-walked c = rw (c .before .before .before .limits .ensures) at (c .whole .ensures)
+walked c = rw (c .before .before .before .before .limits .ensures) at (c .whole .ensures)
 
 none-requires : tie.Need-none-requires
 none-requires c κs = search needs
@@ -58,6 +61,7 @@ read-run-spec =
     limits-requires
     slice-aggregate-whole
     slice-aggregate-whole-2
+    slice-aggregate-whole-3
     whole-requires
     none-requires
     as-run-requires

@@ -9,13 +9,13 @@ use Rattle.walk.proofs.whole.Tie as tie
 
 -- The function's start, from behind the top sequence; and the sequence, from where it is not refused.
 abbrev start : tie.After-sequence → tie.Start
-start c = c .before .before .before .before .before
+start c = c .before .before .before .before .before .before
 
 abbrev walked : tie.Else1 → tie.After-sequence
 walked c = c .before .before
 
 -- What the walk over the top sequence came to: it began with nothing counted.
-walked-from-none : (c : tie.After-sequence) → (let a = start c .args in SequenceRead (rules-of (a .a) (a .steps .now) (a .groups .now)) (a .s .now) top 0 none (c .sequence .result))
+walked-from-none : (c : tie.After-sequence) → (let a = start c .args in SequenceRead (rules-of (a .a) (a .steps .now) (a .groups .now) (a .marks .now)) (a .s .now) top 0 none (c .sequence .result))
 walked-from-none c = rw (c .before .none .ensures) at (c .sequence .ensures)
 
 none-requires : tie.Need-none-requires
@@ -28,13 +28,13 @@ returns : tie.Need-returns
 returns c =
     let w = c .before .before in
     let a = start w .args in
-    whole-refused (a .a) (a .steps .now) (a .groups .now) (a .s .now) (w .sequence .result) (walked-from-none w) (c .if1 .taken)
+    whole-refused (a .a) (a .steps .now) (a .groups .now) (a .marks .now) (a .s .now) (w .sequence .result) (walked-from-none w) (c .if1 .taken)
 
 returns-2 : tie.Need-returns-2
 returns-2 c =
     let w = walked (c .before) in
     let a = start w .args in
-    whole-read (a .a) (a .steps .now) (a .groups .now) (a .s .now) (w .sequence .result) (walked-from-none w) (c .before .if1 .left) (c .if2 .taken)
+    whole-read (a .a) (a .steps .now) (a .groups .now) (a .marks .now) (a .s .now) (w .sequence .result) (walked-from-none w) (c .before .if1 .left) (c .if2 .taken)
 
 shared-slice-read-if3 : tie.Need-shared-slice-read-if3
 shared-slice-read-if3 c =
@@ -49,7 +49,7 @@ returns-3 c =
     let more = c .before .before .before in
     let w = walked (more .before) in
     let a = start w .args in
-    rw (c .refused .ensures) (stray-group-end (a .a) (a .steps .now) (a .groups .now) (a .s .now) (w .sequence .result) (walked-from-none w) (more .before .if1 .left) (more .if2 .left) _ (c .before .if3 .taken))
+    rw (c .refused .ensures) (stray-group-end (a .a) (a .steps .now) (a .groups .now) (a .marks .now) (a .s .now) (w .sequence .result) (walked-from-none w) (more .before .if1 .left) (more .if2 .left) _ (c .before .if3 .taken))
 
 refused-requires-2 : tie.Need-refused-requires-2
 refused-requires-2 c κs = search needs
@@ -60,7 +60,7 @@ returns-4 c =
     let more = no-group-end .before .before in
     let w = walked (more .before) in
     let a = start w .args in
-    rw (c .refused2 .ensures) (stray-repeat-end (a .a) (a .steps .now) (a .groups .now) (a .s .now) (w .sequence .result) (walked-from-none w) (more .before .if1 .left) (more .if2 .left) _ (no-group-end .if3 .left) (c .before .if4 .taken))
+    rw (c .refused2 .ensures) (stray-repeat-end (a .a) (a .steps .now) (a .groups .now) (a .marks .now) (a .s .now) (w .sequence .result) (walked-from-none w) (more .before .if1 .left) (more .if2 .left) _ (no-group-end .if3 .left) (c .before .if4 .taken))
 
 refused-requires-3 : tie.Need-refused-requires-3
 refused-requires-3 c κs = search needs
@@ -71,7 +71,7 @@ returns-5 c =
     let more = no-group-end .before .before in
     let w = walked (more .before) in
     let a = start w .args in
-    rw (c .refused3 .ensures) (repeat-end-in-run (a .a) (a .steps .now) (a .groups .now) (a .s .now) (w .sequence .result) (walked-from-none w) (more .before .if1 .left) (more .if2 .left) _ (no-group-end .if3 .left) (c .before .if4 .left))
+    rw (c .refused3 .ensures) (repeat-end-in-run (a .a) (a .steps .now) (a .groups .now) (a .marks .now) (a .s .now) (w .sequence .result) (walked-from-none w) (more .before .if1 .left) (more .if2 .left) _ (no-group-end .if3 .left) (c .before .if4 .left))
 
 pub whole-spec : {M : Type 1} → statement M
 whole-spec =

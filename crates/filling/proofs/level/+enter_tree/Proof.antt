@@ -12,21 +12,21 @@ use Rattle.filling.proofs.level.+enter_tree.Lts-enter_tree as lts
 use Rattle.filling.proofs.level.enter_level.Reads as enter-level-reads
 use Rattle.filling.proofs.level.inside.Reads as inside-reads
 use Rattle.table.proofs.part_of.Reads as part-of-reads
-use Rattle.format.specs.Forest.{at-most}
+use Rattle.format.specs.Limits.{allowed}
 use Rattle.filling.specs.Filling.{counted-of, Scratch}
 use Rattle.filling.proofs.Entries.{kept-then}
 use Rattle.filling.proofs.Recursion.{Through, Opening, through-none, through-listed, through-less, passing, through-step, group-long, opening, through-group, through-all, through-ready}
 use Rattle.filling.proofs.level.+enter_tree.{statement}
 use Rattle.filling.proofs.level.+enter_tree.Tie.{close}
 
-abbrev μ-tree : Measures 17 kinds.ps ℕ
+abbrev μ-tree : Measures 18 kinds.ps ℕ
 μ-tree κs a = length (a .1 .1 .0 .now)
 
-abbrev asked : ℕ → In 17 kinds.ps
-asked t = and 17 kinds.ps (is 17 kinds.ps μ-tree t) reads.Pre
+abbrev asked : ℕ → In 18 kinds.ps
+asked t = and 18 kinds.ps (is 18 kinds.ps μ-tree t) reads.Pre
 
-abbrev asked-below : ℕ → In 17 kinds.ps
-asked-below t = and 17 kinds.ps (falls 17 kinds.ps _<_ μ-tree t) reads.Pre
+abbrev asked-below : ℕ → In 18 kinds.ps
+asked-below t = and 18 kinds.ps (falls 18 kinds.ps _<_ μ-tree t) reads.Pre
 
 abbrev calls : ℕ → lts.Claims
 calls t = (
@@ -41,17 +41,17 @@ calls t = (
 )
 
 abbrev Inv-loop : lts.InvT-loop
-Inv-loop places nexts s level steps groups prices offsets₀ numbers₀ kinds₀ matches₀ extents₀ tails₀ stops₀ seen₀ keys₀ costs₀ choices₀ span q₀ offsets numbers kinds matches extents tails stops seen keys costs choices q =
-    Through (at-most (level .limit)) (counted-of steps groups prices) s (level .span .behind) costs₀ choices₀ costs choices q
+Inv-loop places nexts s level steps groups marks prices offsets₀ numbers₀ kinds₀ matches₀ extents₀ tails₀ stops₀ seen₀ keys₀ costs₀ choices₀ span q₀ offsets numbers kinds matches extents tails stops seen keys costs choices q =
+    Through (allowed (level .limit) marks) (counted-of steps groups prices) s (level .span .behind) costs₀ choices₀ costs choices q
     × Scratch offsets numbers kinds matches extents tails stops seen keys
 
 abbrev μ-loop : lts.MeasureT-loop
-μ-loop places nexts s level steps groups prices offsets₀ numbers₀ kinds₀ matches₀ extents₀ tails₀ stops₀ seen₀ keys₀ costs₀ choices₀ span q₀ offsets numbers kinds matches extents tails stops seen keys costs choices q = q
+μ-loop places nexts s level steps groups marks prices offsets₀ numbers₀ kinds₀ matches₀ extents₀ tails₀ stops₀ seen₀ keys₀ costs₀ choices₀ span q₀ offsets numbers kinds matches extents tails stops seen keys costs choices q = q
 
 module _ (t : ℕ) where
   -- The function's start, from where the loop begins, and from its head.
   abbrev begun : lts.After-span (calls t) (asked t) reads.Post Inv-loop μ-loop → lts.Start (calls t) (asked t) reads.Post Inv-loop μ-loop
-  begun c = c .before .before .before .before .before .before .before .before .before .before .before .before .before .before .before .before .before .before
+  begun c = c .before .before .before .before .before .before .before .before .before .before .before .before .before .before .before .before .before .before .before
 
   abbrev start : lts.At-loop (calls t) (asked t) reads.Post Inv-loop μ-loop → lts.Start (calls t) (asked t) reads.Post Inv-loop μ-loop
   start c = begun (c .before)
@@ -83,7 +83,7 @@ module _ (t : ℕ) where
   loop-holds c =
       let S = begun c in
       let a = S .args in
-      let A = at-most (a .level .limit) in
+      let A = allowed (a .level .limit) (a .marks .now) in
       let P = counted-of (a .steps .now) (a .groups .now) (a .prices .now) in (
         through-none A P (a .s .now) (a .level .span .behind) (a .costs .now) (a .choices .now) (a .level .span .first) (S .pre .1 .1 .1 .listed .numbered),
         S .pre .1 .1 .0,
@@ -91,19 +91,19 @@ module _ (t : ℕ) where
 
   -- The next sibling's number has its places in the lists; its part has a command and a label; a group's has a close, too.
   listed : (c : lts.At-loop (calls t) (asked t) reads.Post Inv-loop μ-loop) → c .loop .q ≤ 1024
-  listed c = let S = start c in through-listed (S .pre .1 .0) (S .pre .1 .1 .1) (c .loop .inv .0)
+  listed c = let S = start c in through-listed (S .args .marks .now) (S .pre .1 .0) (S .pre .1 .1 .1) (c .loop .inv .0)
 
   passes : (c : lts.After-part-of (calls t) (asked t) reads.Post Inv-loop μ-loop) → 2 ≤ length (c .part-of .result .now)
   passes c =
       let I = taken c in
       let S = start (head I) in
-      passing (S .pre .1 .0) (S .pre .1 .1 .1) (head I .loop .inv .0) (I .if1 .taken) (c .part-of .ensures) .0
+      passing (S .args .marks .now) (S .pre .1 .0) (S .pre .1 .1 .1) (head I .loop .inv .0) (I .if1 .taken) (c .part-of .ensures) .0
 
   closes : (c : lts.Then2 (calls t) (asked t) reads.Post Inv-loop μ-loop) → 3 ≤ length (part c .part-of .result .now)
   closes c =
       let I = taken (part c) in
       let S = start (head I) in
-      group-long (S .pre .1 .0) (S .pre .1 .1 .1) (head I .loop .inv .0) (I .if1 .taken) (part c .part-of .ensures) (c .if2 .taken)
+      group-long (S .args .marks .now) (S .pre .1 .0) (S .pre .1 .1 .1) (head I .loop .inv .0) (I .if1 .taken) (part c .part-of .ensures) (c .if2 .taken)
 
   mul-next : lts.Need-mul-next (calls t) (asked t) reads.Post Inv-loop μ-loop
   mul-next c = omega (arith, listed (head c))
@@ -150,7 +150,7 @@ module _ (t : ℕ) where
       let g = group c in
       let I = taken (part g) in
       let S = start (head I) in
-      opening (S .pre .1 .0) (S .pre .1 .1 .1) (head I .loop .inv .0) (I .if1 .taken) (part g .part-of .ensures) (g .if2 .taken) (c .inside .ensures)
+      opening (S .args .marks .now) (S .pre .1 .0) (S .pre .1 .1 .1) (head I .loop .inv .0) (I .if1 .taken) (part g .part-of .ensures) (g .if2 .taken) (c .inside .ensures)
 
   enter-tree-requires : lts.Need-enter-tree-requires (calls t) (asked t) reads.Post Inv-loop μ-loop
   enter-tree-requires c κs =
@@ -164,7 +164,7 @@ module _ (t : ℕ) where
       let I = taken (part (group (called (call c)))) in
       let S = start (head I) in
       let more = I .if1 .taken in
-      omega (arith, through-less (S .pre .1 .0) (S .pre .1 .1 .1) (head I .loop .inv .0) more)
+      omega (arith, through-less (S .args .marks .now) (S .pre .1 .0) (S .pre .1 .1 .1) (head I .loop .inv .0) more)
 
   loop-again : lts.Need-loop-again (calls t) (asked t) reads.Post Inv-loop μ-loop
   loop-again c =
@@ -173,7 +173,7 @@ module _ (t : ℕ) where
       let g = group C in
       let I = taken (part g) in
       let S = start (head I) in (
-        through-group (S .pre .1 .0) (S .pre .1 .1 .1) (head I .loop .inv .0) (I .if1 .taken) (part g .part-of .ensures) (g .if2 .taken) (C .inside .ensures)
+        through-group (S .args .marks .now) (S .pre .1 .0) (S .pre .1 .1 .1) (head I .loop .inv .0) (I .if1 .taken) (part g .part-of .ensures) (g .if2 .taken) (C .inside .ensures)
             (e .1 .0) (e .1 .1 .0) (e .1 .1 .1),
         e .0,
       )
@@ -183,14 +183,14 @@ module _ (t : ℕ) where
       let I = taken (c .before .before) in
       let S = start (head I) in
       let more = I .if1 .taken in
-      omega (arith, through-less (S .pre .1 .0) (S .pre .1 .1 .1) (head I .loop .inv .0) more)
+      omega (arith, through-less (S .args .marks .now) (S .pre .1 .0) (S .pre .1 .1 .1) (head I .loop .inv .0) more)
 
   loop-again-2 : lts.Need-loop-again-2 (calls t) (asked t) reads.Post Inv-loop μ-loop
   loop-again-2 c =
       let p = c .before .before in
       let I = taken p in
       let S = start (head I) in (
-        through-step (S .pre .1 .0) (S .pre .1 .1 .1) (head I .loop .inv .0) (I .if1 .taken) (p .part-of .ensures) (c .if2 .left),
+        through-step (S .args .marks .now) (S .pre .1 .0) (S .pre .1 .1 .1) (head I .loop .inv .0) (I .if1 .taken) (p .part-of .ensures) (c .if2 .left),
         head I .loop .inv .1,
       )
 
@@ -199,9 +199,10 @@ module _ (t : ℕ) where
       let R = c .before .before .before .before .before .before .before .before .before .before .before in
       let H = R .before .before in
       let w = H .loop .inv in
+      let marks = start H .args .marks .now in
       let l = start H .pre .1 .0 in
       let z = start H .pre .1 .1 .1 in
-      (through-ready l z (w .0), (through-all l z (w .0) (R .if1 .left), (w .1, z)))
+      (through-ready marks l z (w .0), (through-all marks l z (w .0) (R .if1 .left), (w .1, z)))
 
   -- The level entered, from where the function returns.
   abbrev entered : lts.After-slice-known33 (calls t) (asked t) reads.Post Inv-loop μ-loop → lts.After-enter-level (calls t) (asked t) reads.Post Inv-loop μ-loop

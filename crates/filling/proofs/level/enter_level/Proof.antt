@@ -11,16 +11,16 @@ use Rattle.filling.proofs.level.enter_level.Statement.{statement}
 use Rattle.filling.proofs.level.enter_level.Tie as tie
 
 abbrev Inv-loop : tie.InvT-loop
-Inv-loop places nexts s level steps groups prices offsets numbers kinds matches₀ extents₀ tails₀ stops₀ seen₀ keys₀ costs₀ choices₀ m i₀ matches extents tails stops seen keys costs choices i =
-    (i ≤ m) × Descended s (level .span .behind) (level .limit) steps groups prices costs₀ choices₀ i costs choices matches extents tails stops
+Inv-loop places nexts s level steps groups marks prices offsets numbers kinds matches₀ extents₀ tails₀ stops₀ seen₀ keys₀ costs₀ choices₀ m i₀ matches extents tails stops seen keys costs choices i =
+    (i ≤ m) × Descended s (level .span .behind) (level .limit) steps groups marks prices costs₀ choices₀ i costs choices matches extents tails stops
     × Scratch offsets numbers kinds matches extents tails stops seen keys
 
 abbrev μ-loop : tie.MeasureT-loop
-μ-loop places nexts s level steps groups prices offsets numbers kinds matches₀ extents₀ tails₀ stops₀ seen₀ keys₀ costs₀ choices₀ m i₀ matches extents tails stops seen keys costs choices i = i
+μ-loop places nexts s level steps groups marks prices offsets numbers kinds matches₀ extents₀ tails₀ stops₀ seen₀ keys₀ costs₀ choices₀ m i₀ matches extents tails stops seen keys costs choices i = i
 
 -- The function's start, from where the siblings are listed.
 abbrev begun : tie.After-list-siblings Inv-loop μ-loop → tie.Start Inv-loop μ-loop
-begun c = c .before .before .before .before .before .before .before .before .before .before .before .before .before .before .before .before .before .before .before .before .before
+begun c = c .before .before .before .before .before .before .before .before .before .before .before .before .before .before .before .before .before .before .before .before .before .before
 
 -- From where the siblings are classified, and from the loop's head: where they were listed, and the function's start.
 abbrev listed : tie.After-classify Inv-loop μ-loop → tie.After-list-siblings Inv-loop μ-loop
@@ -58,7 +58,7 @@ few c = omega (arith, listed c .list-siblings .ensures .0, siblings-few (begun (
 
 list-siblings-requires : tie.Need-list-siblings-requires Inv-loop μ-loop
 list-siblings-requires c κs =
-    let p = c .before .before .before .before .before .before .before .before .before .before .before .before .before .before .before .before .before .before .before .before .pre in
+    let p = c .before .before .before .before .before .before .before .before .before .before .before .before .before .before .before .before .before .before .before .before .before .pre in
     let z = p .1 .1 .1 in
     let w = p .1 .1 .0 in
     (p .0 .spelled, (z .listed, ((z .long-places, z .long-nexts), (w .long-offsets, w .long-numbers))))
@@ -91,7 +91,7 @@ loop-holds c =
     let w = p .1 .1 .0 in
     let l = L .list-siblings .ensures in (
       omega arith,
-      descended-none (p .0) _ _ (a .extents .now) (a .tails .now) _ (l .0) (w .long-extents) (w .tails-ready .long),
+      descended-none _ (p .0) _ _ (a .extents .now) (a .tails .now) _ (l .0) (w .long-extents) (w .tails-ready .long),
       record {
         long-offsets = l .1 .0 .0;
         long-numbers = l .1 .1 .0;
@@ -129,7 +129,7 @@ draw-requires c κs =
     let more = I .loop-test .taken in
     let near = H .loop .inv .0 in (
       (G .grow .ensures .long, H .loop .inv .2 .long-extents, omega arith, omega arith),
-      (G .grow .ensures .low, rw (next I) (extent-few (start H .pre .0) (omega arith) (H .loop .inv .1))),
+      (G .grow .ensures .low, rw (next I) (extent-few _ (start H .pre .0) (omega arith) (H .loop .inv .1))),
     )
 
 own-combined-requires : tie.Need-own-combined-requires Inv-loop μ-loop
@@ -137,7 +137,7 @@ own-combined-requires c κs =
     let I = inside (grown (c .before .before .before .before)) in
     let H = I .before in
     let l = listed (classed H) .list-siblings .ensures in
-    own-asks (start H .pre .0) (H .loop .i - 1) (sym (l .0)) (next I) (H .loop .inv .0) (l .1 .1 .0) (l .1 .1 .1) (H .loop .inv .1) (l .1 .0)
+    own-asks _ (start H .pre .0) (H .loop .i - 1) (sym (l .0)) (next I) (H .loop .inv .0) (l .1 .1 .0) (l .1 .1 .1) (H .loop .inv .1) (l .1 .0)
 
 mul-extents-2 : tie.Need-mul-extents-2 Inv-loop μ-loop
 mul-extents-2 c =
@@ -159,7 +159,7 @@ enter-row-requires c κs =
     let l = listed K .list-siblings .ensures in
     let g = G .grow .ensures in
     let w = H .loop .inv .2 in
-    row-asks (p .0) (H .loop .i - 1) (sym (l .0)) (next I) (H .loop .inv .0) (l .1 .1 .0) (l .1 .1 .1) (H .loop .inv .1)
+    row-asks _ (p .0) (H .loop .i - 1) (sym (l .0)) (next I) (H .loop .inv .0) (l .1 .1 .0) (l .1 .1 .1) (H .loop .inv .1)
     (D .draw .result) (O .own-combined .ensures) (p .1 .0) (K .classify .ensures .1) g (D .draw .ensures) (H .loop .seen) (w .keys-ready) (w .tails-ready) (w .long-stops) (w .long-seen)
 
 loop-less : tie.Need-loop-less Inv-loop μ-loop
@@ -181,7 +181,7 @@ loop-again c =
     let e = E .enter-row .ensures in
     let near = H .loop .inv .0 in (
       omega arith,
-      descended-more (p .0) (H .loop .i - 1) (sym (l .0)) (next I) near (l .1 .1 .0) (l .1 .1 .1) (H .loop .inv .1)
+      descended-more _ (p .0) (H .loop .i - 1) (sym (l .0)) (next I) near (l .1 .1 .0) (l .1 .1 .1) (H .loop .inv .1)
           (D .draw .result) (O .own-combined .ensures) (p .1 .0) (K .classify .ensures .1) g (D .draw .ensures)
           {costs′ = E .enter-row .last .0}
           {choices′ = E .enter-row .last .1 .0}
@@ -195,7 +195,7 @@ loop-again c =
         long-matches = g .long;
         long-extents = simp length-set (w .long-extents);
         tails-ready = e .0 .1;
-        long-stops = rw (e .1 .stops-are) (simp length-set (w .long-stops));
+        long-stops = rw (e .1 .stops-are) (length-set (H .loop .stops) _ _ ∙ w .long-stops);
         long-seen = e .0 .2;
         keys-ready = e .0 .0;
       },
@@ -240,7 +240,7 @@ returns c =
     let p = start H .pre in
     let done : H .loop .i ≡ 0 = omega (arith, c .loop-test .left) in
     let d = rw done at (H .loop .inv .1) in
-    (H .loop .inv .2, (level-filled (p .0) d (p .1 .0), level-kept (p .0) d))
+    (H .loop .inv .2, (level-filled _ (p .0) d (p .1 .0), level-kept _ (p .0) d))
 
 pub enter-level-spec : {M : Type 1} → statement M
 enter-level-spec =

@@ -1,6 +1,6 @@
 -- `folder::run::fill` meets its contract: lists of zeros are ready to work in.
 use borrow.Author.Needs.{needs}
-use Rattle.format.specs.Forest.{at-most}
+use Rattle.format.specs.Limits.{allowed}
 use Rattle.filling.proofs.Entries.{used-filled}
 use Rattle.filling.proofs.Levels.{scratch-none}
 use Rattle.folder.proofs.run.fill.Statement.{statement}
@@ -8,7 +8,7 @@ use Rattle.folder.proofs.run.fill.Tie as tie
 
 -- The function's start, from where the lists are made.
 abbrev start : tie.After-keys → tie.Start
-start c = c .before .before .before .before .before .before .before .before .before .before .before .before .before .before .before .before .before
+start c = c .before .before .before .before .before .before .before .before .before .before .before .before .before .before .before .before .before .before
 
 slice-aggregate-enter-tree : tie.Need-slice-aggregate-enter-tree
 slice-aggregate-enter-tree c = search needs
@@ -54,7 +54,7 @@ returns : tie.Need-returns
 returns c =
     let C = call c in
     let S = start (C .before .before .before) in
-    let A = at-most (S .args .level .limit) in
+    let A = allowed (S .args .level .limit) (S .args .marks .now) in
     let e = C .enter-tree .ensures in
     (used-filled A _ _ _ _ _ (S .pre .0 .spelled .run A) (e .1 .0), e .1 .1)
 

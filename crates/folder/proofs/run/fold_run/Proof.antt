@@ -1,6 +1,7 @@
 -- `folder::run::fold_run` meets its contract: listed, filled, written by the table, and cleared.
 use borrow.Author.Needs.{needs}
 use native.Mathlib.Omega.{arith}
+use Rattle.format.specs.Limits.{allowed}
 use Rattle.folder.specs.inner.Run.{RunFilled}
 use Rattle.table.proofs.ByNumber.{span-whole}
 use Rattle.filling.specs.Filling.{prices-of}
@@ -13,13 +14,13 @@ abbrev list-of : tie.After-fill → tie.After-list-nodes
 list-of c = c .before .before .before .before .before .before .before
 
 abbrev start : tie.After-fill → tie.Start
-start c = list-of c .before .before .before .before .before .before .before .before .before .before
+start c = list-of c .before .before .before .before .before .before .before .before .before .before .before
 
 filled : (c : tie.After-fill)
     → (let a = start c .args in
-    RunFilled (a .run .now) (a .n) (a .limit) (prices-of (a .steps .now) (a .groups .now) (a .prices .now)) (c .fill .last .1 .1 .1 .1 .1 .1 .1 .0)
-    (c .fill .last .1 .1 .1 .1 .1 .1 .1 .1 .0))
-filled c = let S = start c in run-filled (S .pre .0) (S .pre .1) (c .fill .ensures .0) (c .fill .ensures .1)
+    RunFilled (a .run .now) (a .n) (allowed (a .limit) (a .marks .now)) (prices-of (a .steps .now) (a .groups .now) (a .prices .now))
+    (c .fill .last .1 .1 .1 .1 .1 .1 .1 .1 .0) (c .fill .last .1 .1 .1 .1 .1 .1 .1 .1 .1 .0))
+filled c = let S = start c in run-filled (allowed (S .args .limit) (S .args .marks .now)) (S .pre .0) (S .pre .1) (c .fill .ensures .0) (c .fill .ensures .1)
 
 slice-aggregate-list-nodes : tie.Need-slice-aggregate-list-nodes
 slice-aggregate-list-nodes c = search needs
@@ -39,7 +40,7 @@ slice-aggregate-fill-2 c = search needs
 fill-requires : tie.Need-fill-requires
 fill-requires c κs =
     let N = c .before .before .before .before .before .before in
-    let p = N .before .before .before .before .before .before .before .before .before .before .pre in
+    let p = N .before .before .before .before .before .before .before .before .before .before .before .pre in
     let l = N .list-nodes .ensures in
     let whole = span-whole _ _ _ _ (p .1) (omega (arith, p .0 .total)) (l .1) in
     (p .0, record { long-places = l .0 .0; long-nexts = l .0 .1; listed = whole })
@@ -86,7 +87,7 @@ returns c =
     let W = E .before .before .before in
     let F = fill-of E in
     let S = start F in
-    run-folded (S .pre .0) (S .pre .1) (F .fill .ensures .0) (F .fill .ensures .1) (E .entries .result) (E .entries .ensures) (W .put-run .ensures) (B .clear .ensures)
+    run-folded (allowed (S .args .limit) (S .args .marks .now)) (S .pre .0) (S .pre .1) (F .fill .ensures .0) (F .fill .ensures .1) (E .entries .result) (E .entries .ensures) (W .put-run .ensures) (B .clear .ensures)
     (C .clear2 .ensures)
 
 pub fold-run-spec : {M : Type 1} → statement M

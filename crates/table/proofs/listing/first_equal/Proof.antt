@@ -63,7 +63,7 @@ loop-again c =
       below-more _ _ (L .inv .1)
           (⊎-elim
           (λ w e. false≢true (sym (w .4 .left) ∙ w .3 .ensures .1 (w .1 .ensures ∙ ap bytes e ∙ sym (w .2 .ensures))))
-          (λ w. none-again _ _ _ _ (S .pre .1 .1 .1 .1 .class (L .j) (c .before .before .before .loop-test .taken)) (λ e. w .left (c .before .as-index .ensures ∙ e)) (L .inv .1))
+          (λ w. none-again (S .pre .1 .1 .1 .1 .0) _ _ _ _ (S .pre .1 .1 .1 .1 .1 .class (L .j) (c .before .before .before .loop-test .taken)) (λ e. w .left (c .before .as-index .ensures ∙ e)) (L .inv .1))
           (c .if1 .came)),
     )
 

@@ -5,10 +5,10 @@ use Rattle.trial.proofs.compare.best_of.Statement.{statement}
 use Rattle.trial.proofs.compare.best_of.Tie as tie
 
 abbrev Inv-loop : tie.InvT-loop
-Inv-loop found pool limit steps groups first each best₀ k₀ best k = Unit
+Inv-loop found pool limit steps groups marks first each best₀ k₀ best k = Unit
 
 abbrev μ-loop : tie.MeasureT-loop
-μ-loop found pool limit steps groups first each best₀ k₀ best k = found - k
+μ-loop found pool limit steps groups marks first each best₀ k₀ best k = found - k
 
 loop-holds : tie.Need-loop-holds Inv-loop μ-loop
 loop-holds c = search needs

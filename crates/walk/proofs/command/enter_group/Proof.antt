@@ -1,16 +1,21 @@
 -- `enter_group` meets its contract.
 use borrow.Author.Needs.{needs}
+use mathlib.Core.Path.{sym, _∙_}
 use native.Mathlib.Omega.{arith}
-use Rattle.walk.proofs.Commands.{group-short, group-deep, group-full, group-on}
+use Rattle.walk.proofs.Commands.{group-short, group-deep, group-barred, group-full, group-on}
 use Rattle.walk.proofs.command.enter_group.Statement.{statement}
 use Rattle.walk.proofs.command.enter_group.Tie as tie
 
--- The function's start, from where the label is there; and that place, from where the depth is within its limit.
+-- The function's start, from where the label is there; that place, from where the depth is within its limit; and that one, from
+-- where the label may stand.
 abbrev start : tie.Else1 → tie.Start
-start c = c .before .before .before
+start c = c .before .before .before .before
 
 abbrev labelled : tie.Else2 → tie.Else1
 labelled c = c .before .before .before .before
+
+abbrev shallow : tie.Else3 → tie.Else2
+shallow c = c .before .before .before
 
 sub-if1 : tie.Need-sub-if1
 sub-if1 c = search needs
@@ -20,8 +25,8 @@ refused-requires c κs = search needs
 
 returns : tie.Need-returns
 returns c =
-    let S = c .before .before .before .before in
-    λ steps. rw (c .refused .ensures) (group-short (S .args .a) steps (S .args .groups .now) (S .args .s .now) (S .args .d) (S .args .at) (S .args .t) (S .pre .0) (omega (arith, S .pre .0 .below)) _ _)
+    let S = c .before .before .before .before .before in
+    λ steps. rw (c .refused .ensures) (group-short (S .args .a) steps (S .args .groups .now) (S .args .marks .now) (S .args .s .now) (S .args .d) (S .args .at) (S .args .t) (S .pre .0) (omega (arith, S .pre .0 .below)) _ _)
 
 refused-requires-2 : tie.Need-refused-requires-2
 refused-requires-2 c κs = search needs
@@ -29,16 +34,38 @@ refused-requires-2 c κs = search needs
 returns-2 : tie.Need-returns-2
 returns-2 c =
     let S = start (c .before .before .before .before .before) in
-    λ steps. rw (c .refused2 .ensures) (group-deep (S .args .a) steps (S .args .groups .now) (S .args .s .now) (S .args .d) (S .args .at) (S .args .t) (S .pre .0) (omega (arith, S .pre .0 .below)) (c .before .if2 .taken) _ _)
+    λ steps. rw (c .refused2 .ensures) (group-deep (S .args .a) steps (S .args .groups .now) (S .args .marks .now) (S .args .s .now) (S .args .d) (S .args .at) (S .args .t) (S .pre .0) (omega (arith, S .pre .0 .below)) (c .before .if2 .taken) _ _)
+
+add-is-barred : tie.Need-add-is-barred
+add-is-barred c = search needs
+
+shared-slice-read-is-barred : tie.Need-shared-slice-read-is-barred
+shared-slice-read-is-barred c = search needs
+
+is-barred-requires : tie.Need-is-barred-requires
+is-barred-requires c κs = search needs
 
 refused-requires-3 : tie.Need-refused-requires-3
 refused-requires-3 c κs = search needs
 
 returns-3 : tie.Need-returns-3
 returns-3 c =
-    let shallow = c .before .before .before .before in
-    let S = start (labelled shallow) in
-    λ steps. rw (c .refused3 .ensures) (group-full (S .args .a) steps (S .args .groups .now) (S .args .s .now) (S .args .d) (S .args .at) (S .args .t) (S .pre .0) (omega (arith, S .pre .0 .below)) (shallow .if2 .left) (c .before .if3 .taken) _ _)
+    let b = c .before .before in
+    let f = b .before .before in
+    let e = labelled f in
+    let S = start e in
+    λ steps. rw (c .refused3 .ensures) (group-barred (S .args .a) steps (S .args .groups .now) (S .args .marks .now) (S .args .s .now) (S .args .d) (S .args .at) (S .args .t) (S .pre .0) (omega (arith, S .pre .0 .below, e .if1 .left)) (f .if2 .left) (sym (b .is-barred .ensures) ∙ c .before .if3 .taken) _ _)
+
+refused-requires-4 : tie.Need-refused-requires-4
+refused-requires-4 c κs = search needs
+
+returns-4 : tie.Need-returns-4
+returns-4 c =
+    let g = c .before .before .before .before in
+    let f = shallow g in
+    let e = labelled f in
+    let S = start e in
+    λ steps. rw (c .refused4 .ensures) (group-full (S .args .a) steps (S .args .groups .now) (S .args .marks .now) (S .args .s .now) (S .args .d) (S .args .at) (S .args .t) (S .pre .0) (omega (arith, S .pre .0 .below, e .if1 .left)) (f .if2 .left) (sym (g .before .is-barred .ensures) ∙ g .if3 .left) (c .before .if4 .taken) _ _)
 
 add-price : tie.Need-add-price
 add-price c = search needs
@@ -54,18 +81,19 @@ add-t10 c = search needs
 
 inside-group-requires : tie.Need-inside-group-requires
 inside-group-requires c κs =
-    let shallow = c .before .before .before .before .before in
-    let S = start (labelled shallow) in
-    (omega (arith, S .pre .1 .0, S .pre .1 .1), (omega (arith, shallow .if2 .left, S .pre .1 .1), c .price .ensures .1))
+    let f = shallow (c .before .before .before .before .before) in
+    let S = start (labelled f) in
+    (omega (arith, S .pre .1 .0, S .pre .1 .1), (omega (arith, f .if2 .left, S .pre .1 .1), c .price .ensures .1))
 
-returns-4 : tie.Need-returns-4
-returns-4 c =
+returns-5 : tie.Need-returns-5
+returns-5 c =
     let p = c .before in
     let room = p .before .before in
-    let shallow = room .before .before .before in
-    let e = labelled shallow in
+    let g = room .before .before .before in
+    let f = shallow g in
+    let e = labelled f in
     let S = start e in
-    λ steps. rw (c .inside-group .ensures) (group-on (S .args .a) steps (S .args .groups .now) (S .args .s .now) (S .args .d) (S .args .at) (S .args .t) (S .pre .1 .0) (S .pre .0) (omega (arith, S .pre .0 .below, e .if1 .left)) (shallow .if2 .left) (room .if3 .left) _ (p .price .ensures .0) (p .price .ensures .1))
+    λ steps. rw (c .inside-group .ensures) (group-on (S .args .a) steps (S .args .groups .now) (S .args .marks .now) (S .args .s .now) (S .args .d) (S .args .at) (S .args .t) (S .pre .1 .0) (S .pre .0) (omega (arith, S .pre .0 .below, e .if1 .left)) (f .if2 .left) (sym (g .before .is-barred .ensures) ∙ g .if3 .left) (room .if4 .left) _ (p .price .ensures .0) (p .price .ensures .1))
 
 pub enter-group-spec : {M : Type 1} → statement M
 enter-group-spec =
@@ -76,11 +104,16 @@ enter-group-spec =
     returns
     refused-requires-2
     returns-2
+    add-is-barred
+    shared-slice-read-is-barred
+    is-barred-requires
     refused-requires-3
     returns-3
+    refused-requires-4
+    returns-4
     add-price
     shared-slice-read-price
     price-requires
     add-t10
     inside-group-requires
-    returns-4)
+    returns-5)

@@ -46,7 +46,7 @@ refused-requires c κs = search needs
 returns : tie.Need-returns
 returns c =
     let S = c .before .before .before .before in
-    rw (c .refused .ensures) (λ steps groups. repeat-in-run (S .args .a) steps groups (S .args .s .now) (S .args .d) (S .args .at) (S .args .t) (S .pre .0) (S .pre .1 .0) (not-true _ (c .before .if1 .taken)) _ _, λ z. absurd (omega arith))
+    rw (c .refused .ensures) (λ steps groups marks. repeat-in-run (S .args .a) steps groups marks (S .args .s .now) (S .args .d) (S .args .at) (S .args .t) (S .pre .0) (S .pre .1 .0) (not-true _ (c .before .if1 .taken)) _ _, λ z. absurd (omega arith))
 
 sub-if2 : tie.Need-sub-if2
 sub-if2 c = search needs
@@ -58,7 +58,7 @@ returns-2 : tie.Need-returns-2
 returns-2 c =
     let e = c .before .before in
     let S = start e in
-    rw (c .refused2 .ensures) (λ steps groups. repeat-short (S .args .a) steps groups (S .args .s .now) (S .args .d) (S .args .at) (S .args .t) (S .pre .0) (S .pre .1 .0) (folds e) (omega (arith, S .pre .0 .below)) _ _, λ z. absurd (omega arith))
+    rw (c .refused2 .ensures) (λ steps groups marks. repeat-short (S .args .a) steps groups marks (S .args .s .now) (S .args .d) (S .args .at) (S .args .t) (S .pre .0) (S .pre .1 .0) (folds e) (omega (arith, S .pre .0 .below)) _ _, λ z. absurd (omega arith))
 
 add-operand : tie.Need-add-operand
 add-operand c = search needs
@@ -73,7 +73,7 @@ returns-3 : tie.Need-returns-3
 returns-3 c =
     let n = c .before .before in
     let S = begun n in
-    rw (c .refused3 .ensures) (λ steps groups. repeat-few (S .args .a) steps groups (S .args .s .now) (S .args .d) (S .args .at) (S .args .t) (S .pre .0) (S .pre .1 .0) (folds (n .before .before)) (long (n .before)) (omega (arith, n .operand .ensures .0, c .before .if3 .taken)) _ _, λ z. absurd (omega arith))
+    rw (c .refused3 .ensures) (λ steps groups marks. repeat-few (S .args .a) steps groups marks (S .args .s .now) (S .args .d) (S .args .at) (S .args .t) (S .pre .0) (S .pre .1 .0) (folds (n .before .before)) (long (n .before)) (omega (arith, n .operand .ensures .0, c .before .if3 .taken)) _ _, λ z. absurd (omega arith))
 
 add-operand-2 : tie.Need-add-operand-2
 add-operand-2 c = search needs
@@ -89,7 +89,7 @@ returns-4 c =
     let w = c .before .before .before in
     let n = w .before .before in
     let S = begun n in
-    rw (c .refused4 .ensures) (λ steps groups. repeat-wide (S .args .a) steps groups (S .args .s .now) (S .args .d) (S .args .at) (S .args .t) (S .pre .0) (S .pre .1 .0) (folds (n .before .before)) (long (n .before)) (twice (w .before)) (omega (arith, w .operand2 .ensures .0, c .before .if4 .taken)) _ _, λ z. absurd (omega arith))
+    rw (c .refused4 .ensures) (λ steps groups marks. repeat-wide (S .args .a) steps groups marks (S .args .s .now) (S .args .d) (S .args .at) (S .args .t) (S .pre .0) (S .pre .1 .0) (folds (n .before .before)) (long (n .before)) (twice (w .before)) (omega (arith, w .operand2 .ensures .0, c .before .if4 .taken)) _ _, λ z. absurd (omega arith))
 
 refused-requires-5 : tie.Need-refused-requires-5
 refused-requires-5 c κs = search needs
@@ -99,7 +99,7 @@ returns-5 c =
     let w = c .before .before .before .before .before in
     let n = counted w in
     let S = begun n in
-    rw (c .refused5 .ensures) (λ steps groups. repeat-deep (S .args .a) steps groups (S .args .s .now) (S .args .d) (S .args .at) (S .args .t) (S .pre .0) (S .pre .1 .0) (folds (n .before .before)) (long (n .before)) (twice (w .before .before .before)) (narrow w) (omega (arith, c .before .if5 .taken)) _ _, λ z. absurd (omega arith))
+    rw (c .refused5 .ensures) (λ steps groups marks. repeat-deep (S .args .a) steps groups marks (S .args .s .now) (S .args .d) (S .args .at) (S .args .t) (S .pre .0) (S .pre .1 .0) (folds (n .before .before)) (long (n .before)) (twice (w .before .before .before)) (narrow w) (omega (arith, c .before .if5 .taken)) _ _, λ z. absurd (omega arith))
 
 -- From where the depth is within the limit.
 abbrev shallow : tie.Else5 → tie.Else4
@@ -129,7 +129,7 @@ returns-6 c =
     let f = folds (n .before .before) in
     let l = long (n .before) in
     let m = twice (w .before .before .before) in (
-      λ steps groups. rw (c .inside-repeat .ensures) (repeat-on (S .args .a) steps groups (S .args .s .now) (S .args .d) (S .args .at) (S .args .t) (S .pre .0) (S .pre .1 .0) f l m (narrow w) (omega (arith, e .if5 .left)) _ (ap (λ (k : ℕ). S .args .a .first + S .args .a .each * (k - 2)) (n .operand .ensures .0)) (omega (arith, dear n, S .pre .1 .1 .first))),
+      λ steps groups marks. rw (c .inside-repeat .ensures) (repeat-on (S .args .a) steps groups marks (S .args .s .now) (S .args .d) (S .args .at) (S .args .t) (S .pre .0) (S .pre .1 .0) f l m (narrow w) (omega (arith, e .if5 .left)) _ (ap (λ (k : ℕ). S .args .a .first + S .args .a .each * (k - 2)) (n .operand .ensures .0)) (omega (arith, dear n, S .pre .1 .1 .first))),
       λ z. (f, m, l),
     )
 

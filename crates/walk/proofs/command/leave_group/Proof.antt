@@ -26,7 +26,7 @@ refused-requires c κs = search needs
 returns : tie.Need-returns
 returns c =
     let S = c .before .before .before in
-    λ steps groups d. rw (c .refused .ensures) (left-open (S .args .a) steps groups (S .args .s .now) d (S .args .at) (S .args .t) (S .args .i) (S .pre .0) (S .pre .1 .1 .1 .0 .1) (c .before .if1 .taken) _ _)
+    λ steps groups marks d. rw (c .refused .ensures) (left-open (S .args .a) steps groups marks (S .args .s .now) d (S .args .at) (S .args .t) (S .args .i) (S .pre .0) (S .pre .1 .1 .1 .0 .1) (c .before .if1 .taken) _ _)
 
 shared-slice-read-if2 : tie.Need-shared-slice-read-if2
 shared-slice-read-if2 c = search needs
@@ -39,7 +39,7 @@ returns-2 c =
     let g = c .before .before .before in
     let e = closed g in
     let S = start e in
-    λ steps groups d. rw (c .refused2 .ensures) (group-empty (S .args .a) steps groups (S .args .s .now) d (S .args .at) (S .args .t) (S .args .i) (S .pre .0) (S .pre .1 .1 .1 .0 .1) (e .if1 .left) (g .if2 .taken) (c .before .if3 .taken) _)
+    λ steps groups marks d. rw (c .refused2 .ensures) (group-empty (S .args .a) steps groups marks (S .args .s .now) d (S .args .at) (S .args .t) (S .args .i) (S .pre .0) (S .pre .1 .1 .1 .0 .1) (e .if1 .left) (g .if2 .taken) (c .before .if3 .taken) _)
 
 add-t11 : tie.Need-add-t11
 add-t11 c = search needs
@@ -55,7 +55,7 @@ returns-3 c =
     let g = some .before .before in
     let e = closed g in
     let S = start e in
-    λ steps groups d. rw (c .after-group .ensures) (group-left (S .args .a) steps groups (S .args .s .now) d (S .args .at) (S .args .t) (S .args .i) (S .pre .0) (S .pre .1 .1 .1 .0 .1) (e .if1 .left) (g .if2 .taken) (some .if3 .left) (omega (arith, S .pre .1 .0 .1, S .pre .1 .1)))
+    λ steps groups marks d. rw (c .after-group .ensures) (group-left (S .args .a) steps groups marks (S .args .s .now) d (S .args .at) (S .args .t) (S .args .i) (S .pre .0) (S .pre .1 .1 .1 .0 .1) (e .if1 .left) (g .if2 .taken) (some .if3 .left) (omega (arith, S .pre .1 .0 .1, S .pre .1 .1)))
 
 refused-requires-3 : tie.Need-refused-requires-3
 refused-requires-3 c κs = search needs
@@ -65,7 +65,7 @@ returns-4 c =
     let g = c .before .before in
     let e = crossed g in
     let S = start e in
-    λ steps groups d. rw (c .refused3 .ensures) (group-crossed (S .args .a) steps groups (S .args .s .now) d (S .args .at) (S .args .t) (S .args .i) (S .pre .0) (S .pre .1 .1 .1 .0 .1) (e .if1 .left) (closes-repeat g) (c .before .if4 .taken) _)
+    λ steps groups marks d. rw (c .refused3 .ensures) (group-crossed (S .args .a) steps groups marks (S .args .s .now) d (S .args .at) (S .args .t) (S .args .i) (S .pre .0) (S .pre .1 .1 .1 .0 .1) (e .if1 .left) (closes-repeat g) (c .before .if4 .taken) _)
 
 refused-requires-4 : tie.Need-refused-requires-4
 refused-requires-4 c κs = search needs
@@ -75,7 +75,7 @@ returns-5 c =
     let g = c .before .before in
     let e = crossed g in
     let S = start e in
-    λ steps groups d. rw (c .refused4 .ensures) (group-crossed-run (S .args .a) steps groups (S .args .s .now) d (S .args .at) (S .args .t) (S .args .i) (S .pre .0) (S .pre .1 .1 .1 .0 .1) (e .if1 .left) (closes-repeat g) (c .before .if4 .left) _)
+    λ steps groups marks d. rw (c .refused4 .ensures) (group-crossed-run (S .args .a) steps groups marks (S .args .s .now) d (S .args .at) (S .args .t) (S .args .i) (S .pre .0) (S .pre .1 .1 .1 .0 .1) (e .if1 .left) (closes-repeat g) (c .before .if4 .left) _)
 
 pub leave-group-spec : {M : Type 1} → statement M
 leave-group-spec =

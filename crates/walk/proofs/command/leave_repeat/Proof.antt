@@ -29,7 +29,7 @@ refused-requires c κs = search needs
 returns : tie.Need-returns
 returns c =
     let S = c .before .before .before in
-    λ steps groups d. rw (c .refused .ensures) (left-open (S .args .a) steps groups (S .args .s .now) d (S .args .at) (S .args .t) (S .args .i) (S .pre .0) (S .pre .1 .1 .1 .1 .0 .1) (c .before .if1 .taken) _ _)
+    λ steps groups marks d. rw (c .refused .ensures) (left-open (S .args .a) steps groups marks (S .args .s .now) d (S .args .at) (S .args .t) (S .args .i) (S .pre .0) (S .pre .1 .1 .1 .1 .0 .1) (c .before .if1 .taken) _ _)
 
 shared-slice-read-if2 : tie.Need-shared-slice-read-if2
 shared-slice-read-if2 c = search needs
@@ -41,7 +41,7 @@ returns-2 : tie.Need-returns-2
 returns-2 c =
     let e = c .before .before .before in
     let S = start e in
-    λ steps groups d. rw (c .refused2 .ensures) (repeat-crossed (S .args .a) steps groups (S .args .s .now) d (S .args .at) (S .args .t) (S .args .i) (S .pre .0) (S .pre .1 .1 .1 .1 .0 .1) (e .if1 .left) (S .pre .1 .1 .1 .0 .0) (S .args .o .count) (S .args .o .width) (c .before .if2 .taken) _)
+    λ steps groups marks d. rw (c .refused2 .ensures) (repeat-crossed (S .args .a) steps groups marks (S .args .s .now) d (S .args .at) (S .args .t) (S .args .i) (S .pre .0) (S .pre .1 .1 .1 .1 .0 .1) (e .if1 .left) (S .pre .1 .1 .1 .0 .0) (S .args .o .count) (S .args .o .width) (c .before .if2 .taken) _)
 
 refused-requires-3 : tie.Need-refused-requires-3
 refused-requires-3 c κs = search needs
@@ -50,7 +50,7 @@ returns-3 : tie.Need-returns-3
 returns-3 c =
     let u = c .before .before .before in
     let S = start (going u) in
-    λ steps groups d. rw (c .refused3 .ensures) (repeat-empty (S .args .a) steps groups (S .args .s .now) d (S .args .at) (S .args .t) (S .args .i) (S .pre .0) (S .pre .1 .1 .1 .1 .0 .1) (going u .if1 .left) (S .pre .1 .1 .1 .0 .0) (S .args .o .count) (S .args .o .width) (closes-repeat u) (c .before .if3 .taken) _)
+    λ steps groups marks d. rw (c .refused3 .ensures) (repeat-empty (S .args .a) steps groups marks (S .args .s .now) d (S .args .at) (S .args .t) (S .args .i) (S .pre .0) (S .pre .1 .1 .1 .1 .0 .1) (going u .if1 .left) (S .pre .1 .1 .1 .0 .0) (S .args .o .count) (S .args .o .width) (closes-repeat u) (c .before .if3 .taken) _)
 
 refused-requires-4 : tie.Need-refused-requires-4
 refused-requires-4 c κs = search needs
@@ -60,7 +60,7 @@ returns-4 c =
     let e = c .before .before .before in
     let u = uncrossed e in
     let S = start (going u) in
-    λ steps groups d. rw (c .refused4 .ensures) (repeat-untrue (S .args .a) steps groups (S .args .s .now) d (S .args .at) (S .args .t) (S .args .i) (S .pre .0) (S .pre .1 .1 .1 .1 .0 .1) (going u .if1 .left) (S .pre .1 .1 .1 .0 .0) (S .args .o .count) (S .args .o .width) (closes-repeat u) (e .if3 .left) (c .before .if4 .taken) _)
+    λ steps groups marks d. rw (c .refused4 .ensures) (repeat-untrue (S .args .a) steps groups marks (S .args .s .now) d (S .args .at) (S .args .t) (S .args .i) (S .pre .0) (S .pre .1 .1 .1 .1 .0 .1) (going u .if1 .left) (S .pre .1 .1 .1 .0 .0) (S .args .o .count) (S .args .o .width) (closes-repeat u) (e .if3 .left) (c .before .if4 .taken) _)
 
 after-repeat-requires : tie.Need-after-repeat-requires
 after-repeat-requires c κs =
@@ -76,7 +76,7 @@ returns-5 c =
     let e = some (p .before) in
     let u = uncrossed e in
     let S = start (going u) in
-    λ steps groups d. rw (c .refused5 .ensures) (repeat-full (S .args .a) steps groups (S .args .s .now) d (S .args .at) (S .args .t) (S .args .i) (S .pre .0) (S .pre .1 .1 .1 .1 .0 .1) (going u .if1 .left) (S .pre .1 .1 .1 .0 .0) (S .args .o .count) (S .args .o .width) (closes-repeat u) (e .if3 .left) (p .before .if4 .left) (rw (p .after-repeat .ensures) at (c .before .if5 .taken)) _)
+    λ steps groups marks d. rw (c .refused5 .ensures) (repeat-full (S .args .a) steps groups marks (S .args .s .now) d (S .args .at) (S .args .t) (S .args .i) (S .pre .0) (S .pre .1 .1 .1 .1 .0 .1) (going u .if1 .left) (S .pre .1 .1 .1 .0 .0) (S .args .o .count) (S .args .o .width) (closes-repeat u) (e .if3 .left) (p .before .if4 .left) (rw (p .after-repeat .ensures) at (c .before .if5 .taken)) _)
 
 add-t10 : tie.Need-add-t10
 add-t10 c = search needs
@@ -89,7 +89,7 @@ returns-6 c =
     let S = start (going u) in
     let total = rw (p .after-repeat .ensures) at (c .if5 .left) in
     let grown = repeat-grown (S .args .a .limits) (S .args .o .count) (S .args .t) (S .args .i) (S .pre .1 .1 .1 .0 .1) (S .pre .1 .1 .1 .1 .0 .0) (omega (arith, e .if3 .left)) (S .pre .1 .1 .1 .1 .1 .0 .0) (S .pre .1 .1 .1 .1 .1 .0 .1) (S .pre .1 .1 .1 .1 .1 .0 .2) (S .pre .1 .1 .1 .1 .1 .1 .0) (S .pre .1 .1 .1 .1 .1 .1 .1) total in
-    λ steps groups d. rw (p .after-repeat .ensures) (repeat-left (S .args .a) steps groups (S .args .s .now) d (S .args .at) (S .args .t) (S .args .i) (S .pre .0) (S .pre .1 .1 .1 .1 .0 .1) (going u .if1 .left) (S .pre .1 .1 .1 .0 .0) (S .args .o .count) (S .args .o .width) (closes-repeat u) (e .if3 .left) (p .before .if4 .left) total grown)
+    λ steps groups marks d. rw (p .after-repeat .ensures) (repeat-left (S .args .a) steps groups marks (S .args .s .now) d (S .args .at) (S .args .t) (S .args .i) (S .pre .0) (S .pre .1 .1 .1 .1 .0 .1) (going u .if1 .left) (S .pre .1 .1 .1 .0 .0) (S .args .o .count) (S .args .o .width) (closes-repeat u) (e .if3 .left) (p .before .if4 .left) total grown)
 
 pub leave-repeat-spec : {M : Type 1} → statement M
 leave-repeat-spec =

@@ -30,41 +30,41 @@ use Rattle.format.specs.Machine.{a-group}
 use Rattle.walk.specs.Walk.{OpenRead, rules-of, in-group-of, in-repeat-of, word-at, repeat-at}
 use Rattle.walk.proofs.Walking.{Along, along-none, along-ends, along-refused, along-more, room-grown, entry-refused, inside-refused, through, group-deeper, repeat-deeper, closed-as, item-unknown}
 
-abbrev μ-group : Measures 3 group-kinds.ps ℕ
-μ-group κs a = 3 * (length (a .0 .now) - a .1 .1 .1 .1 .0) + 0
+abbrev μ-group : Measures 4 group-kinds.ps ℕ
+μ-group κs a = 3 * (length (a .0 .now) - a .1 .1 .1 .1 .1 .0) + 0
 
-abbrev μ-item : Measures 3 item-kinds.ps ℕ
-μ-item κs a = 3 * (length (a .0 .now) - a .1 .1 .1 .1 .0) + 1
+abbrev μ-item : Measures 4 item-kinds.ps ℕ
+μ-item κs a = 3 * (length (a .0 .now) - a .1 .1 .1 .1 .1 .0) + 1
 
-abbrev μ-repeat : Measures 3 repeat-kinds.ps ℕ
-μ-repeat κs a = 3 * (length (a .0 .now) - a .1 .1 .1 .1 .0) + 0
+abbrev μ-repeat : Measures 4 repeat-kinds.ps ℕ
+μ-repeat κs a = 3 * (length (a .0 .now) - a .1 .1 .1 .1 .1 .0) + 0
 
-abbrev μ-sequence : Measures 3 sequence-kinds.ps ℕ
-μ-sequence κs a = 3 * (length (a .0 .now) - a .1 .1 .1 .1 .0) + 2
+abbrev μ-sequence : Measures 4 sequence-kinds.ps ℕ
+μ-sequence κs a = 3 * (length (a .0 .now) - a .1 .1 .1 .1 .1 .0) + 2
 
-abbrev group-start : ℕ → In 3 group-kinds.ps
-group-start t = and 3 group-kinds.ps (is 3 group-kinds.ps μ-group t) group.Pre
+abbrev group-start : ℕ → In 4 group-kinds.ps
+group-start t = and 4 group-kinds.ps (is 4 group-kinds.ps μ-group t) group.Pre
 
-abbrev group-below : ℕ → In 3 group-kinds.ps
-group-below t = and 3 group-kinds.ps (falls 3 group-kinds.ps _<_ μ-group t) group.Pre
+abbrev group-below : ℕ → In 4 group-kinds.ps
+group-below t = and 4 group-kinds.ps (falls 4 group-kinds.ps _<_ μ-group t) group.Pre
 
-abbrev item-start : ℕ → In 3 item-kinds.ps
-item-start t = and 3 item-kinds.ps (is 3 item-kinds.ps μ-item t) item.Pre
+abbrev item-start : ℕ → In 4 item-kinds.ps
+item-start t = and 4 item-kinds.ps (is 4 item-kinds.ps μ-item t) item.Pre
 
-abbrev item-below : ℕ → In 3 item-kinds.ps
-item-below t = and 3 item-kinds.ps (falls 3 item-kinds.ps _<_ μ-item t) item.Pre
+abbrev item-below : ℕ → In 4 item-kinds.ps
+item-below t = and 4 item-kinds.ps (falls 4 item-kinds.ps _<_ μ-item t) item.Pre
 
-abbrev repeat-start : ℕ → In 3 repeat-kinds.ps
-repeat-start t = and 3 repeat-kinds.ps (is 3 repeat-kinds.ps μ-repeat t) repeat.Pre
+abbrev repeat-start : ℕ → In 4 repeat-kinds.ps
+repeat-start t = and 4 repeat-kinds.ps (is 4 repeat-kinds.ps μ-repeat t) repeat.Pre
 
-abbrev repeat-below : ℕ → In 3 repeat-kinds.ps
-repeat-below t = and 3 repeat-kinds.ps (falls 3 repeat-kinds.ps _<_ μ-repeat t) repeat.Pre
+abbrev repeat-below : ℕ → In 4 repeat-kinds.ps
+repeat-below t = and 4 repeat-kinds.ps (falls 4 repeat-kinds.ps _<_ μ-repeat t) repeat.Pre
 
-abbrev sequence-start : ℕ → In 3 sequence-kinds.ps
-sequence-start t = and 3 sequence-kinds.ps (is 3 sequence-kinds.ps μ-sequence t) sequence.Pre
+abbrev sequence-start : ℕ → In 4 sequence-kinds.ps
+sequence-start t = and 4 sequence-kinds.ps (is 4 sequence-kinds.ps μ-sequence t) sequence.Pre
 
-abbrev sequence-below : ℕ → In 3 sequence-kinds.ps
-sequence-below t = and 3 sequence-kinds.ps (falls 3 sequence-kinds.ps _<_ μ-sequence t) sequence.Pre
+abbrev sequence-below : ℕ → In 4 sequence-kinds.ps
+sequence-below t = and 4 sequence-kinds.ps (falls 4 sequence-kinds.ps _<_ μ-sequence t) sequence.Pre
 
 abbrev group-calls : ℕ → group-lts.Claims
 group-calls t = (enter-group-reads.Asked, enter-group-reads.Learnt, sequence-below t, sequence.Post, leave-group-reads.Asked, leave-group-reads.Learnt)
@@ -82,7 +82,7 @@ sequence-calls t = (item-below t, item.Post)
 -- been called or tested since.
 module _ (t : ℕ) where
   abbrev group-from : group-lts.After-enter-group (group-calls t) (group-start t) group.Post → group-lts.Start (group-calls t) (group-start t) group.Post
-  group-from c = c .before .before .before .before
+  group-from c = c .before .before .before .before .before
 
   abbrev group-opened : group-lts.Else1 (group-calls t) (group-start t) group.Post → group-lts.After-enter-group (group-calls t) (group-start t) group.Post
   group-opened c = c .before .before
@@ -91,16 +91,16 @@ module _ (t : ℕ) where
   group-inside c = c .before .before .before
 
   group-enter-group-requires : group-lts.Need-enter-group-requires (group-calls t) (group-start t) group.Post
-  group-enter-group-requires c κs = c .before .before .before .pre .1
+  group-enter-group-requires c κs = c .before .before .before .before .pre .1
 
   group-returns : group-lts.Need-returns (group-calls t) (group-start t) group.Post
   group-returns c =
       let e = c .before .before in
       let a = group-from e .args in
-      entry-refused (rules-of (a .a) (a .steps .now) (a .groups .now)) (a .s .now) (a .d) (in-group-of (a .d)) (a .at) (a .t) (a-group (a .t)) (group-deeper (a .d) (a .t)) 2 1 65535 (e .enter-group .result) (e .enter-group .ensures (a .steps .now)) (c .if1 .taken)
+      entry-refused (rules-of (a .a) (a .steps .now) (a .groups .now) (a .marks .now)) (a .s .now) (a .d) (in-group-of (a .d)) (a .at) (a .t) (a-group (a .t)) (group-deeper (a .d) (a .t)) 2 1 65535 (e .enter-group .result) (e .enter-group .ensures (a .steps .now)) (c .if1 .taken)
 
-  group-add-t16 : group-lts.Need-add-t16 (group-calls t) (group-start t) group.Post
-  group-add-t16 c = omega (arith, group-from (group-opened (c .before .before)) .pre .1 .1 .0 .groups)
+  group-add-t17 : group-lts.Need-add-t17 (group-calls t) (group-start t) group.Post
+  group-add-t17 c = omega (arith, group-from (group-opened (c .before .before)) .pre .1 .1 .0 .groups)
 
   group-sequence-requires : group-lts.Need-sequence-requires (group-calls t) (group-start t) group.Post
   group-sequence-requires c κs =
@@ -117,7 +117,7 @@ module _ (t : ℕ) where
       let n = group-inside q in
       let e = group-opened n in
       let a = group-from e .args in
-      inside-refused (rules-of (a .a) (a .steps .now) (a .groups .now)) (a .s .now) (a .d) (in-group-of (a .d)) (a .at) (a .t) (a-group (a .t)) (group-deeper (a .d) (a .t)) 2 1 65535 (e .enter-group .result) (e .enter-group .ensures (a .steps .now)) (n .if1 .left) (q .sequence .result) (q .sequence .ensures) (c .if2 .taken)
+      inside-refused (rules-of (a .a) (a .steps .now) (a .groups .now) (a .marks .now)) (a .s .now) (a .d) (in-group-of (a .d)) (a .at) (a .t) (a-group (a .t)) (group-deeper (a .d) (a .t)) 2 1 65535 (e .enter-group .result) (e .enter-group .ensures (a .steps .now)) (n .if1 .left) (q .sequence .result) (q .sequence .ensures) (c .if2 .taken)
 
   group-leave-group-requires : group-lts.Need-leave-group-requires (group-calls t) (group-start t) group.Post
   group-leave-group-requires c κs =
@@ -143,25 +143,25 @@ module _ (t : ℕ) where
       let n = group-inside q in
       let e = group-opened n in
       let a = group-from e .args in
-      through (rules-of (a .a) (a .steps .now) (a .groups .now)) (a .s .now) (a .d) (in-group-of (a .d)) (a .at) (a .t) (a-group (a .t)) (group-deeper (a .d) (a .t)) 2 1 65535 (e .enter-group .result) (e .enter-group .ensures (a .steps .now)) (n .if1 .left) (q .sequence .result) (q .sequence .ensures) (m .if2 .left) (c .leave-group .result) (c .leave-group .ensures (a .steps .now) (a .groups .now) (a .d))
+      through (rules-of (a .a) (a .steps .now) (a .groups .now) (a .marks .now)) (a .s .now) (a .d) (in-group-of (a .d)) (a .at) (a .t) (a-group (a .t)) (group-deeper (a .d) (a .t)) 2 1 65535 (e .enter-group .result) (e .enter-group .ensures (a .steps .now)) (n .if1 .left) (q .sequence .result) (q .sequence .ensures) (m .if2 .left) (c .leave-group .result) (c .leave-group .ensures (a .steps .now) (a .groups .now) (a .marks .now) (a .d))
 
 module _ (t : ℕ) where
   -- From where the command is known to be no step.
   abbrev item-from : item-lts.Else1 (item-calls t) (item-start t) item.Post → item-lts.Start (item-calls t) (item-start t) item.Post
-  item-from c = c .before .before .before .before .before
+  item-from c = c .before .before .before .before .before .before
 
   item-shared-slice-read-c : item-lts.Need-shared-slice-read-c (item-calls t) (item-start t) item.Post
-  item-shared-slice-read-c c = c .before .before .before .before .pre .1 .0 .below
+  item-shared-slice-read-c c = c .before .before .before .before .before .pre .1 .0 .below
 
   item-step-requires : item-lts.Need-step-requires (item-calls t) (item-start t) item.Post
   item-step-requires c κs =
-      let S = c .before .before .before .before .before in
+      let S = c .before .before .before .before .before .before in
       (record { below = S .pre .1 .0 .below; byte = c .if1 .taken }, ((S .args .d, S .pre .1 .1 .0), S .pre .1 .1 .1))
 
   item-returns : item-lts.Need-returns (item-calls t) (item-start t) item.Post
   item-returns c =
-      let a = c .before .before .before .before .before .before .args in
-      c .step .ensures (a .groups .now) (a .d)
+      let a = c .before .before .before .before .before .before .before .args in
+      c .step .ensures (a .groups .now)
 
   item-group-requires : item-lts.Need-group-requires (item-calls t) (item-start t) item.Post
   item-group-requires c κs =
@@ -189,11 +189,11 @@ module _ (t : ℕ) where
       let no-step = no-group .before in
       let S = item-from no-step in
       let a = S .args in
-      rw (c .refused .ensures) (item-unknown (rules-of (a .a) (a .steps .now) (a .groups .now)) (a .s .now) (a .d) (a .at) (a .t) _ (S .pre .1 .0) (no-step .if1 .left) (no-group .if2 .left) (no-repeat .if3 .left))
+      rw (c .refused .ensures) (item-unknown (rules-of (a .a) (a .steps .now) (a .groups .now) (a .marks .now)) (a .s .now) (a .d) (a .at) (a .t) _ (S .pre .1 .0) (no-step .if1 .left) (no-group .if2 .left) (no-repeat .if3 .left))
 
 module _ (t : ℕ) where
   abbrev repeat-from : repeat-lts.After-enter-repeat (repeat-calls t) (repeat-start t) repeat.Post → repeat-lts.Start (repeat-calls t) (repeat-start t) repeat.Post
-  repeat-from c = c .before .before .before .before
+  repeat-from c = c .before .before .before .before .before
 
   abbrev repeat-opened : repeat-lts.Else1 (repeat-calls t) (repeat-start t) repeat.Post → repeat-lts.After-enter-repeat (repeat-calls t) (repeat-start t) repeat.Post
   repeat-opened c = c .before .before
@@ -204,18 +204,18 @@ module _ (t : ℕ) where
   -- What the open of the repeat says, for the prices at hand.
   repeat-entered : (c : repeat-lts.After-enter-repeat (repeat-calls t) (repeat-start t) repeat.Post)
       → (let a = repeat-from c .args in
-      OpenRead (rules-of (a .a) (a .steps .now) (a .groups .now)) (a .s .now) (a .d) (in-repeat-of (a .d)) (a .at) (a .t) (repeat-at (a .s .now) (a .at) (a .t)) 0 0 4294967295 (c .enter-repeat .result))
-  repeat-entered c = c .enter-repeat .ensures .0 (repeat-from c .args .steps .now) (repeat-from c .args .groups .now)
+      OpenRead (rules-of (a .a) (a .steps .now) (a .groups .now) (a .marks .now)) (a .s .now) (a .d) (in-repeat-of (a .d)) (a .at) (a .t) (repeat-at (a .s .now) (a .at) (a .t)) 0 0 4294967295 (c .enter-repeat .result))
+  repeat-entered c = c .enter-repeat .ensures .0 (repeat-from c .args .steps .now) (repeat-from c .args .groups .now) (repeat-from c .args .marks .now)
 
   repeat-enter-repeat-requires : repeat-lts.Need-enter-repeat-requires (repeat-calls t) (repeat-start t) repeat.Post
-  repeat-enter-repeat-requires c κs = c .before .before .before .pre .1
+  repeat-enter-repeat-requires c κs = c .before .before .before .before .pre .1
 
   repeat-returns : repeat-lts.Need-returns (repeat-calls t) (repeat-start t) repeat.Post
   repeat-returns c =
       let e = c .before .before in
       let a = repeat-from e .args in
       let s = a .s .now in
-      entry-refused (rules-of (a .a) (a .steps .now) (a .groups .now)) s (a .d) (in-repeat-of (a .d)) (a .at) (a .t) (repeat-at s (a .at) (a .t)) (repeat-deeper (a .d) (word-at s (a .at + 1)) (word-at s (a .at + 3)) (a .t)) 0 0 4294967295 (e .enter-repeat .result) (repeat-entered e) (c .if1 .taken)
+      entry-refused (rules-of (a .a) (a .steps .now) (a .groups .now) (a .marks .now)) s (a .d) (in-repeat-of (a .d)) (a .at) (a .t) (repeat-at s (a .at) (a .t)) (repeat-deeper (a .d) (word-at s (a .at + 1)) (word-at s (a .at + 3)) (a .t)) 0 0 4294967295 (e .enter-repeat .result) (repeat-entered e) (c .if1 .taken)
 
   repeat-add-operand : repeat-lts.Need-add-operand (repeat-calls t) (repeat-start t) repeat.Post
   repeat-add-operand c = omega (arith, repeat-opened c .enter-repeat .ensures .1 (c .if1 .left))
@@ -229,8 +229,8 @@ module _ (t : ℕ) where
   repeat-operand-requires-2 : repeat-lts.Need-operand-requires-2 (repeat-calls t) (repeat-start t) repeat.Post
   repeat-operand-requires-2 c κs = tt
 
-  repeat-add-t17 : repeat-lts.Need-add-t17 (repeat-calls t) (repeat-start t) repeat.Post
-  repeat-add-t17 c = omega (arith, repeat-from (repeat-opened (c .before .before .before .before)) .pre .1 .1 .0 .repeats)
+  repeat-add-t18 : repeat-lts.Need-add-t18 (repeat-calls t) (repeat-start t) repeat.Post
+  repeat-add-t18 c = omega (arith, repeat-from (repeat-opened (c .before .before .before .before)) .pre .1 .1 .0 .repeats)
 
   repeat-sequence-requires : repeat-lts.Need-sequence-requires (repeat-calls t) (repeat-start t) repeat.Post
   repeat-sequence-requires c κs =
@@ -248,7 +248,7 @@ module _ (t : ℕ) where
       let e = repeat-opened n in
       let a = repeat-from e .args in
       let s = a .s .now in
-      inside-refused (rules-of (a .a) (a .steps .now) (a .groups .now)) s (a .d) (in-repeat-of (a .d)) (a .at) (a .t) (repeat-at s (a .at) (a .t)) (repeat-deeper (a .d) (word-at s (a .at + 1)) (word-at s (a .at + 3)) (a .t)) 0 0 4294967295 (e .enter-repeat .result) (repeat-entered e) (n .if1 .left) (q .sequence .result) (q .sequence .ensures) (c .if2 .taken)
+      inside-refused (rules-of (a .a) (a .steps .now) (a .groups .now) (a .marks .now)) s (a .d) (in-repeat-of (a .d)) (a .at) (a .t) (repeat-at s (a .at) (a .t)) (repeat-deeper (a .d) (word-at s (a .at + 1)) (word-at s (a .at + 3)) (a .t)) 0 0 4294967295 (e .enter-repeat .result) (repeat-entered e) (n .if1 .left) (q .sequence .result) (q .sequence .ensures) (c .if2 .taken)
 
   repeat-leave-repeat-requires : repeat-lts.Need-leave-repeat-requires (repeat-calls t) (repeat-start t) repeat.Post
   repeat-leave-repeat-requires c κs =
@@ -280,26 +280,26 @@ module _ (t : ℕ) where
       let e = repeat-opened n in
       let a = repeat-from e .args in
       let s = a .s .now in
-      through (rules-of (a .a) (a .steps .now) (a .groups .now)) s (a .d) (in-repeat-of (a .d)) (a .at) (a .t) (repeat-at s (a .at) (a .t)) (repeat-deeper (a .d) (word-at s (a .at + 1)) (word-at s (a .at + 3)) (a .t)) 0 0 4294967295 (e .enter-repeat .result) (repeat-entered e) (n .if1 .left) (q .sequence .result) (q .sequence .ensures) (m .if2 .left) (c .leave-repeat .result) (closed-as (count .operand .ensures .0) (width .operand2 .ensures .0) (c .leave-repeat .ensures (a .steps .now) (a .groups .now) (a .d)))
+      through (rules-of (a .a) (a .steps .now) (a .groups .now) (a .marks .now)) s (a .d) (in-repeat-of (a .d)) (a .at) (a .t) (repeat-at s (a .at) (a .t)) (repeat-deeper (a .d) (word-at s (a .at + 1)) (word-at s (a .at + 3)) (a .t)) 0 0 4294967295 (e .enter-repeat .result) (repeat-entered e) (n .if1 .left) (q .sequence .result) (q .sequence .ensures) (m .if2 .left) (c .leave-repeat .result) (closed-as (count .operand .ensures .0) (width .operand2 .ensures .0) (c .leave-repeat .ensures (a .steps .now) (a .groups .now) (a .marks .now) (a .d)))
 
 abbrev sequence-Inv : sequence-lts.InvT-loop
-sequence-Inv s steps groups a at d p₀ now₀ p now = Along (rules-of a steps groups) s d at now₀ p now
+sequence-Inv s steps groups marks a at d p₀ now₀ p now = Along (rules-of a steps groups marks) s d at now₀ p now
 
 abbrev sequence-μ : sequence-lts.MeasureT-loop
-sequence-μ s steps groups a at d p₀ now₀ p now = length s - p
+sequence-μ s steps groups marks a at d p₀ now₀ p now = length s - p
 
 module _ (t : ℕ) where
   abbrev sequence-from : sequence-lts.At-loop (sequence-calls t) (sequence-start t) sequence.Post sequence-Inv sequence-μ → sequence-lts.Start (sequence-calls t) (sequence-start t) sequence.Post sequence-Inv sequence-μ
-  sequence-from c = c .before .before .before .before
+  sequence-from c = c .before .before .before .before .before
 
   abbrev sequence-further : sequence-lts.Else1 (sequence-calls t) (sequence-start t) sequence.Post sequence-Inv sequence-μ → sequence-lts.In-loop (sequence-calls t) (sequence-start t) sequence.Post sequence-Inv sequence-μ
   sequence-further c = c .before .before
 
   sequence-loop-holds : sequence-lts.Need-loop-holds (sequence-calls t) (sequence-start t) sequence.Post sequence-Inv sequence-μ
   sequence-loop-holds c =
-      let S = c .before .before .before in
+      let S = c .before .before .before .before in
       let a = S .args in
-      along-none (rules-of (a .a) (a .steps .now) (a .groups .now)) (a .s .now) (a .d) (a .at) (a .t) (S .pre .1 .0) (S .pre .1 .1 .0 .nodes)
+      along-none (rules-of (a .a) (a .steps .now) (a .groups .now) (a .marks .now)) (a .s .now) (a .d) (a .at) (a .t) (S .pre .1 .0) (S .pre .1 .1 .0 .nodes)
 
   sequence-shared-slice-read-c : sequence-lts.Need-shared-slice-read-c (sequence-calls t) (sequence-start t) sequence.Post sequence-Inv sequence-μ
   sequence-shared-slice-read-c c = omega arith
@@ -308,13 +308,13 @@ module _ (t : ℕ) where
   sequence-returns c =
       let l = c .before .before .before in
       let a = sequence-from l .args in
-      along-ends (rules-of (a .a) (a .steps .now) (a .groups .now)) (a .s .now) (a .d) (a .at) (a .t) (l .loop .p) (l .loop .now) (l .loop .inv) (record { within = l .loop .inv .within; close = λ _ n. absurd (n (c .if1 .taken)) })
+      along-ends (rules-of (a .a) (a .steps .now) (a .groups .now) (a .marks .now)) (a .s .now) (a .d) (a .at) (a .t) (l .loop .p) (l .loop .now) (l .loop .inv) (record { within = l .loop .inv .within; close = λ _ n. absurd (n (c .if1 .taken)) })
 
   sequence-returns-2 : sequence-lts.Need-returns-2 (sequence-calls t) (sequence-start t) sequence.Post sequence-Inv sequence-μ
   sequence-returns-2 c =
       let l = sequence-further (c .before) .before in
       let a = sequence-from l .args in
-      along-ends (rules-of (a .a) (a .steps .now) (a .groups .now)) (a .s .now) (a .d) (a .at) (a .t) (l .loop .p) (l .loop .now) (l .loop .inv) (record { within = l .loop .inv .within; close = λ _ _. c .if2 .taken })
+      along-ends (rules-of (a .a) (a .steps .now) (a .groups .now) (a .marks .now)) (a .s .now) (a .d) (a .at) (a .t) (l .loop .p) (l .loop .now) (l .loop .inv) (record { within = l .loop .inv .within; close = λ _ _. c .if2 .taken })
 
   sequence-item-requires : sequence-lts.Need-item-requires (sequence-calls t) (sequence-start t) sequence.Post sequence-Inv sequence-μ
   sequence-item-requires c κs =
@@ -333,7 +333,7 @@ module _ (t : ℕ) where
       let i = c .before .before in
       let l = sequence-further (i .before .before) .before in
       let a = sequence-from l .args in
-      along-refused (rules-of (a .a) (a .steps .now) (a .groups .now)) (a .s .now) (a .d) (a .at) (a .t) (l .loop .p) (l .loop .now) (l .loop .inv) (i .item .result) (i .item .ensures) (c .if3 .taken)
+      along-refused (rules-of (a .a) (a .steps .now) (a .groups .now) (a .marks .now)) (a .s .now) (a .d) (a .at) (a .t) (l .loop .p) (l .loop .now) (l .loop .inv) (i .item .result) (i .item .ensures) (c .if3 .taken)
 
   sequence-loop-less : sequence-lts.Need-loop-less (sequence-calls t) (sequence-start t) sequence.Post sequence-Inv sequence-μ
   sequence-loop-less c =
@@ -346,18 +346,18 @@ module _ (t : ℕ) where
       let i = c .before .before .before in
       let l = sequence-further (i .before .before) .before in
       let a = sequence-from l .args in
-      along-more (rules-of (a .a) (a .steps .now) (a .groups .now)) (a .s .now) (a .d) (a .at) (a .t) (l .loop .p) (l .loop .now) (l .loop .inv) (i .item .result) (i .item .ensures) (c .before .if3 .left)
+      along-more (rules-of (a .a) (a .steps .now) (a .groups .now) (a .marks .now)) (a .s .now) (a .d) (a .at) (a .t) (l .loop .p) (l .loop .now) (l .loop .inv) (i .item .result) (i .item .ensures) (c .before .if3 .left)
 
   sequence-returns-4 : sequence-lts.Need-returns-4 (sequence-calls t) (sequence-start t) sequence.Post sequence-Inv sequence-μ
   sequence-returns-4 c =
       let l = c .before in
       let a = sequence-from l .args in
-      along-ends (rules-of (a .a) (a .steps .now) (a .groups .now)) (a .s .now) (a .d) (a .at) (a .t) (l .loop .p) (l .loop .now) (l .loop .inv) (record { within = l .loop .inv .within; close = λ n _. absurd (n (omega (arith, l .loop .inv .within, c .loop-test .left))) })
+      along-ends (rules-of (a .a) (a .steps .now) (a .groups .now) (a .marks .now)) (a .s .now) (a .d) (a .at) (a .t) (l .loop .p) (l .loop .now) (l .loop .inv) (record { within = l .loop .inv .within; close = λ n _. absurd (n (omega (arith, l .loop .inv .within, c .loop-test .left))) })
 
 pub +group+item+repeat+sequence-spec : {M : Type 1} → statement M
 +group+item+repeat+sequence-spec =
     close μ-group μ-item μ-repeat μ-sequence
-    (λ t. group-lts.spec (group-calls t) (group-start t) group.Post (group-enter-group-requires t) (group-returns t) (group-add-t16 t) (group-sequence-requires t) (group-returns-2 t) (group-leave-group-requires t) (group-returns-3 t))
+    (λ t. group-lts.spec (group-calls t) (group-start t) group.Post (group-enter-group-requires t) (group-returns t) (group-add-t17 t) (group-sequence-requires t) (group-returns-2 t) (group-leave-group-requires t) (group-returns-3 t))
     (λ t. item-lts.spec (item-calls t) (item-start t) item.Post (item-shared-slice-read-c t) (item-step-requires t) (item-returns t) (item-group-requires t) (item-returns-2 t) (item-repeat-requires t) (item-returns-3 t) (item-refused-requires t) (item-returns-4 t))
-    (λ t. repeat-lts.spec (repeat-calls t) (repeat-start t) repeat.Post (repeat-enter-repeat-requires t) (repeat-returns t) (repeat-add-operand t) (repeat-operand-requires t) (repeat-add-operand-2 t) (repeat-operand-requires-2 t) (repeat-add-t17 t) (repeat-sequence-requires t) (repeat-returns-2 t) (repeat-leave-repeat-requires t) (repeat-returns-3 t))
+    (λ t. repeat-lts.spec (repeat-calls t) (repeat-start t) repeat.Post (repeat-enter-repeat-requires t) (repeat-returns t) (repeat-add-operand t) (repeat-operand-requires t) (repeat-add-operand-2 t) (repeat-operand-requires-2 t) (repeat-add-t18 t) (repeat-sequence-requires t) (repeat-returns-2 t) (repeat-leave-repeat-requires t) (repeat-returns-3 t))
     (λ t. sequence-lts.spec (sequence-calls t) (sequence-start t) sequence.Post sequence-Inv sequence-μ (sequence-loop-holds t) (sequence-shared-slice-read-c t) (sequence-returns t) (sequence-returns-2 t) (sequence-item-requires t) (sequence-returns-3 t) (sequence-loop-less t) (sequence-loop-again t) (sequence-returns-4 t))
