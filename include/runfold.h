@@ -10,11 +10,12 @@
  *
  *     const uint8_t run[] = {0x10, 0x01, 0x10, 0x01, 0x10, 0x01};
  *     uint16_t steps[256], groups[256];                             (what steps and groups cost by their labels, filled in before)
+ *     uint8_t marks[256] = {0};                                     (no label is marked: each may stand in repeats)
  *     uint32_t costs[RUNFOLD_WORK(3)], choices[RUNFOLD_WORK(3)];    (work; for long runs better not on the stack)
  *     uint8_t out[RUNFOLD_ROOM(3)];
  *     uint64_t answer[RUNFOLD_ENTRIES];
- *     uint8_t refusal = runfold_fold(run, sizeof run, RUNFOLD_MAX_WIDTH, steps, 256, groups, 256, 1, 0, costs, RUNFOLD_WORK(3),
- *                                    choices, RUNFOLD_WORK(3), out, sizeof out, answer, RUNFOLD_ENTRIES);
+ *     uint8_t refusal = runfold_fold(run, sizeof run, RUNFOLD_MAX_WIDTH, steps, 256, groups, 256, marks, 256, 1, 0, costs,
+ *                                    RUNFOLD_WORK(3), choices, RUNFOLD_WORK(3), out, sizeof out, answer, RUNFOLD_ENTRIES);
  *     if (refusal != RUNFOLD_OK)
  *         puts(runfold_refusal_text(refusal));
  *
@@ -25,12 +26,18 @@
  *
  * Slices. A slice passes as a pointer and a number of entries. One of 0 entries may have a null pointer, for nothing is read or
  * written there (tested by scripts/c.sh, not proved): an empty `answer` is answered with RUNFOLD_SHORT, else an empty `steps`
- * with refusal 11, else an empty `groups` with 15. Any other points to so many entries, aligned for their type. A slice that is
- * written (`out`, `costs`, `choices`, `answer`, and the index that runfold_index writes) overlaps no other slice of the call;
- * `steps` and `groups` may be one table. Nothing else is asked of a caller: every input has a defined answer.
+ * with refusal 11, else an empty `groups` with 15, else an empty `marks` with 18 where the limit is not refused by 12. Any
+ * other points to so many entries, aligned for their type. A slice that is written (`out`, `costs`, `choices`, `answer`, and
+ * the index that runfold_index writes) overlaps no other slice of the call; `steps` and `groups` may be one table. Nothing else
+ * is asked of a caller: every input has a defined answer.
  *
  * Prices. `steps` prices the steps by their labels and `groups` the groups, 256 entries each; a repeat of count h costs
  * first + each * (h - 2). The cost of a fold is the sum over the commands that stand in it.
+ *
+ * Marks. `marks` has 256 entries too: 1 for a label that may stand in no repeat, as that of a premix bag which is tipped by
+ * hand, and 0 for any other. A marked label, of a step or of a group, stands nowhere inside a repeat, also not in a group or
+ * another repeat in it: the fold reader refuses that by 19, and the folder writes no such fold. A marked group may hold
+ * repeats. The other functions know no marks.
  *
  * Index. `offsets` and `before` have an entry each for every outermost item of a fold, that is for each step, group and repeat
  * that stands in nothing else: its byte offset in the fold, and the number of the run's nodes before it. Kept beside the fold,
@@ -41,7 +48,7 @@
  * first two are always refusal and place, whichever function was called:
  *
  *     answer[RUNFOLD_REFUSAL]   refusal number, 0 for success
- *     answer[RUNFOLD_PLACE]     place of the refusal: a byte offset in the input, 0 for refusals 11 to 17 and on success
+ *     answer[RUNFOLD_PLACE]     place of the refusal: a byte offset in the input, 0 for refusals 11 to 18 and on success
  *
  * What the other five are depends on the function, so an entry can have several names; they are 0 where the function has no
  * such value. Of readers, unroller and folder:
@@ -77,7 +84,7 @@ extern "C" {
 
 /* The version of the library, as numbers and as text. */
 #define RUNFOLD_VERSION_MAJOR 0
-#define RUNFOLD_VERSION_MINOR 5
+#define RUNFOLD_VERSION_MINOR 6
 #define RUNFOLD_VERSION_PATCH 0
 #define RUNFOLD_VERSION \
     RUNFOLD_QUOTE(RUNFOLD_VERSION_MAJOR) "." RUNFOLD_QUOTE(RUNFOLD_VERSION_MINOR) "." RUNFOLD_QUOTE(RUNFOLD_VERSION_PATCH)
@@ -150,6 +157,8 @@ enum {
     RUNFOLD_GROUP_TABLE_SIZE = 15,  /* group cost table not of 256 entries; tested right after 11 */
     RUNFOLD_PAST_END = 16,          /* position not below the node total; tested after 17 */
     RUNFOLD_FALSE_INDEX = 17,       /* index not the one that the builder writes */
+    RUNFOLD_WRONG_MARKS = 18,       /* marks not of 256 entries, or an entry above 1; tested right after 12 */
+    RUNFOLD_MARKED_IN_REPEAT = 19,  /* a marked label inside a repeat, of a step or a group; tested right before 10 */
     RUNFOLD_SHORT = 255             /* the answer slice has fewer than RUNFOLD_ENTRIES entries */
 };
 
@@ -193,6 +202,10 @@ static inline const char *runfold_refusal_text(uint64_t number)
         return "position not below the node total";
     case RUNFOLD_FALSE_INDEX:
         return "index not the one that the builder writes";
+    case RUNFOLD_WRONG_MARKS:
+        return "marks not of 256 entries, or an entry above 1";
+    case RUNFOLD_MARKED_IN_REPEAT:
+        return "a marked label inside a repeat";
     case RUNFOLD_SHORT:
         return "answer slice too short";
     default:
@@ -207,33 +220,34 @@ uint8_t runfold_read_run(const uint8_t *run, size_t run_len, uint64_t *answer, s
  * on, as many as the result says; 0 where the run reader refuses the run or no node starts there. Writes nothing. */
 size_t runfold_part(const uint8_t *run, size_t run_len, size_t at);
 
-/* The fold reader: refusals 1, 3 to 12 and 15, or the nodes, the bytes, the steps and the depth of the run, and the fold's cost
- * at these prices. Writes `answer` alone. */
+/* The fold reader: refusals 1, 3 to 12, 15, 18 and 19, or the nodes, the bytes, the steps and the depth of the run, and the
+ * fold's cost at these prices. Writes `answer` alone. */
 uint8_t runfold_read_fold(const uint8_t *fold, size_t fold_len, size_t limit, const uint16_t *steps, size_t steps_len,
-                          const uint16_t *groups, size_t groups_len, uint16_t first, uint16_t each, uint64_t *answer,
-                          size_t answer_len);
+                          const uint16_t *groups, size_t groups_len, const uint8_t *marks, size_t marks_len, uint16_t first,
+                          uint16_t each, uint64_t *answer, size_t answer_len);
 
 /* The unroller: refusals 1, 3 to 10, 12 and 14, or the length of the run. On success the run stands in the first bytes of
  * `out`, that many, and the others stay as they are; after a refusal `out` stays as it is. */
 uint8_t runfold_unroll(const uint8_t *fold, size_t fold_len, size_t limit, uint8_t *out, size_t out_len, uint64_t *answer,
                        size_t answer_len);
 
-/* The folder: refusals 1 to 5, 8, 10 to 15, or the length and the cost of the cheapest fold of the run at these prices whose
- * widths are within the limit; of several, the one with the fewest 20 commands, each counted once; and of several such, the
- * one whose bytes come first. `costs` and `choices` are work, of at least RUNFOLD_WORK(nodes) entries each and with any
- * contents; they hold no prices. RUNFOLD_ROOM(nodes) bytes of output are always enough: refusal 14 does not say how many are
- * missing.
+/* The folder: refusals 1 to 5, 8, 10 to 15 and 18, or the length and the cost of the cheapest fold of the run at these prices
+ * whose widths are within the limit and whose repeats hold no marked label; of several, the one with the fewest 20 commands,
+ * each counted once; and of several such, the one whose bytes come first. `costs` and `choices` are work, of at least
+ * RUNFOLD_WORK(nodes) entries each and with any contents; they hold no prices. RUNFOLD_ROOM(nodes) bytes of output are always
+ * enough: refusal 14 does not say how many are missing.
  * On success the fold stands in the first bytes of `out`, as many as the length says, and the others stay as they are; after a
  * refusal `out` stays as it is. On success and after refusal 14 the first RUNFOLD_WORK(nodes) entries of both work slices are
  * 0 and the others stay as they are; after any other refusal both stay as they are. */
 uint8_t runfold_fold(const uint8_t *run, size_t run_len, size_t limit, const uint16_t *steps, size_t steps_len,
-                     const uint16_t *groups, size_t groups_len, uint16_t first, uint16_t each, uint32_t *costs,
-                     size_t costs_len, uint32_t *choices, size_t choices_len, uint8_t *out, size_t out_len, uint64_t *answer,
-                     size_t answer_len);
+                     const uint16_t *groups, size_t groups_len, const uint8_t *marks, size_t marks_len, uint16_t first,
+                     uint16_t each, uint32_t *costs, size_t costs_len, uint32_t *choices, size_t choices_len, uint8_t *out,
+                     size_t out_len, uint64_t *answer, size_t answer_len);
 
 /* The index builder: refusals 1, 3 to 6, 8 to 10 and 14, or the number of outermost items of the fold, which is the number of
- * entries. It takes no limit: a fold that it does not refuse, the fold reader accepts at RUNFOLD_MAX_WIDTH. As many entries
- * in each slice as the fold has nodes are always enough, so RUNFOLD_MAX_NODES are for any fold.
+ * entries. It takes neither limit nor marks: a fold that it does not refuse, the fold reader accepts at RUNFOLD_MAX_WIDTH where
+ * no label is marked. As many entries in each slice as the fold has nodes are always enough, so RUNFOLD_MAX_NODES are for any
+ * fold.
  * On success the index stands in the first entries of `offsets` and `before`, that many of each, and the others stay as they
  * are; after a refusal both slices stay as they are. */
 uint8_t runfold_index(const uint8_t *fold, size_t fold_len, uint32_t *offsets, size_t offsets_len, uint32_t *before,

@@ -8,6 +8,7 @@ int main(void)
 {
     const uint8_t run[] = {0x10, 0x01, 0x10, 0x01, 0x10, 0x01};
     uint16_t steps[256], groups[256];
+    const uint8_t marks[256] = {0}; /* no label is marked: a 1 would keep it out of all repeats */
     uint32_t costs[RUNFOLD_WORK(3)];
     uint32_t choices[RUNFOLD_WORK(3)];
     uint8_t out[RUNFOLD_ROOM(3)];
@@ -21,8 +22,8 @@ int main(void)
         goto refused;
     printf("nodes %llu, steps %llu, depth %llu\n", (unsigned long long)answer[RUNFOLD_NODES],
            (unsigned long long)answer[RUNFOLD_STEPS], (unsigned long long)answer[RUNFOLD_DEPTH]);
-    if (runfold_fold(run, sizeof run, RUNFOLD_MAX_WIDTH, steps, 256, groups, 256, 1, 0, costs, RUNFOLD_WORK(3), choices,
-                     RUNFOLD_WORK(3), out, sizeof out, answer, RUNFOLD_ENTRIES) != RUNFOLD_OK)
+    if (runfold_fold(run, sizeof run, RUNFOLD_MAX_WIDTH, steps, 256, groups, 256, marks, 256, 1, 0, costs, RUNFOLD_WORK(3),
+                     choices, RUNFOLD_WORK(3), out, sizeof out, answer, RUNFOLD_ENTRIES) != RUNFOLD_OK)
         goto refused;
     length = (size_t)answer[RUNFOLD_LENGTH];
     printf("cost %llu\n", (unsigned long long)answer[RUNFOLD_COST]);

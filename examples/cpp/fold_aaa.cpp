@@ -30,12 +30,14 @@ int main()
     std::array<std::uint16_t, 256> steps, groups;
     steps.fill(1);
     groups.fill(1);
+    // No label is marked: a 1 would keep it out of all repeats.
+    const std::array<std::uint8_t, 256> marks{};
     std::vector<std::uint32_t> costs(RUNFOLD_WORK(nodes));
     std::vector<std::uint32_t> choices(RUNFOLD_WORK(nodes));
     std::vector<std::uint8_t> fold(RUNFOLD_ROOM(nodes));
-    if (runfold_fold(run.data(), run.size(), RUNFOLD_MAX_WIDTH, steps.data(), steps.size(), groups.data(), groups.size(), 1, 0,
-                     costs.data(), costs.size(), choices.data(), choices.size(), fold.data(), fold.size(), answer.data(),
-                     answer.size()) != RUNFOLD_OK)
+    if (runfold_fold(run.data(), run.size(), RUNFOLD_MAX_WIDTH, steps.data(), steps.size(), groups.data(), groups.size(),
+                     marks.data(), marks.size(), 1, 0, costs.data(), costs.size(), choices.data(), choices.size(), fold.data(),
+                     fold.size(), answer.data(), answer.size()) != RUNFOLD_OK)
         return refused(answer);
     fold.resize(answer[RUNFOLD_LENGTH]);
     std::cout << "cost " << answer[RUNFOLD_COST] << "\nfold " << std::hex << std::uppercase << std::setfill('0');

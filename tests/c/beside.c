@@ -1,6 +1,7 @@
 /* The folder of another archive of the library beside that of this one, on the benchmark's runs and prices, which are read from
- * standard input. Both are called in turn; a line for each run at each prices gives the lowest time of either. They have to agree
- * in cost, and how many folds differ is said at the end. scripts/beside.sh links it. */
+ * standard input. The other archive is the one before labels could be marked: its folder takes no marks, and this one is called
+ * with no label marked. Both are called in turn; a line for each run at each prices gives the lowest time of either. They have
+ * to agree in cost, and how many folds differ is said at the end. scripts/beside.sh links it. */
 #define _GNU_SOURCE
 #include "runfold.h"
 
@@ -9,15 +10,21 @@
 #include <string.h>
 #include <time.h>
 
+/* Of the other archive, and of this one. */
+typedef uint8_t former_folder(const uint8_t *run, size_t run_len, size_t limit, const uint16_t *steps, size_t steps_len,
+                              const uint16_t *groups, size_t groups_len, uint16_t first, uint16_t each, uint32_t *costs,
+                              size_t costs_len, uint32_t *choices, size_t choices_len, uint8_t *out, size_t out_len,
+                              uint64_t *answer, size_t answer_len);
 typedef uint8_t folder(const uint8_t *run, size_t run_len, size_t limit, const uint16_t *steps, size_t steps_len,
-                       const uint16_t *groups, size_t groups_len, uint16_t first, uint16_t each, uint32_t *costs, size_t costs_len,
-                       uint32_t *choices, size_t choices_len, uint8_t *out, size_t out_len, uint64_t *answer, size_t answer_len);
+                       const uint16_t *groups, size_t groups_len, const uint8_t *marks, size_t marks_len, uint16_t first,
+                       uint16_t each, uint32_t *costs, size_t costs_len, uint32_t *choices, size_t choices_len, uint8_t *out,
+                       size_t out_len, uint64_t *answer, size_t answer_len);
 
 /* Those of the two archives, under other names. */
-folder other_fold, this_fold;
-static folder *const folders[2] = {other_fold, this_fold};
+former_folder other_fold;
+folder this_fold;
 
-enum { NODES = RUNFOLD_MAX_NODES, PRICES = 8, ROUNDS = 7 };
+enum { NODES = RUNFOLD_MAX_NODES, PRICES = 8, ROUNDS = 7, OTHER = 0, THIS = 1 };
 
 /* Costs of steps and of groups, and the repeat prices first and each. */
 struct prices {
@@ -26,6 +33,8 @@ struct prices {
 };
 
 static struct prices prices[PRICES];
+/* No label is marked. */
+static const uint8_t marks[256];
 static uint32_t costs[RUNFOLD_WORK(NODES)], choices[RUNFOLD_WORK(NODES)];
 static uint8_t run[RUNFOLD_MAX_RUN], out[2][RUNFOLD_ROOM(NODES)];
 static int differ, cases;
@@ -61,6 +70,17 @@ static size_t read_run(const char *hex) {
     return length;
 }
 
+/* The run by either folder, into its own output. */
+static uint8_t fold_by(int which, size_t length, const struct prices *p, uint64_t *answer) {
+    if (which == OTHER)
+        return other_fold(run, length, RUNFOLD_MAX_WIDTH, p->costs[0], 256, p->costs[1], 256, p->first, p->each, costs,
+                          RUNFOLD_WORK(NODES), choices, RUNFOLD_WORK(NODES), out[OTHER], RUNFOLD_ROOM(NODES), answer,
+                          RUNFOLD_ENTRIES);
+    return this_fold(run, length, RUNFOLD_MAX_WIDTH, p->costs[0], 256, p->costs[1], 256, marks, 256, p->first, p->each, costs,
+                     RUNFOLD_WORK(NODES), choices, RUNFOLD_WORK(NODES), out[THIS], RUNFOLD_ROOM(NODES), answer,
+                     RUNFOLD_ENTRIES);
+}
+
 /* At least some rounds, and for as many nanoseconds as are given. */
 static void measure(const char *family, size_t length, const struct prices *p, double budget) {
     double best[2] = {1e18, 1e18}, began = now();
@@ -69,20 +89,18 @@ static void measure(const char *family, size_t length, const struct prices *p, d
         for (int turn = 0; turn < 2; turn++) {
             int which = (turn + round) % 2;
             double start = now();
-            uint8_t refusal = folders[which](run, length, RUNFOLD_MAX_WIDTH, p->costs[0], 256, p->costs[1], 256, p->first,
-                                             p->each, costs, RUNFOLD_WORK(NODES), choices, RUNFOLD_WORK(NODES), out[which],
-                                             RUNFOLD_ROOM(NODES), answer[which], RUNFOLD_ENTRIES);
+            uint8_t refusal = fold_by(which, length, p, answer[which]);
             double time = now() - start;
             if (refusal != RUNFOLD_OK)
                 fail("a run is refused");
             best[which] = time < best[which] ? time : best[which];
         }
-    if (answer[0][RUNFOLD_COST] != answer[1][RUNFOLD_COST])
+    if (answer[OTHER][RUNFOLD_COST] != answer[THIS][RUNFOLD_COST])
         fail("the two differ in cost");
-    uint64_t size = answer[0][RUNFOLD_LENGTH];
-    differ += size != answer[1][RUNFOLD_LENGTH] || memcmp(out[0], out[1], (size_t)size) != 0;
+    uint64_t size = answer[OTHER][RUNFOLD_LENGTH];
+    differ += size != answer[THIS][RUNFOLD_LENGTH] || memcmp(out[OTHER], out[THIS], (size_t)size) != 0;
     cases++;
-    printf("%s\t%s\t%.0f\t%.0f\n", family, p->name, best[0], best[1]);
+    printf("%s\t%s\t%.0f\t%.0f\n", family, p->name, best[OTHER], best[THIS]);
 }
 
 int main(int argc, char **argv) {

@@ -22,18 +22,19 @@ HOLDS(refusals, RUNFOLD_OK == 0 && RUNFOLD_UNKNOWN_COMMAND == 1 && RUNFOLD_REPEA
       RUNFOLD_WRONG_CLOSE == 4 && RUNFOLD_EMPTY_BODY == 5 && RUNFOLD_SMALL_COUNT == 6 && RUNFOLD_WIDE == 7 &&
       RUNFOLD_DEEP == 8 && RUNFOLD_FALSE_WIDTH == 9 && RUNFOLD_MANY_NODES == 10 && RUNFOLD_STEP_TABLE_SIZE == 11 &&
       RUNFOLD_LIMIT_SIZE == 12 && RUNFOLD_WORK_SIZE == 13 && RUNFOLD_OUTPUT_SIZE == 14 && RUNFOLD_GROUP_TABLE_SIZE == 15 &&
-      RUNFOLD_PAST_END == 16 && RUNFOLD_FALSE_INDEX == 17 && RUNFOLD_SHORT == 255);
+      RUNFOLD_PAST_END == 16 && RUNFOLD_FALSE_INDEX == 17 && RUNFOLD_WRONG_MARKS == 18 && RUNFOLD_MARKED_IN_REPEAT == 19 &&
+      RUNFOLD_SHORT == 255);
 
-const char *fold_small(const uint8_t *run, size_t run_len, const uint16_t *steps, const uint16_t *groups);
+const char *fold_small(const uint8_t *run, size_t run_len, const uint16_t *steps, const uint16_t *groups, const uint8_t *marks);
 
-const char *fold_small(const uint8_t *run, size_t run_len, const uint16_t *steps, const uint16_t *groups)
+const char *fold_small(const uint8_t *run, size_t run_len, const uint16_t *steps, const uint16_t *groups, const uint8_t *marks)
 {
     uint32_t costs[RUNFOLD_WORK(3)];
     uint32_t choices[RUNFOLD_WORK(3)];
     uint8_t out[RUNFOLD_ROOM(3)];
     uint64_t answer[RUNFOLD_ENTRIES];
-    uint8_t result = runfold_fold(run, run_len, RUNFOLD_MAX_WIDTH, steps, 256, groups, 256, 1, 0, costs, RUNFOLD_WORK(3),
-                                  choices, RUNFOLD_WORK(3), out, sizeof out, answer, RUNFOLD_ENTRIES);
+    uint8_t result = runfold_fold(run, run_len, RUNFOLD_MAX_WIDTH, steps, 256, groups, 256, marks, 256, 1, 0, costs,
+                                  RUNFOLD_WORK(3), choices, RUNFOLD_WORK(3), out, sizeof out, answer, RUNFOLD_ENTRIES);
 
     if (result == RUNFOLD_SHORT)
         return runfold_refusal_text(result);

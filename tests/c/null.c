@@ -29,10 +29,10 @@ static void expect(const char *call, const char *where, unsigned result, unsigne
 
 #define EXPECT(wanted, call) expect(#call, where, call, wanted)
 
-/* All calls, with the empty slices of bytes, cost tables, work or index, and answers at these pointers. */
+/* All calls, with the empty slices of bytes or marks, cost tables, work or index, and answers at these pointers. */
 static void calls(const char *where, uint8_t *b, uint16_t *t, uint32_t *w, uint64_t *a)
 {
-    const uint8_t step[] = {0x10, 0x07};
+    const uint8_t step[] = {0x10, 0x07}, marks[256] = {0};
     uint16_t table[256] = {0};
     uint32_t costs[1], choices[1], offsets[1] = {0}, before[1] = {0};
     uint8_t out[4];
@@ -46,13 +46,16 @@ static void calls(const char *where, uint8_t *b, uint16_t *t, uint32_t *w, uint6
         failures++;
     }
 
-    EXPECT(RUNFOLD_OK, runfold_read_fold(b, 0, LIMIT, table, 256, table, 256, 1, 0, answer, ALL));
-    EXPECT(RUNFOLD_STEP_TABLE_SIZE, runfold_read_fold(step, 2, LIMIT, t, 0, table, 256, 1, 0, answer, ALL));
-    EXPECT(RUNFOLD_STEP_TABLE_SIZE, runfold_read_fold(b, 0, LIMIT, t, 0, t, 0, 1, 0, answer, ALL));
-    EXPECT(RUNFOLD_GROUP_TABLE_SIZE, runfold_read_fold(step, 2, LIMIT, table, 256, t, 0, 1, 0, answer, ALL));
-    EXPECT(RUNFOLD_GROUP_TABLE_SIZE, runfold_read_fold(b, 0, LIMIT + 1, table, 256, t, 0, 1, 0, answer, ALL));
-    EXPECT(RUNFOLD_SHORT, runfold_read_fold(step, 2, LIMIT, table, 256, table, 256, 1, 0, a, 0));
-    EXPECT(RUNFOLD_SHORT, runfold_read_fold(b, 0, LIMIT, t, 0, t, 0, 1, 0, a, 0));
+    EXPECT(RUNFOLD_OK, runfold_read_fold(b, 0, LIMIT, table, 256, table, 256, marks, 256, 1, 0, answer, ALL));
+    EXPECT(RUNFOLD_STEP_TABLE_SIZE, runfold_read_fold(step, 2, LIMIT, t, 0, table, 256, marks, 256, 1, 0, answer, ALL));
+    EXPECT(RUNFOLD_STEP_TABLE_SIZE, runfold_read_fold(b, 0, LIMIT, t, 0, t, 0, b, 0, 1, 0, answer, ALL));
+    EXPECT(RUNFOLD_GROUP_TABLE_SIZE, runfold_read_fold(step, 2, LIMIT, table, 256, t, 0, marks, 256, 1, 0, answer, ALL));
+    EXPECT(RUNFOLD_GROUP_TABLE_SIZE, runfold_read_fold(b, 0, LIMIT + 1, table, 256, t, 0, b, 0, 1, 0, answer, ALL));
+    EXPECT(RUNFOLD_LIMIT_SIZE, runfold_read_fold(b, 0, LIMIT + 1, table, 256, table, 256, b, 0, 1, 0, answer, ALL));
+    EXPECT(RUNFOLD_WRONG_MARKS, runfold_read_fold(step, 2, LIMIT, table, 256, table, 256, b, 0, 1, 0, answer, ALL));
+    EXPECT(RUNFOLD_WRONG_MARKS, runfold_read_fold(b, 0, LIMIT, table, 256, table, 256, b, 0, 1, 0, answer, ALL));
+    EXPECT(RUNFOLD_SHORT, runfold_read_fold(step, 2, LIMIT, table, 256, table, 256, marks, 256, 1, 0, a, 0));
+    EXPECT(RUNFOLD_SHORT, runfold_read_fold(b, 0, LIMIT, t, 0, t, 0, b, 0, 1, 0, a, 0));
 
     EXPECT(RUNFOLD_OK, runfold_unroll(b, 0, LIMIT, out, 4, answer, ALL));
     EXPECT(RUNFOLD_OK, runfold_unroll(b, 0, LIMIT, b, 0, answer, ALL));
@@ -61,21 +64,32 @@ static void calls(const char *where, uint8_t *b, uint16_t *t, uint32_t *w, uint6
     EXPECT(RUNFOLD_SHORT, runfold_unroll(step, 2, LIMIT, out, 4, a, 0));
     EXPECT(RUNFOLD_SHORT, runfold_unroll(b, 0, LIMIT, b, 0, a, 0));
 
-    EXPECT(RUNFOLD_OK, runfold_fold(b, 0, LIMIT, table, 256, table, 256, 1, 0, costs, 1, choices, 1, out, 4, answer, ALL));
-    EXPECT(RUNFOLD_OK, runfold_fold(b, 0, LIMIT, table, 256, table, 256, 1, 0, w, 0, w, 0, b, 0, answer, ALL));
-    EXPECT(RUNFOLD_STEP_TABLE_SIZE, runfold_fold(step, 2, LIMIT, t, 0, table, 256, 1, 0, costs, 1, choices, 1, out, 4, answer, ALL));
-    EXPECT(RUNFOLD_STEP_TABLE_SIZE, runfold_fold(b, 0, LIMIT, t, 0, t, 0, 1, 0, w, 0, w, 0, b, 0, answer, ALL));
+    EXPECT(RUNFOLD_OK,
+           runfold_fold(b, 0, LIMIT, table, 256, table, 256, marks, 256, 1, 0, costs, 1, choices, 1, out, 4, answer, ALL));
+    EXPECT(RUNFOLD_OK, runfold_fold(b, 0, LIMIT, table, 256, table, 256, marks, 256, 1, 0, w, 0, w, 0, b, 0, answer, ALL));
+    EXPECT(RUNFOLD_STEP_TABLE_SIZE,
+           runfold_fold(step, 2, LIMIT, t, 0, table, 256, marks, 256, 1, 0, costs, 1, choices, 1, out, 4, answer, ALL));
+    EXPECT(RUNFOLD_STEP_TABLE_SIZE, runfold_fold(b, 0, LIMIT, t, 0, t, 0, b, 0, 1, 0, w, 0, w, 0, b, 0, answer, ALL));
     EXPECT(RUNFOLD_GROUP_TABLE_SIZE,
-           runfold_fold(step, 2, LIMIT, table, 256, t, 0, 1, 0, costs, 1, choices, 1, out, 4, answer, ALL));
-    EXPECT(RUNFOLD_GROUP_TABLE_SIZE, runfold_fold(b, 0, LIMIT + 1, table, 256, t, 0, 1, 0, w, 0, w, 0, b, 0, answer, ALL));
+           runfold_fold(step, 2, LIMIT, table, 256, t, 0, marks, 256, 1, 0, costs, 1, choices, 1, out, 4, answer, ALL));
+    EXPECT(RUNFOLD_GROUP_TABLE_SIZE,
+           runfold_fold(b, 0, LIMIT + 1, table, 256, t, 0, b, 0, 1, 0, w, 0, w, 0, b, 0, answer, ALL));
+    EXPECT(RUNFOLD_LIMIT_SIZE,
+           runfold_fold(b, 0, LIMIT + 1, table, 256, table, 256, b, 0, 1, 0, w, 0, w, 0, b, 0, answer, ALL));
+    EXPECT(RUNFOLD_WRONG_MARKS,
+           runfold_fold(step, 2, LIMIT, table, 256, table, 256, b, 0, 1, 0, costs, 1, choices, 1, out, 4, answer, ALL));
+    EXPECT(RUNFOLD_WRONG_MARKS, runfold_fold(b, 0, LIMIT, table, 256, table, 256, b, 0, 1, 0, w, 0, w, 0, b, 0, answer, ALL));
     EXPECT(RUNFOLD_WORK_SIZE,
-           runfold_fold(step, 2, LIMIT, table, 256, table, 256, 1, 0, w, 0, choices, 1, out, 4, answer, ALL));
-    EXPECT(RUNFOLD_WORK_SIZE, runfold_fold(step, 2, LIMIT, table, 256, table, 256, 1, 0, costs, 1, w, 0, out, 4, answer, ALL));
-    EXPECT(RUNFOLD_WORK_SIZE, runfold_fold(step, 2, LIMIT, table, 256, table, 256, 1, 0, w, 0, w, 0, b, 0, answer, ALL));
+           runfold_fold(step, 2, LIMIT, table, 256, table, 256, marks, 256, 1, 0, w, 0, choices, 1, out, 4, answer, ALL));
+    EXPECT(RUNFOLD_WORK_SIZE,
+           runfold_fold(step, 2, LIMIT, table, 256, table, 256, marks, 256, 1, 0, costs, 1, w, 0, out, 4, answer, ALL));
+    EXPECT(RUNFOLD_WORK_SIZE,
+           runfold_fold(step, 2, LIMIT, table, 256, table, 256, marks, 256, 1, 0, w, 0, w, 0, b, 0, answer, ALL));
     EXPECT(RUNFOLD_OUTPUT_SIZE,
-           runfold_fold(step, 2, LIMIT, table, 256, table, 256, 1, 0, costs, 1, choices, 1, b, 0, answer, ALL));
-    EXPECT(RUNFOLD_SHORT, runfold_fold(step, 2, LIMIT, table, 256, table, 256, 1, 0, costs, 1, choices, 1, out, 4, a, 0));
-    EXPECT(RUNFOLD_SHORT, runfold_fold(b, 0, LIMIT, t, 0, t, 0, 1, 0, w, 0, w, 0, b, 0, a, 0));
+           runfold_fold(step, 2, LIMIT, table, 256, table, 256, marks, 256, 1, 0, costs, 1, choices, 1, b, 0, answer, ALL));
+    EXPECT(RUNFOLD_SHORT,
+           runfold_fold(step, 2, LIMIT, table, 256, table, 256, marks, 256, 1, 0, costs, 1, choices, 1, out, 4, a, 0));
+    EXPECT(RUNFOLD_SHORT, runfold_fold(b, 0, LIMIT, t, 0, t, 0, b, 0, 1, 0, w, 0, w, 0, b, 0, a, 0));
 
     EXPECT(RUNFOLD_OK, runfold_index(b, 0, offsets, 1, before, 1, answer, ALL));
     EXPECT(RUNFOLD_OK, runfold_index(b, 0, w, 0, w, 0, answer, ALL));

@@ -25,6 +25,7 @@ int main(void)
     const uint64_t of_cut_run[] = {RUNFOLD_UNFINISHED, sizeof run - 1, 0, 0, 0, 0, 0, 99};
     uint64_t answer[RUNFOLD_ENTRIES + 1];
     uint16_t one[256], four[256];
+    const uint8_t marks[256] = {0};
     uint32_t costs[RUNFOLD_WORK(8)], choices[RUNFOLD_WORK(8)];
     uint8_t out[RUNFOLD_ROOM(8)];
     int failures = 0;
@@ -36,12 +37,12 @@ int main(void)
     answer[RUNFOLD_ENTRIES] = 99;
     runfold_read_run(run, sizeof run, answer, RUNFOLD_ENTRIES + 1);
     failures += expect("runfold_read_run", answer, of_run, RUNFOLD_ENTRIES + 1);
-    runfold_read_fold(fold, sizeof fold, RUNFOLD_MAX_WIDTH, one, 256, one, 256, 1, 0, answer, RUNFOLD_ENTRIES + 1);
+    runfold_read_fold(fold, sizeof fold, RUNFOLD_MAX_WIDTH, one, 256, one, 256, marks, 256, 1, 0, answer, RUNFOLD_ENTRIES + 1);
     failures += expect("runfold_read_fold", answer, of_fold, RUNFOLD_ENTRIES + 1);
-    runfold_read_fold(fold, sizeof fold, RUNFOLD_MAX_WIDTH, one, 256, four, 256, 1, 0, answer, RUNFOLD_ENTRIES + 1);
+    runfold_read_fold(fold, sizeof fold, RUNFOLD_MAX_WIDTH, one, 256, four, 256, marks, 256, 1, 0, answer, RUNFOLD_ENTRIES + 1);
     failures += expect("runfold_read_fold, a group for 4", answer, of_dear_fold, RUNFOLD_ENTRIES + 1);
-    runfold_fold(run, sizeof run, RUNFOLD_MAX_WIDTH, one, 256, four, 256, 1, 0, costs, RUNFOLD_WORK(8), choices, RUNFOLD_WORK(8),
-                 out, sizeof out, answer, RUNFOLD_ENTRIES + 1);
+    runfold_fold(run, sizeof run, RUNFOLD_MAX_WIDTH, one, 256, four, 256, marks, 256, 1, 0, costs, RUNFOLD_WORK(8), choices,
+                 RUNFOLD_WORK(8), out, sizeof out, answer, RUNFOLD_ENTRIES + 1);
     failures += expect("runfold_fold, a group for 4", answer, of_dear_folding, RUNFOLD_ENTRIES + 1);
     if (memcmp(out, fold, sizeof fold) != 0) {
         printf("runfold_fold, a group for 4: another fold\n");

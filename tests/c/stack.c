@@ -34,11 +34,12 @@ static const struct input inputs[] = {
 };
 enum { INPUTS = sizeof inputs / sizeof inputs[0] };
 
-/* What a call is given, and what it answered. A repeat costs 0 and each further copy 1, so that the folder nests as many
- * repeats as it can: ten round 1,024 steps, nine round 512. */
+/* What a call is given, and what it answered. A repeat costs 0 and each further copy 1, and no label is marked, so that the
+ * folder nests as many repeats as it can: ten round 1,024 steps, nine round 512. */
 static uint8_t bytes[RUNFOLD_MAX_RUN];
 static size_t len;
 static uint16_t table[256];
+static const uint8_t marks[256];
 static uint32_t costs[RUNFOLD_WORK(RUNFOLD_MAX_NODES)], choices[RUNFOLD_WORK(RUNFOLD_MAX_NODES)];
 static uint8_t out[RUNFOLD_ROOM(RUNFOLD_MAX_NODES)];
 /* The index of the input as a fold, and the position of its last node, one of those that stand deepest. */
@@ -65,7 +66,8 @@ static void part(void)
 
 static void read_fold(void)
 {
-    result = runfold_read_fold(bytes, len, RUNFOLD_MAX_WIDTH, table, 256, table, 256, 0, 1, answer, RUNFOLD_ENTRIES);
+    result = runfold_read_fold(bytes, len, RUNFOLD_MAX_WIDTH, table, 256, table, 256, marks, 256, 0, 1, answer,
+                               RUNFOLD_ENTRIES);
 }
 
 static void unroll(void)
@@ -75,8 +77,9 @@ static void unroll(void)
 
 static void fold(void)
 {
-    result = runfold_fold(bytes, len, RUNFOLD_MAX_WIDTH, table, 256, table, 256, 0, 1, costs, RUNFOLD_WORK(RUNFOLD_MAX_NODES),
-                          choices, RUNFOLD_WORK(RUNFOLD_MAX_NODES), out, sizeof out, answer, RUNFOLD_ENTRIES);
+    result = runfold_fold(bytes, len, RUNFOLD_MAX_WIDTH, table, 256, table, 256, marks, 256, 0, 1, costs,
+                          RUNFOLD_WORK(RUNFOLD_MAX_NODES), choices, RUNFOLD_WORK(RUNFOLD_MAX_NODES), out, sizeof out, answer,
+                          RUNFOLD_ENTRIES);
 }
 
 static void index_fold(void)

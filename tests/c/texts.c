@@ -5,7 +5,7 @@
 #include <stdio.h>
 #include <string.h>
 
-enum { LAST = RUNFOLD_FALSE_INDEX };
+enum { LAST = RUNFOLD_MARKED_IN_REPEAT };
 
 int main(void)
 {
