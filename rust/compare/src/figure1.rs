@@ -123,7 +123,7 @@ impl Tables {
         }
     }
 
-    /// The report's MinimumRRT on a run. Appends the fold and answers its cost.
+    /// The report's MinimumRRT on a run, which knows no marks. Appends the fold and answers its cost.
     pub fn minimum(&mut self, run: &[u8], prices: &Prices, out: &mut Vec<u8>) -> u32 {
         self.letters.clear();
         let (cost, _) = self.sequence(run, 0, prices);

@@ -39,8 +39,8 @@ fn folds(unit: &Prices) -> Vec<(String, Vec<u8>)> {
         ("1,016 steps in eight groups", (0..8).fold(steps(1016), |body, _| vec![Item::Group(1, body)])),
     ];
     let mut folds: Vec<_> = by_hand.into_iter().map(|(name, items)| (name.to_string(), bytes_of(&items))).collect();
-    let Prices { steps, groups, first, each } = unit;
-    let prices = runfold::Prices { steps, groups, first: *first, each: *each };
+    let Prices { steps, groups, marks, first, each } = unit;
+    let prices = runfold::Prices { steps, groups, marks, first: *first, each: *each };
     for name in CHEAPEST {
         let which = families::all().iter().position(|family| family.name == name).expect("a family");
         let run = bytes_of(&families::run(which, MAX_NODES, 0));
@@ -96,10 +96,10 @@ fn measure(name: String, fold: &[u8], unit: &Prices) -> Finding {
 
     let mut run = [0; RUN_ROOM];
     let (mut to_offsets, mut to_before) = ([0; MAX_NODES], [0; MAX_NODES]);
-    let Prices { steps, groups, first, each } = unit;
+    let Prices { steps, groups, marks, first, each } = unit;
     let mut unroll = || assert_eq!(raw::unroll(fold, MAX_WIDTH, &mut run, &mut [0; raw::ENTRIES]), 0);
     let mut read =
-        || assert_eq!(raw::read_fold(fold, MAX_WIDTH, steps, groups, *first, *each, &mut [0; raw::ENTRIES]), 0);
+        || assert_eq!(raw::read_fold(fold, MAX_WIDTH, steps, groups, marks, *first, *each, &mut [0; raw::ENTRIES]), 0);
     let mut build = || assert_eq!(raw::index(fold, &mut to_offsets, &mut to_before, &mut [0; raw::ENTRIES]), 0);
     let find = |position| assert_eq!(raw::find(fold, offsets, before, position, &mut [0; raw::ENTRIES]), 0);
 

@@ -274,6 +274,35 @@ pub fn random_commands(r: &mut Random, commands: usize) -> Vec<u8> {
     out
 }
 
+/// The marks of labels by which of them are marked.
+pub fn marking(marked: impl FnMut(u8) -> bool) -> Vec<u8> {
+    (0..=255).map(marked).map(u8::from).collect()
+}
+
+/// Some marks. Most inputs have labels below 4 alone, or few others among them: so none is marked, or one of the first, or all
+/// but one of them, or all from 4 on, or all, or any at random.
+pub fn marks(r: &mut Random) -> Vec<u8> {
+    let (one, rarity) = (r.below(5) as u8, 2 + r.below(6));
+    match r.below(12) {
+        0..=4 => marking(|_| false),
+        5 | 6 => marking(|label| label == one),
+        7 => marking(|label| label != one),
+        8 | 9 => marking(|label| label >= 4),
+        10 => marking(|_| true),
+        _ => marking(|_| r.once_in(rarity)),
+    }
+}
+
+/// Marks that are refused: those of some labels are missing, or there are too many, or one is above 1.
+pub fn wrong_marks(r: &mut Random, mut marks: Vec<u8>) -> Vec<u8> {
+    if r.once_in(2) {
+        marks.resize(*r.pick(&[0, 1, 255, 257, 300]), 0);
+    } else {
+        marks[r.below(256)] = *r.pick(&[2, 3, 128, 255]);
+    }
+    marks
+}
+
 /// The deepest group of a run.
 pub fn depth(items: &[Item]) -> usize {
     let inside = |item: &Item| if let Item::Group(_, body) = item { 1 + depth(body) } else { 0 };
@@ -349,7 +378,7 @@ pub fn notation(items: &[Item]) -> String {
     text.trim().replace("  ", " ")
 }
 
-/// The prices that everything is measured at.
+/// The prices that everything is measured at. No label is marked: the report's method knows no marks.
 pub fn price_sets() -> [(&'static str, Prices); 4] {
     let r = &mut Random::new(2008);
     let ones = vec![1; 256];
@@ -364,7 +393,7 @@ pub fn price_sets() -> [(&'static str, Prices); 4] {
                 let steps = (0..256).map(|_| 1 + r.below(1000) as u16).collect();
                 let (first, each) = (r.below(2000) as u16, r.below(100) as u16);
                 let groups = (0..256).map(|_| 1 + r.below(1000) as u16).collect();
-                Prices { steps, groups, first, each }
+                Prices { groups, ..Prices::by_label(steps, first, each) }
             },
         ),
     ]

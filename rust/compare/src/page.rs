@@ -355,7 +355,8 @@ runs: two, and one on powers); in a round each method runs once. Where a family 
 all four are compared on every input, and each fold is read back and unrolled ({checked} folds in this run). No time is a test.
 
 Unit prices are 1 for each label, first 1, each 0; the prices \"first 0\" have 1 for each label too; random prices are up to
-1,000 a label, steps and groups each by themselves, first up to 2,000 and each up to 100.
+1,000 a label, steps and groups each by themselves, first up to 2,000 and each up to 100. No label is marked: the report's
+method knows no marks.
 
 ## The runs
 

@@ -29,19 +29,49 @@ impl Answer {
     }
 }
 
-/// The prices of steps and of groups by their labels, and of repeats.
+/// The prices of steps and of groups by their labels, and of repeats; and the marks, 1 for a label that stands in no repeat.
 #[derive(Clone, Debug, PartialEq, Eq)]
 pub struct Prices {
     pub steps: Vec<u16>,
     pub groups: Vec<u16>,
+    pub marks: Vec<u8>,
     pub first: u16,
     pub each: u16,
 }
 
 impl Prices {
-    /// One price for each label, whether a step or a group bears it.
+    /// One price for each label, whether a step or a group bears it, and no mark.
     pub fn by_label(labels: Vec<u16>, first: u16, each: u16) -> Prices {
-        Prices { steps: labels.clone(), groups: labels, first, each }
+        Prices { steps: labels.clone(), groups: labels, marks: vec![0; 256], first, each }
+    }
+
+    /// The same prices without a mark.
+    pub fn unmarked(&self) -> Prices {
+        Prices { marks: vec![0; 256], ..self.clone() }
+    }
+
+    pub fn marked(&self, label: u8) -> bool {
+        self.marks[label as usize] == 1
+    }
+
+    /// Whether a marked label stands anywhere in these items.
+    pub fn mark_in(&self, items: &[Item]) -> bool {
+        items.iter().any(|item| match item {
+            Item::Step(label) => self.marked(*label),
+            Item::Group(label, body) => self.marked(*label) || self.mark_in(body),
+            Item::Repeat(_, _, body) => self.mark_in(body),
+        })
+    }
+
+    /// How many siblings from each on hold no marked label before one that does: what is repeated from there is no wider.
+    fn free_ahead(&self, nodes: &[Item]) -> Vec<usize> {
+        let mut ahead = vec![0; nodes.len()];
+        let mut free = 0;
+        for (i, node) in nodes.iter().enumerate().rev() {
+            free = if self.mark_in(std::slice::from_ref(node)) { 0 } else { free + 1 };
+            ahead[i] = free;
+        }
+        ahead
     }
 
     fn step(&self, label: u8) -> u64 {
@@ -185,6 +215,10 @@ fn read(bytes: &[u8], limit: Option<usize>, prices: Option<&Prices>) -> Result<A
                 if command == 0x11 && groups == 8 {
                     return refuse(8);
                 }
+                let repeated = open.iter().any(|o| o.close == 0x21);
+                if repeated && prices.is_some_and(|p| p.marked(bytes[at + 1])) {
+                    return refuse(19);
+                }
                 if nodes + 1 > 1024 {
                     return refuse(10);
                 }
@@ -279,7 +313,7 @@ pub fn read_run(run: &[u8]) -> Answer {
     either(read(run, None, None).map(|a| Answer { length: 0, ..a }))
 }
 
-/// Refusals 11, 15 and 12, for those who take tables and a limit.
+/// Refusals 11, 15, 12 and 18, for those who take tables, a limit and marks.
 fn terms(limit: usize, prices: Option<&Prices>) -> Result<(), Answer> {
     if prices.is_some_and(|p| p.steps.len() != 256) {
         return Err(Answer::refuse(11, 0));
@@ -289,6 +323,9 @@ fn terms(limit: usize, prices: Option<&Prices>) -> Result<(), Answer> {
     }
     if limit > 1024 {
         return Err(Answer::refuse(12, 0));
+    }
+    if prices.is_some_and(|p| p.marks.len() != 256 || p.marks.iter().any(|mark| ![0, 1].contains(mark))) {
+        return Err(Answer::refuse(18, 0));
     }
     Ok(())
 }
@@ -473,7 +510,7 @@ pub struct Ranked {
 }
 
 /// The cheapest fold of a sequence of nodes: the report's dynamic programme. A stretch of siblings is the one node, or one
-/// repetition of a shorter stretch (case 1), or two stretches one after the other (case 2).
+/// repetition of a shorter stretch that holds no marked label (case 1), or two stretches one after the other (case 2).
 pub fn cheapest(nodes: &[Item], limit: usize, prices: &Prices) -> Ranked {
     let n = nodes.len();
     if n == 0 {
@@ -497,9 +534,10 @@ pub fn cheapest(nodes: &[Item], limit: usize, prices: &Prices) -> Ranked {
             }]
         })
         .collect();
+    let free = prices.free_ahead(nodes);
     for d in 2..=n {
         for i in 0..=n - d {
-            let found = cheapest_stretch(nodes, &best, i, d, limit, prices);
+            let found = cheapest_stretch(nodes, &best, i, d, limit.min(free[i]), prices);
             best[i].push(found);
         }
     }
@@ -526,6 +564,7 @@ pub fn lowest(nodes: &[Item], limit: usize, prices: &Prices) -> (u64, usize) {
             Item::Repeat(..) => unreachable!("a run has no repeats"),
         };
     }
+    let free = prices.free_ahead(nodes);
     for d in 1..=n {
         for i in 0..=n - d {
             let two = |e: usize| (best[i][e].0 + best[i + e][d - e].0, best[i][e].1 + best[i + e][d - e].1);
@@ -533,7 +572,8 @@ pub fn lowest(nodes: &[Item], limit: usize, prices: &Prices) -> (u64, usize) {
             best[i][d] = best[i][d].min(split.unwrap_or((u64::MAX, 0)));
             // This stretch repeated, as far as its copies go.
             let mut count = 2;
-            while d <= limit && i + count * d <= n && class[i..i + d] == class[i + (count - 1) * d..i + count * d] {
+            let repeated = d <= limit && d <= free[i];
+            while repeated && i + count * d <= n && class[i..i + d] == class[i + (count - 1) * d..i + count * d] {
                 let (cost, repeats) = best[i][d];
                 best[i][count * d] = best[i][count * d].min((cost + prices.repeat(count), repeats + 1));
                 count += 1;
@@ -543,6 +583,7 @@ pub fn lowest(nodes: &[Item], limit: usize, prices: &Prices) -> (u64, usize) {
     best[0][n]
 }
 
+/// The cheapest fold of d siblings from i on, by those of all shorter stretches; as one repeat it is at most `limit` wide.
 fn cheapest_stretch(nodes: &[Item], best: &[Vec<Ranked>], i: usize, d: usize, limit: usize, prices: &Prices) -> Ranked {
     let two = |e: usize| (&best[i][e - 1], &best[i + e][d - e - 1]);
     let both = |e: usize| (two(e).0.cost + two(e).1.cost, two(e).0.repeats + two(e).1.repeats);
@@ -622,7 +663,7 @@ pub fn lend(solved: &Solved, costs: usize, choices: usize, room: usize) -> (Answ
 }
 
 /// Every fold of a sequence of nodes whose widths are within a limit, by its bytes: a first item, which is the first node or a
-/// repeat, and then every fold of what is left.
+/// repeat, and then every fold of what is left. Marks are not looked at: folds that they bar are among them.
 pub fn every_fold(nodes: &[Item], limit: usize) -> Vec<Vec<u8>> {
     if nodes.is_empty() {
         return vec![Vec::new()];

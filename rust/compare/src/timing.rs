@@ -45,6 +45,7 @@ impl Bench {
             MAX_WIDTH,
             &prices.steps,
             &prices.groups,
+            &prices.marks,
             prices.first,
             prices.each,
             &mut self.costs,

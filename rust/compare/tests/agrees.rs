@@ -1,9 +1,10 @@
-//! The wrapper has the refusals and limits of the C header, under the same names, and says a refusal's condition in the words
-//! of docs/REFUSALS.md.
+//! The wrapper has the functions, refusals and limits of the C header, under the same names, and says a refusal's condition in
+//! the words of docs/REFUSALS.md.
 
 use runfold::{fold_room, raw, work_entries, Refusal};
 
 const HEADER: &str = include_str!("../../../include/runfold.h");
+const DECLARED: &str = include_str!("../../runfold/src/declared.rs");
 const REFUSALS: &str = include_str!("../../../docs/REFUSALS.md");
 
 /// What the header gives a name, in an enum or by `#define`, where it is a number.
@@ -38,6 +39,34 @@ fn refusals_are_named_as_in_the_header() {
         assert_eq!(in_header(&header_name(refusal)), Some(refusal.number() as u64), "{}", header_name(refusal));
     }
     assert_eq!(in_header("RUNFOLD_SHORT"), Some(raw::SHORT as u64));
+}
+
+/// A parameter of C as Rust declares it: `const uint8_t *run` is `run: *const u8`.
+fn as_declared(parameter: &str) -> String {
+    let parameter = parameter.trim();
+    let (kind, name) = parameter.split_at(parameter.rfind([' ', '*']).expect("a name") + 1);
+    let kind = kind.trim_end().replace("size_t", "usize").replace("uint", "u").replace("_t", "");
+    match (kind.strip_suffix(" *"), kind.strip_prefix("const ")) {
+        (Some(_), Some(to)) => format!("{name}: *const {}", to.trim_end_matches(" *")),
+        (Some(to), None) => format!("{name}: *mut {to}"),
+        _ => format!("{name}: {kind}"),
+    }
+}
+
+#[test]
+fn functions_are_declared_as_in_the_header() {
+    let mut declared = 0;
+    for declaration in DECLARED.split("pub fn ").skip(1) {
+        let (name, behind) = declaration.split_once('(').expect("a function");
+        let (_, prototype) = HEADER.split_once(&format!("_t {name}(")).expect("a function of the header");
+        let [ours, theirs] = [behind, prototype].map(|text| text.split_once(')').expect("an end").0.trim_end());
+        // Where each has a line of its own there is a comma behind the last.
+        let ours: Vec<&str> = ours.trim_end_matches(',').split(',').map(str::trim).collect();
+        let theirs: Vec<String> = theirs.split(',').map(as_declared).collect();
+        assert_eq!(ours, theirs, "{name}");
+        declared += 1;
+    }
+    assert_eq!(declared, HEADER.matches("_t runfold_").count());
 }
 
 #[test]

@@ -1,15 +1,24 @@
 //! The known folds of docs/FORMAT.md and the examples of docs/REFUSALS.md, on the library through its safe interface and on the
 //! independent implementation.
 
+use compare::inputs::marking;
 use compare::reference;
 use runfold::Refusal::*;
 use runfold::{find, fold, folded, index, part, read_fold, read_run, unroll, work_entries};
 use runfold::{FoldReading, Found, Kind, Prices, Refusal, RunReading};
 
 const UNIT: [u16; 256] = [1; 256];
+const FREE: [u8; 256] = [0; 256];
 
+/// Every step and group for 1, and no label marked.
 fn prices(first: u16, each: u16) -> Prices<'static> {
-    Prices { steps: &UNIT, groups: &UNIT, first, each }
+    Prices { steps: &UNIT, groups: &UNIT, marks: &FREE, first, each }
+}
+
+/// The same for the independent implementation.
+fn owned(prices: Prices) -> reference::Prices {
+    let Prices { steps, groups, marks, first, each } = prices;
+    reference::Prices { steps: steps.to_vec(), groups: groups.to_vec(), marks: marks.to_vec(), first, each }
 }
 
 fn bytes(hex: &str) -> Vec<u8> {
@@ -29,9 +38,7 @@ fn check(run: &[u8], limit: usize, prices: Prices, expected: &[u8], cost: u64) {
     let mut back = vec![0; run.len()];
     assert_eq!(unroll(expected, limit, &mut back), Ok(run.len()));
     assert_eq!(back, run);
-    let Prices { steps, groups, first, each } = prices;
-    let same = reference::Prices { steps: steps.to_vec(), groups: groups.to_vec(), first, each };
-    let solved = reference::solve(run, limit, &same).unwrap();
+    let solved = reference::solve(run, limit, &owned(prices)).unwrap();
     assert_eq!((solved.bytes, solved.cost), (expected.to_vec(), cost));
 }
 
@@ -68,13 +75,70 @@ fn groups_priced_apart() {
     (steps[1], steps[2]) = (2, 3);
     (groups[1], groups[2], groups[5]) = (5, 1, 9);
     let run = bytes("1105 1001 1101 1002 12 12 1102 1001 12");
-    check(&run, 1024, Prices { steps: &steps, groups: &groups, first: 1, each: 0 }, &run, 22);
+    check(&run, 1024, Prices { steps: &steps, groups: &groups, ..prices(1, 0) }, &run, 22);
+}
+
+#[test]
+fn marked_labels() {
+    let check = |run: &[u8], labels: &[u8], expected: &[u8], cost| {
+        let marks = marking(|label| labels.contains(&label));
+        check(run, 1024, Prices { marks: &marks, ..prices(1, 0) }, expected, cost);
+    };
+    // A marked step is not repeated; a mark of another label changes nothing.
+    let aaa = bytes("20 0003 0001 1001 21");
+    check(&word("aaa"), &[], &aaa, 2);
+    check(&word("aaa"), &[1], &word("aaa"), 3);
+    check(&word("aaa"), &[2], &aaa, 2);
+    // Nor is what holds one: the steps before it still are.
+    let once = [aaa, word("b")].concat();
+    check(&word("aaabaaab"), &[], &[&bytes("20 0002 0004")[..], &once, &[0x21]].concat(), 4);
+    check(&word("aaabaaab"), &[2], &once.repeat(2), 6);
+    check(&word("aaabaaab"), &[1], &word("aaabaaab"), 8);
+    // Two groups are repeated where neither they nor what they hold is marked, however deep.
+    let small = bytes("1105 1001 12");
+    check(&small.repeat(2), &[2], &bytes("20 0002 0001 1105 1001 12 21"), 3);
+    check(&small.repeat(2), &[1], &small.repeat(2), 4);
+    check(&small.repeat(2), &[5], &small.repeat(2), 4);
+    let deep = bytes("1105 1106 1001 12 12");
+    check(&deep.repeat(2), &[], &[bytes("20 0002 0001"), deep.clone(), vec![0x21]].concat(), 4);
+    check(&deep.repeat(2), &[1], &deep.repeat(2), 6);
+    // A marked group may hold a repeat.
+    let group = bytes("1105 20 0003 0001 1001 21 12");
+    check(&bytes("1105 1001 1001 1001 12"), &[5], &group, 3);
+    check(&bytes("1105 1001 1001 1001 12").repeat(2), &[5], &group.repeat(2), 6);
+    // Every label marked: the run itself, at a cost of 1 for each node.
+    let all: Vec<u8> = (0..=255).collect();
+    for (run, nodes) in [(vec![], 0), (word("aaabbb"), 6), (word("ab").repeat(20), 40), (small.repeat(20), 40)] {
+        check(&run, &all, &run, nodes);
+    }
+}
+
+/// A node of a label three times: the repeat is refused where that label is marked, and is the cheapest fold where it is not.
+fn check_mark(node: &[u8], marked: bool, lent: Prices) {
+    let (run, fold) = (node.repeat(3), [&bytes("20 0003 0001")[..], node, &[0x21]].concat());
+    let refused = marked.then_some(MarkedInRepeat { place: 5 });
+    assert_eq!(read_fold(&fold, 1024, lent).err(), refused, "{node:02X?}");
+    let cheapest = if marked { &run } else { &fold };
+    assert_eq!(&folded(&run, 1024, lent).unwrap().0, cheapest, "{node:02X?}");
+}
+
+/// The mark of each label bars its own repeats and those of no other, of steps and of groups.
+#[test]
+fn every_label_has_its_own_mark() {
+    for marked in 0..=u8::MAX {
+        let marks = marking(|label| label == marked);
+        let lent = Prices { marks: &marks, ..prices(1, 0) };
+        for label in 0..=u8::MAX {
+            check_mark(&[0x10, label], label == marked, lent);
+            // What the group holds is free.
+            check_mark(&[0x11, label, 0x10, marked.wrapping_add(1), 0x12], label == marked, lent);
+        }
+    }
 }
 
 /// The fold that wins a tie, and the others of its cost: how many repeats each has, in the order in which they lose.
 fn check_tie(run: &[u8], prices: Prices, cost: u64, folds: &[(usize, &str)]) {
-    let Prices { steps, groups, first, each } = prices;
-    let same = reference::Prices { steps: steps.to_vec(), groups: groups.to_vec(), first, each };
+    let same = owned(prices);
     let mut tied: Vec<_> = reference::every_fold(&reference::decode(run), 1024)
         .into_iter()
         .filter(|fold| reference::read_fold(fold, 1024, &same).cost == cost)
@@ -118,27 +182,126 @@ fn ties() {
     check_tie(&word("aabaabaa"), prices(0, 0), 3, &[(3, &narrow), (3, &wide)]);
 }
 
+/// What is lent is refused before the first command, by fold reader and folder, and by the independent ones.
+fn check_head(input: &[u8], limit: usize, lent: Prices, refusal: Refusal) {
+    assert_eq!(read_fold(input, limit, lent), Err(refusal), "{lent:?}");
+    assert_eq!(folded(input, limit, lent), Err(refusal), "{lent:?}");
+    let expected = [refusal.number() as u64, 0, 0, 0, 0, 0, 0];
+    assert_eq!(reference::read_fold(input, limit, &owned(lent)).numbers(), expected);
+    assert_eq!(reference::solve(input, limit, &owned(lent)).unwrap_err().numbers(), expected);
+}
+
 #[test]
 fn tables_of_other_sizes() {
     let ones = [1; 300];
     for steps in [0, 255, 256, 257] {
         for groups in [0, 255, 256, 257] {
-            let lent = Prices { steps: &ones[..steps], groups: &ones[..groups], first: 1, each: 0 };
-            // 11 before 15, 15 before 12, and 12 before the commands.
+            // 11 before 15, 15 before 12, and 12 before 18 and the commands.
             let refusal = match (steps, groups) {
                 (256, 256) => LimitSize,
                 (256, _) => GroupTableSize,
                 _ => StepTableSize,
             };
-            assert_eq!(read_fold(&[0x13], 1025, lent), Err(refusal), "{steps} and {groups}");
-            assert_eq!(folded(&[0x13], 1025, lent), Err(refusal), "{steps} and {groups}");
+            for marks in [&FREE[..], &FREE[..255], &[2; 256]] {
+                let lent = Prices { steps: &ones[..steps], groups: &ones[..groups], marks, first: 1, each: 0 };
+                check_head(&[0x13], 1025, lent, refusal);
+            }
         }
     }
     // 15 before every command.
     let lent = Prices { groups: &ones[..255], ..prices(1, 0) };
     for command in 0..=u8::MAX {
-        assert_eq!(read_fold(&[command], 1024, lent), Err(GroupTableSize));
-        assert_eq!(folded(&[command], 1024, lent), Err(GroupTableSize));
+        check_head(&[command], 1024, lent, GroupTableSize);
+    }
+}
+
+#[test]
+fn marks_of_other_sizes_and_entries() {
+    let mark = |at: usize, mark: u8| {
+        let mut marks = FREE;
+        marks[at] = mark;
+        marks
+    };
+    let wrong = [&[][..], &[0], &FREE[..255], &[0; 257], &mark(0, 2), &mark(255, 2), &mark(7, 3), &mark(7, 255)];
+    for marks in wrong {
+        let lent = Prices { marks, ..prices(1, 0) };
+        check_head(&[], 1024, lent, WrongMarks);
+        // 18 after 12, and before every command.
+        check_head(&[], 1025, lent, LimitSize);
+        for command in 0..=u8::MAX {
+            check_head(&[command], 1024, lent, WrongMarks);
+        }
+    }
+    // 0 and 1 at any label are in order.
+    for marks in [FREE, [1; 256], mark(0, 1), mark(255, 1)] {
+        check(&word("ab"), 1024, Prices { marks: &marks, ..prices(1, 0) }, &word("ab"), 2);
+    }
+}
+
+/// A fold with these labels marked is refused by the fold reader, and by the independent one.
+fn check_marked(fold: &[u8], labels: &[u8], refusal: Refusal) {
+    let marks = marking(|label| labels.contains(&label));
+    let lent = Prices { marks: &marks, ..prices(1, 0) };
+    assert_eq!(read_fold(fold, 1024, lent), Err(refusal));
+    let numbers = reference::read_fold(fold, 1024, &owned(lent)).numbers();
+    assert_eq!(numbers, [refusal.number() as u64, refusal.place() as u64, 0, 0, 0, 0, 0]);
+}
+
+#[test]
+fn marked_labels_in_repeats() {
+    let refused = |fold: &str, labels: &[u8], place| check_marked(&bytes(fold), labels, MarkedInRepeat { place });
+    // A step; a group or the step in it; one deeper; one behind a repeat in another.
+    refused("20 0003 0001 1001 21", &[1], 5);
+    refused("20 0002 0001 1007 21", &[7], 5);
+    refused("20 0002 0001 1105 1001 12 21", &[5], 5);
+    refused("20 0002 0001 1105 1001 12 21", &[1], 7);
+    refused("20 0002 0001 1105 1001 12 21", &[1, 5], 5);
+    refused("20 0002 0001 1105 1106 1001 12 12 21", &[1], 9);
+    refused("20 0002 0003 20 0002 0001 1002 21 1001 21", &[1], 13);
+    refused("1105 20 0002 0001 1001 21 12", &[1], 7);
+    // A later command does not matter, here a false width and a byte that is none.
+    refused("20 0002 0002 1001 21", &[1], 5);
+    refused("20 0002 0001 1001 13", &[1], 5);
+    // Outside repeats it may stand: before, between and behind them, and as a group that holds one.
+    check_accepted("1001 20 0002 0001 1002 21 1001", 1, &word("abba"));
+    check_accepted("20 0002 0001 1002 21 1001 20 0002 0001 1002 21", 1, &word("bbabb"));
+    check_accepted("1105 20 0003 0001 1001 21 12", 5, &bytes("1105 1001 1001 1001 12"));
+    // Unroller, index builder and finder know no marks.
+    let fold = bytes("20 0003 0001 1001 21");
+    let mut out = [0; 6];
+    assert_eq!((unroll(&fold, 1024, &mut out), out.to_vec()), (Ok(6), word("aaa")));
+    check_found(&fold, &[0], &[0], &[(0x10, 1, 5); 3]);
+}
+
+/// The fold reader takes a fold of this run with one label marked, and so does the independent one.
+fn check_accepted(fold: &str, label: u8, run: &[u8]) {
+    let (fold, marks) = (&bytes(fold), marking(|other| other == label));
+    let lent = Prices { marks: &marks, ..prices(1, 0) };
+    assert_eq!(read_fold(fold, 1024, lent).map(|read| read.length), Ok(run.len()));
+    let read = reference::read_fold(fold, 1024, &owned(lent));
+    assert_eq!((read.refusal, read.length), (0, run.len()));
+    assert_eq!(reference::run_of(fold), run);
+}
+
+#[test]
+fn marks_among_the_other_refusals() {
+    let all: Vec<u8> = (0..=255).collect();
+    // 3 goes first, where there is no label, and what is refused at the 20.
+    check_marked(&bytes("20 0002 0001 10"), &all, Unfinished { place: 6 });
+    check_marked(&bytes("20 0002 0001 11"), &all, Unfinished { place: 6 });
+    check_marked(&bytes("20 0001 0001 1001 21"), &all, SmallCount { place: 0 });
+    check_marked(&bytes("20 0002 0401 1001 21"), &all, Wide { place: 0 });
+    // 8 goes before 19.
+    let repeat = bytes("20 0002 0001");
+    let ninth = [repeat.clone(), bytes("1102").repeat(8), bytes("1101")].concat();
+    check_marked(&ninth, &[], Deep { place: 21 });
+    check_marked(&ninth, &[1], Deep { place: 21 });
+    check_marked(&ninth, &[2], MarkedInRepeat { place: 5 });
+    // 19 goes before 10.
+    for last in ["1001", "1101"] {
+        let over = [repeat.clone(), bytes("1002").repeat(1024), bytes(last)].concat();
+        check_marked(&over, &[], ManyNodes { place: 2053 });
+        check_marked(&over, &[1], MarkedInRepeat { place: 2053 });
     }
 }
 
@@ -196,6 +359,12 @@ fn longest_runs() {
     let run = word("a").repeat(1024);
     assert_eq!(read_run(&run), Ok(RunReading { nodes: 1024, steps: 1024, depth: 0 }));
     assert_eq!(folded(&run, 1024, unit), Ok((bytes("20 0400 0001 1001 21"), 2)));
+    assert_eq!(folded(&run, 1024, Prices { marks: &[1; 256], ..unit }), Ok((run, 1024)));
+    // 20 marked steps with 50 free ones before each, and four behind: 20 times 2 + 1, and 2.
+    let run = [[word("a").repeat(50), word("d")].concat().repeat(20), word("aaaa")].concat();
+    let fold = [bytes("20 0032 0001 1001 21 1004").repeat(20), bytes("20 0004 0001 1001 21")].concat();
+    let far = marking(|label| label == 4);
+    assert_eq!(folded(&run, 1024, Prices { marks: &far, ..unit }), Ok((fold, 62)));
     let over = word("a").repeat(1025);
     let refused = ManyNodes { place: 2048 };
     assert_eq!(read_run(&over), Err(refused));

@@ -1,5 +1,5 @@
 //! The functions of the static library. Nothing checks these declarations against the proved source (`crates/embed`), so they
-//! stand in one place; `include/runfold.h` says the same in C.
+//! stand in one place; `include/runfold.h` says the same in C, and a test compares the two.
 
 // A slice passes as a pointer and its length.
 extern "C" {
@@ -13,6 +13,8 @@ extern "C" {
         steps_len: usize,
         groups: *const u16,
         groups_len: usize,
+        marks: *const u8,
+        marks_len: usize,
         first: u16,
         each: u16,
         answer: *mut u64,
@@ -35,6 +37,8 @@ extern "C" {
         steps_len: usize,
         groups: *const u16,
         groups_len: usize,
+        marks: *const u8,
+        marks_len: usize,
         first: u16,
         each: u16,
         costs: *mut u32,

@@ -1,15 +1,16 @@
 //! The run folder. A *run* is a record of steps and nested groups of steps, as bytes. A *fold* is the same run with nested
-//! repeats, priced by the costs of steps, of groups and of repeats. The folder gives the cheapest fold of a run, the fold
-//! reader reads a fold and gives its cost, the unroller gives the run back, and the finder a single node of it, by an index that
-//! is kept beside the fold. `docs/FORMAT.md` has the bytes of runs and folds.
+//! repeats, priced by the costs of steps, of groups and of repeats; a marked label stands in no repeat. The folder gives
+//! the cheapest fold of a run, the fold reader reads a fold and gives its cost, the unroller gives the run back, and the finder
+//! a single node of it, by an index that is kept beside the fold. `docs/FORMAT.md` has the bytes of runs and folds.
 //!
 //! ```
 //! use runfold::{folded, unroll, Prices, MAX_WIDTH, RUN_ROOM};
 //!
 //! fn main() -> Result<(), Box<dyn std::error::Error>> {
-//!     // aaa, three steps of label 01. Every step and every group costs 1, and so does a repeat of any count.
+//!     // aaa, three steps of label 01.
 //!     let run = [0x10, 0x01, 0x10, 0x01, 0x10, 0x01];
-//!     let prices = Prices { steps: &[1; 256], groups: &[1; 256], first: 1, each: 0 };
+//!     // Every step and every group costs 1, and so does a repeat of any count; no label is marked.
+//!     let prices = Prices { steps: &[1; 256], groups: &[1; 256], marks: &[0; 256], first: 1, each: 0 };
 //!
 //!     // A repeat of count 3 and width 1 over one step.
 //!     let (fold, cost) = folded(&run, MAX_WIDTH, prices)?;
@@ -28,10 +29,10 @@
 //!
 //! The functions behind this crate are compiled from proved Rattle code. Their contracts stand in `crates/embed/src/lib.rt`,
 //! their proofs in `crates/embed/proofs` and the crates below it, and `docs/CERTIFICATE.md` lists what they promise: every
-//! input has an answer, the one that the definitions give; a fold that the folder writes is a fold of its run, and no other
-//! within the width limit is cheaper; of several cheapest it has the fewest repeats, and of several such it is the one whose
-//! bytes come first; the finder gives the node that unrolling writes at the position; no function reads or writes outside the
-//! slices that it is lent.
+//! input has an answer, the one that the definitions give; a fold that the folder writes is a fold of its run within the width
+//! limit and with no marked label in a repeat, and no other such fold is cheaper; of several cheapest it has the fewest
+//! repeats, and of several such it is the one whose bytes come first; the finder gives the node that unrolling writes at the
+//! position; no function reads or writes outside the slices that it is lent.
 //!
 //! The library asks one thing of a caller: a slice that is written overlaps no other. That follows from the types here, so
 //! every function is safe to call with any arguments. None keeps state, and they may run in several threads at once. With the
@@ -90,13 +91,32 @@ pub const fn work_entries(nodes: usize) -> usize {
 /// The bytes of stack that a call takes at most, as measured: what a thread that folds has to have left.
 pub const STACK: usize = 98_304;
 
-/// What steps, groups and repeats cost.
+/// What steps, groups and repeats cost, and which labels may stand in no repeat.
+///
+/// ```
+/// use runfold::{folded, read_fold, Prices, Refusal, MAX_WIDTH};
+///
+/// // Label 01 is that of a bag that is tipped by hand: a fold is to show it as often as the run does.
+/// let mut marks = [0; 256];
+/// marks[0x01] = 1;
+/// let prices = Prices { steps: &[1; 256], groups: &[1; 256], marks: &marks, first: 1, each: 0 };
+///
+/// let run = [0x10, 0x01, 0x10, 0x01, 0x10, 0x01];
+/// assert_eq!(folded(&run, MAX_WIDTH, prices)?, (run.to_vec(), 3));
+/// let fold = [0x20, 0x00, 0x03, 0x00, 0x01, 0x10, 0x01, 0x21];
+/// assert_eq!(read_fold(&fold, MAX_WIDTH, prices), Err(Refusal::MarkedInRepeat { place: 5 }));
+/// # Ok::<(), Refusal>(())
+/// ```
 #[derive(Clone, Copy, Debug, PartialEq, Eq, Hash)]
 pub struct Prices<'a> {
     /// What a step costs by its label, 256 entries; any other number of entries is [`Refusal::StepTableSize`].
     pub steps: &'a [u16],
     /// What a group costs by its label, beside what it holds, 256 entries; any other number is [`Refusal::GroupTableSize`].
     pub groups: &'a [u16],
+    /// The marks of the labels, 256 entries: 1 for a label that may stand nowhere inside a repeat, be it a step's or a group's,
+    /// and 0 for a free one. A marked group may hold repeats; a free group that holds a marked label may not be repeated. Any
+    /// other number of entries, and any other entry, is [`Refusal::WrongMarks`].
+    pub marks: &'a [u8],
     /// What a repeat of count 2 costs, beside its body.
     pub first: u16,
     /// What each count more costs: a repeat costs `first + each × (count − 2)`.
@@ -198,14 +218,14 @@ pub fn part(run: &[u8], at: usize) -> &[u8] {
     }
 }
 
-/// Reads a fold whose widths are at most `limit`, and gives the nodes, bytes, steps and depth of its run and its cost at these
-/// prices.
+/// Reads a fold whose widths are at most `limit` and whose repeats hold no marked label, and gives the nodes, bytes, steps and
+/// depth of its run and its cost at these prices.
 ///
-/// Refusals 1, 3 to 12 and 15.
+/// Refusals 1, 3 to 12, 15, 18 and 19.
 pub fn read_fold(fold: &[u8], limit: usize, prices: Prices) -> Result<FoldReading, Refusal> {
     let mut answer = [0; raw::ENTRIES];
-    let Prices { steps, groups, first, each } = prices;
-    let status = raw::read_fold(fold, limit, steps, groups, first, each, &mut answer);
+    let Prices { steps, groups, marks, first, each } = prices;
+    let status = raw::read_fold(fold, limit, steps, groups, marks, first, each, &mut answer);
     answered(status, &answer)?;
     Ok(FoldReading {
         nodes: answer[raw::NODES] as usize,
@@ -228,8 +248,8 @@ pub fn unroll(fold: &[u8], limit: usize, out: &mut [u8]) -> Result<usize, Refusa
     Ok(answer[raw::LENGTH] as usize)
 }
 
-/// Folds a run: gives the cheapest fold whose widths are at most `limit`; of several, the one with the fewest `20` commands,
-/// each counted once; and of several such, the one whose bytes come first.
+/// Folds a run: gives the cheapest fold whose widths are at most `limit` and whose repeats hold no marked label; of several,
+/// the one with the fewest `20` commands, each counted once; and of several such, the one whose bytes come first.
 ///
 /// `costs` and `choices` are work, of any contents; each needs [`work_entries`] of the run's nodes. [`fold_room`] of them is
 /// always enough for `out`.
@@ -238,7 +258,7 @@ pub fn unroll(fold: &[u8], limit: usize, out: &mut [u8]) -> Result<usize, Refusa
 /// On success and after refusal 14 the entries of both work slices that the run needs are 0, and those behind them as they
 /// were; after any other refusal all are as they were.
 ///
-/// Refusals 1 to 5, 8 and 10 to 15.
+/// Refusals 1 to 5, 8, 10 to 15 and 18.
 ///
 /// ```
 /// use runfold::{fold, fold_room, work_entries, Folding, Prices, Refusal, MAX_WIDTH};
@@ -249,7 +269,7 @@ pub fn unroll(fold: &[u8], limit: usize, out: &mut [u8]) -> Result<usize, Refusa
 /// let mut out = [0; fold_room(NODES)];
 ///
 /// let run = [0x10, 0x01, 0x10, 0x01, 0x10, 0x01];
-/// let prices = Prices { steps: &[1; 256], groups: &[1; 256], first: 1, each: 0 };
+/// let prices = Prices { steps: &[1; 256], groups: &[1; 256], marks: &[0; 256], first: 1, each: 0 };
 /// let folding = fold(&run, MAX_WIDTH, prices, &mut costs, &mut choices, &mut out)?;
 /// assert_eq!(folding, Folding { length: 8, cost: 2 });
 /// assert_eq!(out[..folding.length], [0x20, 0x00, 0x03, 0x00, 0x01, 0x10, 0x01, 0x21]);
@@ -264,15 +284,15 @@ pub fn fold(
     out: &mut [u8],
 ) -> Result<Folding, Refusal> {
     let mut answer = [0; raw::ENTRIES];
-    let Prices { steps, groups, first, each } = prices;
-    let status = raw::fold(run, limit, steps, groups, first, each, costs, choices, out, &mut answer);
+    let Prices { steps, groups, marks, first, each } = prices;
+    let status = raw::fold(run, limit, steps, groups, marks, first, each, costs, choices, out, &mut answer);
     answered(status, &answer)?;
     Ok(Folding { length: answer[raw::LENGTH] as usize, cost: answer[raw::COST] })
 }
 
 /// Folds a run as [`fold`] does, in memory of its own, and gives the bytes of the fold and its cost.
 ///
-/// Refusals 1 to 5, 8, 10 to 12 and 15.
+/// Refusals 1 to 5, 8, 10 to 12, 15 and 18.
 pub fn folded(run: &[u8], limit: usize, prices: Prices) -> Result<(Vec<u8>, u64), Refusal> {
     // A refused run needs no memory: the folder below says which refusal comes first.
     let nodes = read_run(run).map_or(0, |reading| reading.nodes);
@@ -290,7 +310,8 @@ pub fn folded(run: &[u8], limit: usize, prices: Prices) -> Result<(Vec<u8>, u64)
 /// The index then stands at the front of `offsets` and `before`, and what is behind it stays as it was; after a refusal all of
 /// both does. [`MAX_NODES`] entries in each are always enough. Kept beside the fold, it serves [`find`].
 ///
-/// There is no width limit: what is not refused here, [`read_fold`] accepts at [`MAX_WIDTH`].
+/// There are neither a width limit nor marks: what is not refused here, [`read_fold`] accepts at [`MAX_WIDTH`] where no label
+/// is marked.
 ///
 /// Refusals 1, 3 to 6, 8 to 10 and 14.
 pub fn index(fold: &[u8], offsets: &mut [u32], before: &mut [u32]) -> Result<usize, Refusal> {

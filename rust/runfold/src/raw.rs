@@ -12,7 +12,7 @@ use crate::declared;
 pub const ENTRIES: usize = 7;
 /// Where the refusal number stands in an answer, 0 for success.
 pub const REFUSAL: usize = 0;
-/// Where the place of a refusal stands: an offset in the input, 0 for refusals 11 to 17 and on success.
+/// Where the place of a refusal stands: an offset in the input, 0 for refusals 11 to 18 and on success.
 pub const PLACE: usize = 1;
 /// Where the nodes of the run stand (run reader, fold reader).
 pub const NODES: usize = 2;
@@ -53,12 +53,14 @@ pub fn part(run: &[u8], at: usize) -> usize {
 }
 
 /// The fold reader: as [`read_fold`](crate::read_fold), with [`NODES`], [`LENGTH`], [`COST`], [`STEPS`] and [`DEPTH`] in the
-/// answer. `steps` and `groups` have the costs of the labels, as [`Prices`](crate::Prices) says.
+/// answer. `steps` and `groups` have the costs of the labels and `marks` their marks, as [`Prices`](crate::Prices) says.
+#[allow(clippy::too_many_arguments)] // The C function has them.
 pub fn read_fold(
     fold: &[u8],
     limit: usize,
     steps: &[u16],
     groups: &[u16],
+    marks: &[u8],
     first: u16,
     each: u16,
     answer: &mut [u64],
@@ -73,6 +75,8 @@ pub fn read_fold(
             steps.len(),
             groups.as_ptr(),
             groups.len(),
+            marks.as_ptr(),
+            marks.len(),
             first,
             each,
             answer.as_mut_ptr(),
@@ -98,13 +102,14 @@ pub fn unroll(fold: &[u8], limit: usize, out: &mut [u8], answer: &mut [u64]) -> 
 }
 
 /// The folder: as [`fold`](crate::fold), with [`LENGTH`] and [`COST`] in the answer. `steps` and `groups` have the costs of
-/// the labels, as [`Prices`](crate::Prices) says.
+/// the labels and `marks` their marks, as [`Prices`](crate::Prices) says.
 #[allow(clippy::too_many_arguments)] // The C function has them.
 pub fn fold(
     run: &[u8],
     limit: usize,
     steps: &[u16],
     groups: &[u16],
+    marks: &[u8],
     first: u16,
     each: u16,
     costs: &mut [u32],
@@ -122,6 +127,8 @@ pub fn fold(
             steps.len(),
             groups.as_ptr(),
             groups.len(),
+            marks.as_ptr(),
+            marks.len(),
             first,
             each,
             costs.as_mut_ptr(),

@@ -6,7 +6,7 @@ use core::fmt;
 /// Why an input was refused: one variant for each number of `docs/REFUSALS.md`, which has an example of each and the order in
 /// which they are looked for.
 ///
-/// The place is an offset in the input: that of the command that is refused, or for 3 the input's size. Refusals 11 to 17 have
+/// The place is an offset in the input: that of the command that is refused, or for 3 the input's size. Refusals 11 to 18 have
 /// none, which counts as 0. `{}` shows number, place and condition; `?` out of `main` shows the variant.
 ///
 /// ```
@@ -85,13 +85,20 @@ pub enum Refusal {
     PastEnd,
     /// 17: the index is not the one that the builder writes for this fold.
     FalseIndex,
+    /// 18: the marks are not 256 entries, or one is neither 0 nor 1.
+    WrongMarks,
+    /// 19: a marked label inside a repeat, of a step or a group.
+    MarkedInRepeat {
+        /// The offset of the command that has the label.
+        place: usize,
+    },
 }
 
 use Refusal::*;
 
 impl Refusal {
     /// The refusal of a number and a place, as the functions of [`raw`](crate::raw) answer them; none for 0 and for numbers
-    /// that this version does not know. 11 to 17 have no place.
+    /// that this version does not know. 11 to 18 have no place.
     pub const fn numbered(number: u8, place: usize) -> Option<Refusal> {
         Some(match number {
             1 => UnknownCommand { place },
@@ -111,11 +118,13 @@ impl Refusal {
             15 => GroupTableSize,
             16 => PastEnd,
             17 => FalseIndex,
+            18 => WrongMarks,
+            19 => MarkedInRepeat { place },
             _ => return None,
         })
     }
 
-    /// Its number, 1 to 17.
+    /// Its number, 1 to 19.
     pub const fn number(self) -> u8 {
         match self {
             UnknownCommand { .. } => 1,
@@ -135,6 +144,8 @@ impl Refusal {
             GroupTableSize => 15,
             PastEnd => 16,
             FalseIndex => 17,
+            WrongMarks => 18,
+            MarkedInRepeat { .. } => 19,
         }
     }
 
@@ -150,8 +161,9 @@ impl Refusal {
             | Wide { place }
             | Deep { place }
             | FalseWidth { place }
-            | ManyNodes { place } => place,
-            StepTableSize | LimitSize | WorkSize | OutputSize | GroupTableSize | PastEnd | FalseIndex => 0,
+            | ManyNodes { place }
+            | MarkedInRepeat { place } => place,
+            StepTableSize | LimitSize | WorkSize | OutputSize | GroupTableSize | PastEnd | FalseIndex | WrongMarks => 0,
         }
     }
 
@@ -175,6 +187,8 @@ impl Refusal {
             GroupTableSize => "group cost table not of 256 entries",
             PastEnd => "position not below the node total",
             FalseIndex => "index not the one that the builder writes",
+            WrongMarks => "marks not of 256 entries, or an entry above 1",
+            MarkedInRepeat { .. } => "a marked label inside a repeat",
         }
     }
 }
@@ -194,12 +208,12 @@ mod tests {
 
     #[test]
     fn numbers_and_places_come_back() {
-        for number in 1..=17 {
+        for number in 1..=19 {
             let refusal = Refusal::numbered(number, 7).expect("a refusal");
             assert_eq!(refusal.number(), number);
-            assert_eq!(refusal.place(), if number <= 10 { 7 } else { 0 });
+            assert_eq!(refusal.place(), if (11..=18).contains(&number) { 0 } else { 7 });
         }
-        for other in [0, 18, crate::raw::SHORT] {
+        for other in [0, 20, crate::raw::SHORT] {
             assert_eq!(Refusal::numbered(other, 0), None);
         }
     }

@@ -3,7 +3,7 @@
 //!
 //! Usage: `differential [SEED [SCALE]]`. One seed and scale give one run. The first difference ends it and prints its input.
 
-use compare::inputs::{self, depth, Random};
+use compare::inputs::{self, depth, marking, Random};
 use compare::reference::{self, decode, Answer, Item, Listed, Prices, Ranked, Solved};
 use runfold::raw::{self, ENTRIES, SHORT};
 use runfold::{work_entries, MAX_NODES, MAX_WIDTH, RUN_ROOM};
@@ -27,22 +27,57 @@ const ENTRY_NAMES: [&str; 7] =
     ["run reader", "part of a node", "fold reader", "unroller", "folder", "index builder", "finder"];
 
 /// One more than the highest refusal.
-const NUMBERS: usize = 18;
+const NUMBERS: usize = 20;
 
 /// The refusals that each entry point can give.
 const POSSIBLE: [&[u8]; 7] = [
     &[1, 2, 3, 4, 5, 8, 10],
     &[],
-    &[1, 3, 4, 5, 6, 7, 8, 9, 10, 11, 12, 15],
+    &[1, 3, 4, 5, 6, 7, 8, 9, 10, 11, 12, 15, 18, 19],
     &[1, 3, 4, 5, 6, 7, 8, 9, 10, 12, 14],
-    &[1, 2, 3, 4, 5, 8, 10, 11, 12, 13, 14, 15],
+    &[1, 2, 3, 4, 5, 8, 10, 11, 12, 13, 14, 15, 18],
     &[1, 3, 4, 5, 6, 8, 9, 10, 14],
     &[1, 3, 4, 5, 6, 8, 9, 10, 16, 17],
 ];
 
-/// What the folder, by a trial of every fold, and index builder and finder have to be compared on: a case that never came up is
-/// a failure.
-const CASES: [&str; 37] = [
+/// What has to come up, of fold reader and folder where labels are marked, of the folder by a trial of every fold, and of index
+/// builder and finder: a case that never did is a failure.
+const CASES: [&str; 72] = [
+    "11 where 18 applies too, fold reader",
+    "11 where 18 applies too, folder",
+    "15 where 18 applies too, fold reader",
+    "15 where 18 applies too, folder",
+    "12 where 18 applies too, fold reader",
+    "12 where 18 applies too, folder",
+    "18 by too few marks, fold reader",
+    "18 by too few marks, folder",
+    "18 by too many marks, fold reader",
+    "18 by too many marks, folder",
+    "18 by a mark above 1, fold reader",
+    "18 by a mark above 1, folder",
+    "18 where a command is refused too, fold reader",
+    "18 where a command is refused too, folder",
+    "19 at a step",
+    "19 at a group",
+    "19 in a group in a repeat",
+    "19 right behind a repeat in a repeat",
+    "19 at a step where 10 applies too",
+    "19 at a group where 10 applies too",
+    "8 at a marked group in a repeat",
+    "3 for a missing label in a repeat, every label marked",
+    "a fold read with repeats and a marked label outside them",
+    "a fold of 19 unrolled",
+    "a fold written of a run with a marked label",
+    "such a fold with repeats",
+    "a long run with a marked label",
+    "such a run whose fold has repeats",
+    "a fold that marks change",
+    "a fold that marks change at the same cost",
+    "a fold that marks leave no repeat of",
+    "a fold that marks change and that has repeats",
+    "a fold that has more repeats by marks",
+    "a fold with a marked group that holds a repeat",
+    "a group not repeated since it holds a marked label",
     "a tie that fewer repeats decide against byte order",
     "such a tie inside a group",
     "a tie of as many repeats, which byte order decides",
@@ -106,15 +141,16 @@ fn hex(bytes: &[u8]) -> String {
     })
 }
 
-/// Prices in few words: the costs of a table are in hexadecimal, four digits each, where they differ.
+/// Prices in few words: the entries of a table are in hexadecimal, four digits each, where they differ.
 fn shown(prices: &Prices) -> String {
-    let table = |costs: &[u16]| match costs.first() {
-        Some(cost) if costs.iter().all(|other| other == cost) => format!("all {cost}"),
-        _ => costs.iter().map(|cost| format!("{cost:04X}")).collect(),
+    let table = |entries: &[u16]| match entries.first() {
+        Some(entry) if entries.iter().all(|other| other == entry) => format!("all {entry}"),
+        _ => entries.iter().map(|entry| format!("{entry:04X}")).collect(),
     };
-    let Prices { steps, groups, first, each } = prices;
-    let [a, b] = [steps, groups].map(|costs| format!("{} costs {}", costs.len(), table(costs)));
-    format!("steps: {a}, groups: {b}, first {first}, each {each}")
+    let Prices { steps, groups, marks, first, each } = prices;
+    let marks: Vec<u16> = marks.iter().map(|&mark| mark.into()).collect();
+    let [a, b, c] = [steps, groups, &marks].map(|entries| format!("{} entries {}", entries.len(), table(entries)));
+    format!("steps: {a}, groups: {b}, marks: {c}, first {first}, each {each}")
 }
 
 /// The commands and labels of the nodes of a run, in their order.
@@ -132,25 +168,59 @@ fn nodes_of(run: &[u8]) -> Vec<[u8; 2]> {
     nodes
 }
 
-/// How many groups are open behind these commands, the first of a fold.
-fn groups_open(commands: &[u8]) -> usize {
-    let (mut open, mut at) = (0, 0);
+/// The commands that opened what is open behind these, the first of a fold, and the offset behind the last of them, which is
+/// past the end where it is cut off.
+fn open_behind(commands: &[u8]) -> (Vec<u8>, usize) {
+    let (mut open, mut at) = (Vec::new(), 0);
     while at < commands.len() {
+        match commands[at] {
+            0x11 | 0x20 => open.push(commands[at]),
+            0x12 | 0x21 => {
+                open.pop();
+            }
+            _ => {}
+        }
         at += match commands[at] {
-            0x10 => 2,
-            0x11 => {
-                open += 1;
-                2
-            }
-            0x12 => {
-                open -= 1;
-                1
-            }
+            0x10 | 0x11 => 2,
             0x20 => 5,
             _ => 1,
         };
     }
-    open
+    (open, at)
+}
+
+/// The items with every group a step of its label.
+fn without_bodies(items: &[Item]) -> Vec<Item> {
+    items
+        .iter()
+        .map(|item| match item {
+            Item::Step(label) | Item::Group(label, _) => Item::Step(*label),
+            Item::Repeat(count, width, body) => Item::Repeat(*count, *width, without_bodies(body)),
+        })
+        .collect()
+}
+
+/// Whether there is an item that is so, at any depth.
+fn any_item(items: &[Item], so: &dyn Fn(&Item) -> bool) -> bool {
+    items.iter().any(|item| {
+        so(item)
+            || match item {
+                Item::Step(_) => false,
+                Item::Group(_, body) | Item::Repeat(_, _, body) => any_item(body, so),
+            }
+    })
+}
+
+/// Whether bytes end in a step or a group without its label.
+fn label_missing(bytes: &[u8]) -> bool {
+    bytes
+        .split_last()
+        .is_some_and(|(last, commands)| [0x10, 0x11].contains(last) && open_behind(commands).1 == commands.len())
+}
+
+/// Whether a marked label stands in a repeat of these items.
+fn mark_repeated(items: &[Item], prices: &Prices) -> bool {
+    any_item(items, &|item| matches!(item, Item::Repeat(_, _, body) if prices.mark_in(body)))
 }
 
 /// Wrong numbers of repeats: those that a repeat holds count as often as it goes over them; those in groups count for nothing.
@@ -176,15 +246,15 @@ fn outside_groups(items: &[Item]) -> usize {
 }
 
 /// Entries that no call writes by chance: each says where it stands.
-fn marked_bytes(n: usize) -> Vec<u8> {
+fn stamped_bytes(n: usize) -> Vec<u8> {
     (0..n).map(|k| 0xA5 ^ (k as u8).wrapping_mul(29)).collect()
 }
 
-fn marked_words(n: usize) -> Vec<u32> {
+fn stamped_words(n: usize) -> Vec<u32> {
     (0..n).map(|k| 0xDEAD_0000 ^ k as u32).collect()
 }
 
-fn marked_answer(n: usize) -> Vec<u64> {
+fn stamped_answer(n: usize) -> Vec<u64> {
     (0..n).map(|k| 0xFEED_FACE_0000_0000 + k as u64).collect()
 }
 
@@ -212,7 +282,7 @@ impl Compare {
             0 => self.random.below(ENTRIES),
             k => ENTRIES + k % 3,
         };
-        marked_answer(entries)
+        stamped_answer(entries)
     }
 
     /// Holds a status and an answer slice to what is expected; says whether the slice was long enough.
@@ -226,7 +296,7 @@ impl Compare {
         expected: [u64; ENTRIES],
     ) -> bool {
         self.calls[entry as usize] += 1;
-        let mut after = marked_answer(answer.len());
+        let mut after = stamped_answer(answer.len());
         let enough = after.len() >= ENTRIES;
         let refusal = expected[raw::REFUSAL] as u8;
         if enough {
@@ -287,13 +357,18 @@ impl Compare {
     fn fold_reader(&mut self, fold: &[u8], limit: usize, prices: &Prices) {
         let call = || format!("limit {limit}, {}", shown(prices));
         let mut answer = self.answer_slice();
-        let Prices { steps, groups, first, each } = prices;
-        let status = raw::read_fold(fold, limit, steps, groups, *first, *each, &mut answer);
-        let expected = reference::read_fold(fold, limit, prices).numbers();
-        self.check_answer(Entry::Fold, fold, &call, status, &answer, expected);
+        let Prices { steps, groups, marks, first, each } = prices;
+        let status = raw::read_fold(fold, limit, steps, groups, marks, *first, *each, &mut answer);
+        let expected = reference::read_fold(fold, limit, prices);
+        if self.check_answer(Entry::Fold, fold, &call, status, &answer, expected.numbers()) {
+            let refused = || reference::unroll(fold, limit, usize::MAX).0.refusal != 0;
+            self.wrong_marks(Entry::Fold, expected.refusal, &prices.marks, &refused);
+            self.marks_in_fold(fold, limit, prices, expected);
+        }
     }
 
-    fn unroller(&mut self, fold: &[u8], limit: usize) {
+    /// The unroller; says whether a run was written.
+    fn unroller(&mut self, fold: &[u8], limit: usize) -> bool {
         let (unbounded, run) = reference::unroll(fold, limit, usize::MAX);
         let room = match self.random.below(4) {
             0 if !run.is_empty() => run.len() - 1 - self.random.below(run.len()),
@@ -304,14 +379,15 @@ impl Compare {
             if unbounded.refusal == 0 { reference::unroll(fold, limit, room) } else { (unbounded, run) };
         let call = || format!("limit {limit}, output of {room} bytes");
         let mut answer = self.answer_slice();
-        let mut out = marked_bytes(room);
+        let mut out = stamped_bytes(room);
         let status = raw::unroll(fold, limit, &mut out, &mut answer);
         let enough = self.check_answer(Entry::Unroll, fold, &call, status, &answer, expected.numbers());
-        let mut after = marked_bytes(room);
+        let mut after = stamped_bytes(room);
         if enough {
             after[..run.len()].copy_from_slice(&run);
         }
         self.check_slice(Entry::Unroll, fold, &call, "output", &out, &after);
+        enough && expected.refusal == 0
     }
 
     /// How many entries to lend where so many are needed: mostly enough.
@@ -334,12 +410,13 @@ impl Compare {
         };
         let call = || format!("limit {limit}, {}, work of {a} and {b} entries, output of {room} bytes", shown(prices));
         let mut answer = self.answer_slice();
-        let (mut costs, mut choices, mut out) = (marked_words(a), marked_words(b), marked_bytes(room));
+        let (mut costs, mut choices, mut out) = (stamped_words(a), stamped_words(b), stamped_bytes(room));
         let status = raw::fold(
             run,
             limit,
             &prices.steps,
             &prices.groups,
+            &prices.marks,
             prices.first,
             prices.each,
             &mut costs,
@@ -348,8 +425,8 @@ impl Compare {
             &mut answer,
         );
         let enough = self.check_answer(Entry::Folder, run, &call, status, &answer, expected.numbers());
-        let mut after = marked_bytes(room);
-        let (mut costs_after, mut choices_after) = (marked_words(a), marked_words(b));
+        let mut after = stamped_bytes(room);
+        let (mut costs_after, mut choices_after) = (stamped_words(a), stamped_words(b));
         if enough {
             after[..bytes.len()].copy_from_slice(&bytes);
             if expected.refusal == 0 || expected.refusal == 14 {
@@ -360,16 +437,31 @@ impl Compare {
         self.check_slice(Entry::Folder, run, &call, "output", &out, &after);
         self.check_slice(Entry::Folder, run, &call, "first work slice", &costs, &costs_after);
         self.check_slice(Entry::Folder, run, &call, "second work slice", &choices, &choices_after);
+        if enough {
+            let refused = || reference::read_run(run).refusal != 0;
+            self.wrong_marks(Entry::Folder, expected.refusal, &prices.marks, &refused);
+        }
         let written = enough && expected.refusal == 0;
         if written {
-            self.written += 1;
-            if prices.steps != prices.groups {
-                let read = reference::read_run(run);
-                self.unlike_tables += u64::from(read.steps < read.nodes);
-            }
-            self.longest = self.longest.max(nodes);
+            self.fold_written(run, prices, &bytes);
         }
         written
+    }
+
+    /// Counts a fold that was written.
+    fn fold_written(&mut self, run: &[u8], prices: &Prices, fold: &[u8]) {
+        self.written += 1;
+        let read = reference::read_run(run);
+        if prices.steps != prices.groups {
+            self.unlike_tables += u64::from(read.steps < read.nodes);
+        }
+        if prices.mark_in(&decode(run)) {
+            self.reached("a fold written of a run with a marked label");
+            if fold != run {
+                self.reached("such a fold with repeats");
+            }
+        }
+        self.longest = self.longest.max(read.nodes);
     }
 
     fn limit(&mut self) -> usize {
@@ -383,7 +475,8 @@ impl Compare {
         }
     }
 
-    fn prices(&mut self) -> Prices {
+    /// Tables of 256 entries, and marks of 256 labels.
+    fn sound_prices(&mut self) -> Prices {
         let r = &mut self.random;
         let (steps, first, each): (Vec<u16>, u16, u16) = match r.below(8) {
             0 | 1 => (vec![1; 256], 1, 0),
@@ -401,7 +494,16 @@ impl Compare {
             3 => vec![*r.pick(&[0, 2, 4, 65535]); 256],
             _ => (0..256).map(|_| r.below(65536) as u16).collect(),
         };
-        let mut prices = Prices { steps, groups, first, each };
+        Prices { steps, groups, marks: inputs::marks(r), first, each }
+    }
+
+    /// The same, but for a table or the marks now and then.
+    fn prices(&mut self) -> Prices {
+        let mut prices = self.sound_prices();
+        let r = &mut self.random;
+        if r.once_in(60) {
+            prices.marks = inputs::wrong_marks(r, prices.marks);
+        }
         if r.once_in(60) {
             let sizes = [0, 1, 255, 257, 300];
             let which = r.below(3);
@@ -412,14 +514,6 @@ impl Compare {
                 prices.groups.resize(*r.pick(&sizes), 1);
             }
         }
-        prices
-    }
-
-    /// Prices with tables of the right size.
-    fn sound_prices(&mut self) -> Prices {
-        let mut prices = self.prices();
-        prices.steps.resize(256, 1);
-        prices.groups.resize(256, 1);
         prices
     }
 
@@ -437,24 +531,37 @@ impl Compare {
         }
     }
 
-    /// Every fold of a run, tried: of the cheapest of them the one with the fewest repeats, and of several such the first in byte
-    /// order, is what the folder writes.
+    /// Every fold of a run, tried: of the cheapest of them that repeat no marked label the one with the fewest repeats, and of
+    /// several such the first in byte order, is what the folder writes.
     fn trial(&mut self, items: &[Item], limit: usize, prices: &Prices) {
         let run = inputs::bytes_of(items);
+        let unmarked = prices.unmarked();
         let mut folds: Vec<Ranked> = reference::every_fold(items, limit)
             .into_iter()
             .map(|bytes| {
-                let read = reference::read_fold(&bytes, limit, prices);
+                let read = reference::read_fold(&bytes, limit, &unmarked);
                 assert!(read.refusal == 0 && reference::run_of(&bytes) == run, "no fold: {}", hex(&bytes));
                 Ranked { cost: read.cost, repeats: reference::count_repeats(&decode(&bytes)), bytes }
             })
             .collect();
         folds.sort();
+        let without_marks = folds[0].clone();
+        let (barred, mut folds): (Vec<_>, Vec<_>) = folds.into_iter().partition(|Ranked { bytes, .. }| {
+            let barred = mark_repeated(&decode(bytes), prices);
+            let refusal = reference::read_fold(bytes, limit, prices).refusal;
+            assert_eq!(refusal, if barred { 19 } else { 0 }, "{}", hex(bytes));
+            barred
+        });
         let cost = folds[0].cost;
         folds.retain(|fold| fold.cost == cost);
         let solved = Solved { nodes: reference::count_nodes(items), cost, bytes: folds[0].bytes.clone() };
         if self.folder(&run, limit, prices, &Ok(solved)) {
             self.tie(&folds);
+            self.moved_by_marks(&folds[0], &without_marks, prices);
+        }
+        if !barred.is_empty() {
+            let fold = self.random.pick(&barred).bytes.clone();
+            self.barred(&fold, limit, prices);
         }
         self.against_trial += 1;
     }
@@ -463,6 +570,17 @@ impl Compare {
     fn trials_of_ties(&mut self, items: &[Item]) {
         for each in [0, 1] {
             self.trial(items, MAX_WIDTH, &Prices::by_label(vec![1; 256], 0, each));
+        }
+    }
+
+    /// The same where label 1 is marked, at some prices. At the last of them it costs nothing, so that a fold that repeats it
+    /// can cost the same as one that does not.
+    fn trials_of_marks(&mut self, items: &[Item]) {
+        for (one, first, each) in [(1, 1, 0), (1, 0, 0), (1, 0, 1), (0, 1, 0)] {
+            let mut costs = vec![1; 256];
+            costs[1] = one;
+            let prices = Prices::by_label(costs, first, each);
+            self.trial(items, MAX_WIDTH, &Prices { marks: marking(|label| label == 1), ..prices });
         }
     }
 
@@ -477,7 +595,7 @@ impl Compare {
         if by_bytes != best {
             self.reached("a tie that fewer repeats decide against byte order");
             let at = (0..).find(|&k| best.bytes[k] != by_bytes.bytes[k]).unwrap();
-            if groups_open(&best.bytes[..at]) > 0 {
+            if open_behind(&best.bytes[..at]).0.contains(&0x11) {
                 self.reached("such a tie inside a group");
             }
         }
@@ -499,8 +617,8 @@ impl Compare {
     /// is the lowest; and no fold of that cost has fewer repeats.
     fn cost_and_repeats(&mut self, items: &[Item], limit: usize, prices: &Prices) {
         let run = inputs::bytes_of(items);
-        let Prices { steps, groups, first, each } = prices;
-        let lent = runfold::Prices { steps, groups, first: *first, each: *each };
+        let Prices { steps, groups, marks, first, each } = prices;
+        let lent = runfold::Prices { steps, groups, marks, first: *first, each: *each };
         let (bytes, cost) = runfold::folded(&run, limit, lent).expect("the run is sound");
         let call = || format!("limit {limit}, {}", shown(prices));
         let (lowest, fewest) = reference::lowest(items, limit, prices);
@@ -518,6 +636,12 @@ impl Compare {
         self.calls[Entry::Folder as usize] += 1;
         self.refusals[Entry::Folder as usize][0] += 1;
         self.against_lowest += 1;
+        if prices.mark_in(items) {
+            self.reached("a long run with a marked label");
+            if repeats > 0 {
+                self.reached("such a run whose fold has repeats");
+            }
+        }
         self.longest = self.longest.max(reference::count_nodes(items));
         self.deepest = self.deepest.max(depth(items));
         self.fold_reader(&bytes, limit, prices);
@@ -531,13 +655,142 @@ impl Compare {
         self.run_reader(bytes);
         let at = self.random.below(bytes.len() + 3);
         self.part(bytes, at);
-        self.fold_reader(bytes, limit, &prices);
         self.unroller(bytes, limit);
         self.index_and_find(bytes);
+        self.priced(bytes, limit, &prices);
+    }
+
+    /// The same through those that take costs.
+    fn priced(&mut self, bytes: &[u8], limit: usize, prices: &Prices) {
+        self.fold_reader(bytes, limit, prices);
         // A long sequence is left to the other comparisons: the independent folder is slow.
         if bytes.len() <= 120 || reference::read_run(bytes).refusal != 0 {
-            let solved = reference::solve(bytes, limit, &prices);
-            self.folder(bytes, limit, &prices, &solved);
+            let solved = reference::solve(bytes, limit, prices);
+            self.folder(bytes, limit, prices, &solved);
+        }
+    }
+}
+
+/// Marks.
+impl Compare {
+    /// Which refusal comes where the lent marks are not in order, of fold reader or folder. `refused` says whether a command is
+    /// refused too.
+    fn wrong_marks(&mut self, entry: Entry, refusal: u8, marks: &[u8], refused: &dyn Fn() -> bool) {
+        let wrong = match marks.len() {
+            256 if marks.iter().all(|&mark| mark <= 1) => return,
+            256 => "a mark above 1",
+            ..256 => "too few marks",
+            _ => "too many marks",
+        };
+        let name = ENTRY_NAMES[entry as usize];
+        if refusal != 18 {
+            return self.reached(&format!("{refusal} where 18 applies too, {name}"));
+        }
+        self.reached(&format!("18 by {wrong}, {name}"));
+        if refused() {
+            self.reached(&format!("18 where a command is refused too, {name}"));
+        }
+    }
+
+    /// What marks decide at a command, by what the fold reader answers.
+    fn marks_in_fold(&mut self, fold: &[u8], limit: usize, prices: &Prices, answer: Answer) {
+        let place = answer.place;
+        let in_repeat = |end: usize| open_behind(&fold[..end]).0.contains(&0x20);
+        let both = |items: &[Item]| reference::count_repeats(items) > 0 && prices.mark_in(items);
+        match answer.refusal {
+            0 if both(&decode(fold)) => self.reached("a fold read with repeats and a marked label outside them"),
+            3 if prices.marks == [1; 256] && label_missing(fold) && in_repeat(fold.len() - 1) => {
+                self.reached("3 for a missing label in a repeat, every label marked");
+            }
+            8 if fold[place] == 0x11 && prices.marked(fold[place + 1]) && in_repeat(place) => {
+                self.reached("8 at a marked group in a repeat");
+            }
+            19 => self.marked_in_repeat(fold, limit, prices, place),
+            _ => {}
+        }
+    }
+
+    /// A marked label in a repeat, at the place of the refusal.
+    fn marked_in_repeat(&mut self, fold: &[u8], limit: usize, prices: &Prices, place: usize) {
+        let kind = if fold[place] == 0x10 { "step" } else { "group" };
+        self.reached(&format!("19 at a {kind}"));
+        if open_behind(&fold[..place]).0.ends_with(&[0x11]) {
+            self.reached("19 in a group in a repeat");
+        }
+        if fold[place - 1] == 0x21 && open_behind(&fold[..place - 1]).1 == place - 1 {
+            self.reached("19 right behind a repeat in a repeat");
+        }
+        let unmarked = reference::read_fold(fold, limit, &prices.unmarked());
+        if (unmarked.refusal, unmarked.place) == (10, place) {
+            self.reached(&format!("19 at a {kind} where 10 applies too"));
+        }
+    }
+
+    /// A fold that is refused by its marks alone: what takes no costs knows no marks.
+    fn barred(&mut self, fold: &[u8], limit: usize, prices: &Prices) {
+        self.fold_reader(fold, limit, prices);
+        self.index_and_find(fold);
+        if self.unroller(fold, limit) {
+            self.reached("a fold of 19 unrolled");
+        }
+    }
+
+    /// What marks change: the cheapest fold by them, and the cheapest without.
+    fn moved_by_marks(&mut self, best: &Ranked, unmarked: &Ranked, prices: &Prices) {
+        let has_repeat = |body: &[Item]| reference::count_repeats(body) > 0;
+        let holds = |item: &Item| matches!(item, Item::Group(label, body) if prices.marked(*label) && has_repeat(body));
+        if any_item(&decode(&best.bytes), &holds) {
+            self.reached("a fold with a marked group that holds a repeat");
+        }
+        if best == unmarked {
+            return;
+        }
+        self.reached("a fold that marks change");
+        self.reached(match best.repeats {
+            0 => "a fold that marks leave no repeat of",
+            _ => "a fold that marks change and that has repeats",
+        });
+        if best.cost == unmarked.cost {
+            self.reached("a fold that marks change at the same cost");
+        }
+        if best.repeats > unmarked.repeats {
+            self.reached("a fold that has more repeats by marks");
+        }
+        // The labels of the repeat's own level are free.
+        let inside = |body: &[Item]| prices.mark_in(body) && !prices.mark_in(&without_bodies(body));
+        if any_item(&decode(&unmarked.bytes), &|item| matches!(item, Item::Repeat(_, _, body) if inside(body))) {
+            self.reached("a group not repeated since it holds a marked label");
+        }
+    }
+
+    /// Bytes with each of them as the one label that is marked, and as the one that is free, and with every label marked.
+    fn marks_in_turn(&mut self, bytes: &[u8]) {
+        let mut labels = bytes.to_vec();
+        labels.sort();
+        labels.dedup();
+        let prices = self.sound_prices();
+        let each = |&label: &u8| [marking(|other| other == label), marking(|other| other != label)];
+        for marks in labels.iter().flat_map(each).chain([vec![1; 256]]) {
+            self.priced(bytes, MAX_WIDTH, &Prices { marks, ..prices.clone() });
+        }
+    }
+
+    /// At times some labels that few nodes have, so that long stretches lie between those that are marked.
+    fn rare_labels(&mut self, items: &mut [Item]) {
+        if self.random.once_in(2) {
+            inputs::noise(&mut self.random, items, 8, 60);
+        }
+    }
+
+    /// Bytes with marks that are not in order, where a table, the limit or nothing before them is refused.
+    fn wrong_heads(&mut self, bytes: &[u8]) {
+        let above = marking(|label| label == 7).into_iter().map(|mark| 2 * mark).collect();
+        for marks in [vec![0; 255], vec![0; 257], above] {
+            for (steps, groups, over) in [(255, 255, 1), (256, 257, 1), (256, 256, 1), (256, 256, 0)] {
+                let (steps, groups) = (vec![1; steps], vec![1; groups]);
+                let prices = Prices { steps, groups, marks: marks.clone(), first: 1, each: 0 };
+                self.priced(bytes, MAX_WIDTH + over, &prices);
+            }
         }
     }
 }
@@ -557,10 +810,10 @@ impl Compare {
         let expected = listed.map_or_else(|refused| refused.numbers(), |listed| listed.indexed(a, b));
         let call = || format!("slices of {a} and {b} entries");
         let mut answer = self.answer_slice();
-        let (mut offsets, mut before) = (marked_words(a), marked_words(b));
+        let (mut offsets, mut before) = (stamped_words(a), stamped_words(b));
         let status = raw::index(fold, &mut offsets, &mut before, &mut answer);
         self.check_answer(Entry::Index, fold, &call, status, &answer, expected);
-        let (mut offsets_after, mut before_after) = (marked_words(a), marked_words(b));
+        let (mut offsets_after, mut before_after) = (stamped_words(a), stamped_words(b));
         let entries = listed.map_or(0, |listed| listed.offsets.len());
         if let (0, Ok(listed)) = (status, listed) {
             offsets_after[..entries].copy_from_slice(&listed.offsets);
@@ -844,6 +1097,29 @@ fn edges() -> Vec<Vec<u8>> {
     ]
 }
 
+/// The folds that stand at the edges of what marks bar, with labels that can be marked in turn.
+fn edges_of_marks() -> Vec<Vec<u8>> {
+    let open = [0x20, 0, 2, 0, 1];
+    let twice = |body: &[u8]| [&open, body, &[0x21]].concat();
+    let group = |label: u8, body: &[u8]| [&[0x11, label], body, &[0x12]].concat();
+    vec![
+        // In a repeat, and in groups in one.
+        twice(&[0x10, 0xFF]),
+        twice(&group(1, &[0x10, 2])),
+        twice(&group(1, &group(2, &[0x10, 3]))),
+        // Before, between and behind repeats, also inside another, and with repeats in a group.
+        [&[0x10, 1][..], &twice(&[0x10, 2]), &[0x10, 3], &twice(&[0x10, 4]), &[0x10, 5]].concat(),
+        [&[0x20, 0, 2, 0, 4, 0x10, 1][..], &twice(&[0x10, 2]), &[0x10, 3, 0x21]].concat(),
+        group(1, &[&[0x10, 2][..], &twice(&[0x10, 3]), &[0x10, 4]].concat()),
+        // A label that is missing, that of a 9th group, and that of a 1,025th node.
+        [&open[..], &[0x10]].concat(),
+        [&open[..], &[0x11]].concat(),
+        [&open[..], &[0x11, 2].repeat(8), &[0x11, 1]].concat(),
+        [&open[..], &[0x10, 2].repeat(1024), &[0x10, 1]].concat(),
+        [&open[..], &[0x10, 2].repeat(1024), &[0x11, 1]].concat(),
+    ]
+}
+
 fn main() {
     let mut args = std::env::args().skip(1).map(|word| word.parse::<u64>().expect("a number"));
     let seed = args.next().unwrap_or(1);
@@ -866,7 +1142,7 @@ fn main() {
     };
     let done = |what: &str| println!("{:6.1} s  {what}", began.elapsed().as_secs_f64());
 
-    for input in edges() {
+    for input in [edges(), edges_of_marks()].concat() {
         for limit in [1024, 0, 1, 2, 1023, 1025] {
             let prices = c.prices();
             c.fold_reader(&input, limit, &prices);
@@ -875,6 +1151,11 @@ fn main() {
         c.run_reader(&input);
         c.parts(&input);
         c.every_position(&input);
+        // Several times, since a lent answer is too short now and then.
+        for _ in 0..4 {
+            c.marks_in_turn(&input);
+            c.wrong_heads(&input);
+        }
         for _ in 0..scale {
             c.any_bytes(&input);
         }
@@ -913,6 +1194,7 @@ fn main() {
                 c.trial(items, limit, &prices);
             }
             c.trials_of_ties(items);
+            c.trials_of_marks(items);
         });
     }
     for n in 7..=10 {
@@ -920,6 +1202,7 @@ fn main() {
             let (limit, prices) = (c.limit().min(1024), c.sound_prices());
             c.trial(items, limit, &prices);
             c.trials_of_ties(items);
+            c.trials_of_marks(items);
         });
     }
     done("a trial of every fold of short runs");
@@ -932,7 +1215,7 @@ fn main() {
         };
         let nodes = 10 + c.random.below(most);
         let labels = 1 + c.random.below(4);
-        let items = match k % 4 {
+        let mut items = match k % 4 {
             0 => inputs::deep_run(&mut c.random, nodes.max(20), labels, 8),
             1 => inputs::regular_run(&mut c.random, nodes),
             _ => {
@@ -940,6 +1223,7 @@ fn main() {
                 inputs::structured_run(&mut c.random, nodes, labels, depth)
             }
         };
+        c.rare_labels(&mut items);
         let run = inputs::bytes_of(&items);
         c.run_reader(&run);
         let at = c.random.below(run.len());
@@ -949,14 +1233,18 @@ fn main() {
     }
     done("structured and regular runs, groups down to eight levels");
 
+    // Marks far apart, whatever is drawn.
+    let far = inputs::families::steps(inputs::word("(a^50 d)^n", MAX_NODES));
+    c.cost_and_repeats(&far, MAX_WIDTH, &Prices { marks: marking(|label| label == 4), ..unit() });
     for k in 0..2 * scale {
         let nodes = if k % 4 == 0 { 1024 } else { 300 + c.random.below(725) };
         let (labels, depth) = (1 + c.random.below(4), c.random.below(9));
-        let items = match k % 3 {
+        let mut items = match k % 3 {
             0 => inputs::structured_run(&mut c.random, nodes, labels, depth),
             1 => inputs::deep_run(&mut c.random, nodes, labels, 8),
             _ => inputs::regular_run(&mut c.random, nodes),
         };
+        c.rare_labels(&mut items);
         let (limit, prices) = (c.limit().min(1024), c.sound_prices());
         c.cost_and_repeats(&items, limit, &prices);
     }
@@ -1026,7 +1314,7 @@ fn main() {
         println!("NO FOLD WITH GROUPS PRICED UNLIKE STEPS");
         exit(1);
     }
-    println!("\nties, indexes and positions");
+    println!("\nmarks, ties, indexes and positions");
     for (case, count) in CASES.iter().zip(c.cases) {
         println!("  {case:62} {count:8}");
     }

@@ -1,6 +1,6 @@
 //! Writes the runs of 1,024 nodes and the prices of the benchmark to standard output, for scripts/beside.sh. The parts of a line
-//! stand between tabs: `prices`, a name and 514 numbers, the costs of steps, the costs of groups, first and each; or `run`, a
-//! family and the bytes in hexadecimal.
+//! stand between tabs: `prices`, a name and 514 numbers, the costs of steps, the costs of groups, first and each (no label is
+//! marked); or `run`, a family and the bytes in hexadecimal.
 
 use compare::inputs::{bytes_of, families, price_sets};
 use runfold::MAX_NODES;
