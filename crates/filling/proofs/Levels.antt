@@ -1,11 +1,12 @@
 -- Filling a level: what a row is solved from, what one more row enters, and the end of the last.
 use mathlib.Core.Path.{_≡_, refl, _∙_}
 use mathlib.Core.List.{List}
-use Prim.Native.Nat.{ℕ, zero, suc, _+_, _-_, _<_, _≤_}
+use Prim.Native.Nat.{ℕ, _+_, _-_, _<_, _≤_}
 use native.Mathlib.Omega.{arith}
 use lib.ListN.{length, getD, set, replicate}
 use lib.Seq.{getD-set-same, getD-set-other}
 use Rattle.format.specs.Forest.{siblings, nodes, at-most}
+use Rattle.format.proofs.Lists.{zeros}
 use Rattle.format.specs.Tree.{tree-of}
 use Rattle.optimum.specs.Cheapest.{Run, back}
 use Rattle.optimum.proofs.Cut.{siblings-le-nodes, siblings-back}
@@ -28,11 +29,6 @@ siblings-few {s} {limit = limit} ready =
     omega (arith, siblings-le-nodes (tree-of s) (ready .spelled .run (at-most limit) .plain), ready .total)
 
 -- Arrays of zeros are ready to work in.
-zeros : (n i : ℕ) → getD {A = ℕ} (replicate n 0) i 0 ≡ 0
-zeros zero i = refl
-zeros (suc n) zero = refl
-zeros (suc n) (suc i) = zeros n i
-
 pub scratch-none : Scratch (replicate 1025 0) (replicate 1025 0) (replicate 1025 0) (replicate 1025 0) (replicate 1025 0) (replicate 1025 0)
     (replicate 1025 0) (replicate 1025 0) (replicate 1025 0)
 scratch-none =

@@ -1,11 +1,10 @@
 -- WITH ALL MARKS 0 THE FOLDER'S ANSWER IS WHAT IT WAS before labels could be marked: result, output and work slices are made of what
 -- is decided here. WITH EVERY LABEL MARKED IT DECIDES ON THE RUN ITSELF, at its plain cost.
-use mathlib.Core.Path.{_≡_, refl, ap, _∙_}
+use mathlib.Core.Path.{_≡_, ap, _∙_}
 use mathlib.Core.List.{List}
-use Prim.Native.Nat.{ℕ, zero, suc, _<_}
-use native.Mathlib.Omega.{arith}
+use Prim.Native.Nat.{ℕ}
 use lib.Dec.{eqb}
-use lib.ListN.{getD, replicate}
+use lib.ListN.{getD-replicate}
 use Rattle.format.specs.Limits.{limits, Tariff, tariff, priced, Allowed, allowed}
 use Rattle.format.specs.Order.{Bytes}
 use Rattle.format.specs.Forest.{cost}
@@ -33,13 +32,8 @@ module _ (s : List ℕ) (k : ℕ) (steps groups : List ℕ) (first each : ℕ) w
       ∙ ap (λ (A : Allowed). verdict A (priced T) s (unmarked-headed steps groups k (read run-rules s))) (free-allowed k)
 
 -- Marks of ones mark every label.
-getD-ones : (n l : ℕ) → l < n → getD {A = ℕ} (replicate n 1) l 0 ≡ 1
-getD-ones zero l h = absurd (omega arith)
-getD-ones (suc n) zero h = refl
-getD-ones (suc n) (suc l) h = getD-ones n l (omega arith)
-
 all-allowed : (k : ℕ) → AllMarked (allowed k all-marks)
-all-allowed k l h = ap (λ (m : ℕ). eqb m 1) (getD-ones 256 l h)
+all-allowed k l h = ap (λ (m : ℕ). eqb m 1) (getD-replicate 256 l 1 0 h)
 
 module _ (s : List ℕ) (small : Bytes s) (k : ℕ) (steps groups : List ℕ) (first each : ℕ) where
   abbrev T : Tariff

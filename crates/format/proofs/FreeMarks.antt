@@ -5,9 +5,8 @@ use mathlib.Core.Path.{_≡_, refl, sym, ap, _∙_}
 use mathlib.Core.Bool.{and-false}
 use mathlib.Core.List.{List}
 use mathlib.Core.Logic.{_↔_}
-use Prim.Native.Nat.{ℕ, zero, suc}
+use Prim.Native.Nat.{ℕ}
 use lib.Dec.{eqb}
-use lib.ListN.{getD, replicate}
 use Rattle.format.specs.Limits.{limits, Tariff, tariff, Prices, priced, Allowed, at-most, allowed}
 use Rattle.format.specs.Order.{Bytes}
 use Rattle.format.specs.Forest.{Forest, end, step, group, repeat, holds, Sound}
@@ -20,6 +19,7 @@ use Rattle.format.specs.Tree.{tree-of}
 use Rattle.format.specs.Marks.{free-marks}
 use Rattle.format.specs.FreeMarks.{without, unmarked-headed, unmarked-reading}
 use Rattle.format.specs.declared.Tally.{Tally}
+use Rattle.format.proofs.Lists.{zeros}
 use Rattle.format.proofs.Marks.{holds-none}
 use Rattle.format.proofs.Bridge.{parses, reads-accepted, sound-widest, sound-within}
 use Rattle.format.proofs.Report.{fold-of-report, none-repeated, none-held, none-within}
@@ -105,13 +105,8 @@ unfolding refusal checks without
 unmarked-refusal k P st c rest = rw (and-false (is-node c))
 
 -- Marks of zeros mark no label.
-getD-zeros : (n l : ℕ) → getD {A = ℕ} (replicate n 0) l 0 ≡ 0
-getD-zeros zero l = refl
-getD-zeros (suc n) zero = refl
-getD-zeros (suc n) (suc l) = getD-zeros n l
-
 pub free-allowed : (k : ℕ) → allowed k free-marks ≡ at-most k
-free-allowed k = λ i. record { widest = k; marked = λ l. eqb (getD-zeros 256 l i) 1 }
+free-allowed k = λ i. record { widest = k; marked = λ l. eqb (zeros 256 l i) 1 }
 
 module _ (steps groups : List ℕ) (first each : ℕ) where
   abbrev T : Tariff

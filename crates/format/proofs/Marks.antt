@@ -1,6 +1,6 @@
 -- Laws of marked labels: what holds none in its parts holds none, and what unrolls to the same holds the same.
 use mathlib.Core.Path.{_≡_, refl, sym, _∙_}
-use mathlib.Core.Bool.{Bool, true, false, true≢false, _||_, or-false}
+use mathlib.Core.Bool.{Bool, true, false, true≢false, _||_, or-false, or-assoc, or-self}
 use mathlib.Core.List.{List, [], _∷_, map}
 use Prim.Native.Nat.{ℕ, zero, suc}
 use native.Mathlib.Omega.{arith}
@@ -41,14 +41,6 @@ not-right : (a b : Bool) → (a || b) ≡ false → b ≡ false
 not-right true b e = absurd (true≢false e)
 not-right false b e = e
 
-pub or-assoc : (a b c : Bool) → ((a || b) || c) ≡ (a || (b || c))
-or-assoc true b c = refl
-or-assoc false b c = refl
-
-or-same : (a : Bool) → (a || a) ≡ a
-or-same true = refl
-or-same false = refl
-
 module _ (m : ℕ → Bool) where
   -- What holds none: neither its first label nor what follows.
   pub unmarked-step : (l : ℕ) (f : Forest) → holds m (step l f) ≡ false → (m l ≡ false) × (holds m f ≡ false)
@@ -86,7 +78,7 @@ module _ (m : ℕ → Bool) where
   pub holds-copies : (h : ℕ) (f : Forest) → holds m (copies (suc h) f) ≡ holds m f
   unfolding copies holds
   holds-copies zero f = holds-join f end ∙ or-false (holds m f)
-  holds-copies (suc h) f = holds-join f (copies (suc h) f) ∙ rw (holds-copies h f, or-same)
+  holds-copies (suc h) f = holds-join f (copies (suc h) f) ∙ rw (holds-copies h f, or-self)
 
   pub unmarked-copies : (h : ℕ) (f : Forest) → holds m f ≡ false → holds m (copies h f) ≡ false
   unfolding copies holds

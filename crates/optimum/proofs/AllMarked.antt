@@ -1,6 +1,6 @@
 -- WITH EVERY LABEL MARKED THE CHEAPEST FOLD IS THE RUN ITSELF: no repeat may stand in a fold.
 use mathlib.Core.Path.{_≡_, sym, _∙_}
-use mathlib.Core.Bool.{Bool, true, true≢false, _||_}
+use mathlib.Core.Bool.{true, true≢false}
 use Prim.Native.Nat.{ℕ, zero, suc, _<_}
 use native.Mathlib.Omega.{arith}
 use Rattle.format.specs.Limits.{Prices}
@@ -17,16 +17,13 @@ use Rattle.optimum.proofs.Fewest.{preferred-first}
 abbrev pub AllMarked : Allowed → Type 0
 AllMarked A = (l : ℕ) → l < 256 → A .marked l ≡ true
 
-or-left : (a b : Bool) → a ≡ true → (a || b) ≡ true
-or-left a b e = rw e
-
 module _ (A : Allowed) (all : AllMarked A) where
   -- A sequence that is not empty has a label.
   some-label : (f : Forest) → Coded f → 0 < siblings f → Plain f → holds (A .marked) f ≡ true
   unfolding holds siblings
   some-label end c h p = absurd (omega arith)
-  some-label (step l f) c h p = or-left _ _ (all l (c .0))
-  some-label (group l b f) c h p = or-left _ _ (all l (c .0))
+  some-label (step l f) c h p = rw (all l (c .0))
+  some-label (group l b f) c h p = rw (all l (c .0))
   some-label (repeat n w b f) c h p = absurd p
 
   -- So nothing is repeated.

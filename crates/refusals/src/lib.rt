@@ -1,5 +1,5 @@
-// The refusals: the example of every refusal in docs/REFUSALS.md, by every entry point that it concerns. What is printed calls
-// each a row: a row of the table there.
+// The refusals: the example of every refusal in docs/REFUSALS.md but 18 and 19, by every entry point that it concerns. What is
+// printed calls each a row: a row of the table there. Those of marks are the crate marked's, which uses what is public here.
 mod finding;
 
 pub use finding::FILLED;

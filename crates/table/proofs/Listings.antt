@@ -1,6 +1,6 @@
 -- The siblings of a sequence in its bytes: where their parts stand, and which of them are equal.
 use mathlib.Core.Path.{_≡_, refl, sym, ap, _∙_}
-use mathlib.Core.Bool.{Bool, true, false, true≢false, _||_, or-false}
+use mathlib.Core.Bool.{Bool, true, false, true≢false, _||_, or-false, or-assoc}
 use mathlib.Core.List.{List, [], _∷_, _++_, map, append-assoc, append-nil}
 use Prim.Native.Nat.{ℕ, _+_, _-_, _<_, _≤_}
 use native.Mathlib.Decide.{decLt, ℕ-discrete}
@@ -10,7 +10,7 @@ use lib.Seq.{take-at, drop-at, getD-drop, getD-set-same, getD-set-other}
 use Rattle.format.specs.Forest.{at-most, Forest, end, step, group, repeat, Plain, siblings, bytes, holds}
 use Rattle.format.specs.Tree.{tree-of}
 use Rattle.format.proofs.Forests.{bytes-join}
-use Rattle.format.proofs.Marks.{one, or-assoc}
+use Rattle.format.proofs.Marks.{one}
 use Rattle.format.proofs.Bridge.{bytes-injective}
 use Rattle.optimum.specs.Cheapest.{Run, front, back, node, FreeCopy}
 use Rattle.optimum.proofs.Cut.{join-cut, front-add, back-back, siblings-back, run-back}
