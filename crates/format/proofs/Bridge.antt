@@ -674,9 +674,11 @@ reads-accepted {R} {s} {t} {x} a = cc (accepts R (a .tree) (a .shape), a .form, 
 abbrev pub at-prices : Rules → Prices → Rules
 at-prices R Q = record { limits = R .limits; folds = R .folds; allowed = R .allowed; prices = Q }
 
+abbrev pub allowing : Rules → Allowed → Rules
+allowing R A = record { limits = R .limits; folds = R .folds; allowed = A; prices = R .prices }
+
 abbrev pub at-limit : Rules → ℕ → Rules
-at-limit R k =
-    record { limits = R .limits; folds = R .folds; allowed = record { widest = k; marked = R .allowed .marked }; prices = R .prices }
+at-limit R k = allowing R (record { widest = k; marked = R .allowed .marked })
 
 -- Neither acceptance nor the text depends on the prices.
 pub repriced : {R : Rules} {s : List ℕ} {t : Tally} {x : List ℕ} (Q : Prices) (a : Reads R s t x)
@@ -727,16 +729,17 @@ sound-within A B free (repeat h w b f) n z =
     record { twice = r .twice; true-width = r .true-width; within = omega arith; some = r .some; unmarked = free b (r .unmarked) } in
     (here, sound-within A B free b (omega arith) (z .1), sound-within A B free f (omega arith) (z .2))
 
-abbrev relimited : {R : Rules} {s : List ℕ} {t : Tally} {x : List ℕ} (k : ℕ) (a : Reads R s t x) → widest-of (a .tree) ≤ k
-    → Reads (at-limit R k) s t x
-relimited {R} k a w =
+-- What is allowed of repeats decides no more than whether the tree is sound.
+abbrev pub reads-allowing : {R : Rules} {s : List ℕ} {t : Tally} {x : List ℕ} (A : Allowed) (a : Reads R s t x) → Sound A (a .tree)
+    → Reads (allowing R A) s t x
+reads-allowing A a sound =
     let z = a .shape in
     record {
       tree = a .tree;
       form = a .form;
       shape = record {
         coded = z .coded;
-        sound = sound-within (R .allowed) (at-limit R k .allowed) (λ b e. e) (a .tree) w (z .sound);
+        sound = sound;
         plain = z .plain;
         groups = z .groups;
         repeats = z .repeats;
@@ -745,6 +748,12 @@ relimited {R} k a w =
       counts = a .counts;
       text = a .text;
     }
+
+abbrev relimited : {R : Rules} {s : List ℕ} {t : Tally} {x : List ℕ} (k : ℕ) (a : Reads R s t x) → widest-of (a .tree) ≤ k
+    → Reads (at-limit R k) s t x
+relimited {R} k a w =
+    let A = at-limit R k .allowed in
+    reads-allowing A a (sound-within (R .allowed) A (λ b e. e) (a .tree) w (a .shape .sound))
 
 -- Accepted at a limit means accepted at a wider one, as a tree with no width past the limit.
 pub limit-law : (R : Rules) (k : ℕ) → k ≤ R .allowed .widest → (s : List ℕ) → Bytes s → (t : Tally) (x : List ℕ)

@@ -21,7 +21,7 @@ use Rattle.format.specs.FreeMarks.{without, unmarked-headed, unmarked-re
 use Rattle.format.specs.declared.Tally.{Tally}
 use Rattle.format.proofs.Lists.{zeros}
 use Rattle.format.proofs.Marks.{holds-none}
-use Rattle.format.proofs.Bridge.{parses, reads-accepted, sound-widest, sound-within}
+use Rattle.format.proofs.Bridge.{parses, reads-accepted, sound-widest, sound-within, reads-allowing}
 use Rattle.format.proofs.Report.{fold-of-report, none-repeated, none-held, none-within}
 use Rattle.format.proofs.Tree.{tree-of-bytes}
 
@@ -53,47 +53,18 @@ module _ (A : Allowed) (P : Prices) (s : List ℕ) (small : Bytes s) (t : Tally)
   abbrev unmarked : Rules
   unmarked = fold-rules (at-most (A .widest)) P
 
+  abbrev same : {R : Rules} (a : Reads R s t x) → a .tree ≡ tree-of s
+  same a = sym (tree-of-bytes (a .tree)) ∙ ap tree-of (a .form)
+
   freed : Reads marked s t x → (read unmarked s ≡ accepted t x) × NoneRepeated (A .marked) (report-of s)
   freed a =
-      let z = a .shape in
-      let same : a .tree ≡ tree-of s = sym (tree-of-bytes (a .tree)) ∙ ap tree-of (a .form) in
-      let b : Reads unmarked s t x =
-      record {
-        tree = a .tree;
-        form = a .form;
-        shape = record {
-          coded = z .coded;
-          sound = sound-within A (at-most (A .widest)) (λ f e. holds-none f) (a .tree) (sound-widest A (a .tree) (z .sound)) (z .sound);
-          plain = z .plain;
-          groups = z .groups;
-          repeats = z .repeats;
-          total = z .total;
-        };
-        counts = a .counts;
-        text = a .text;
-      } in
-      (reads-accepted b, rw (← same) (none-repeated A (a .tree) (z .sound)))
+      let f = a .tree in
+      let z = a .shape .sound in
+      let free : Sound (at-most (A .widest)) f = sound-within A (at-most (A .widest)) (λ b e. holds-none b) f (sound-widest A f z) z in
+      (reads-accepted (reads-allowing (at-most (A .widest)) a free), rw (← same a) (none-repeated A f z))
 
   bound : Reads unmarked s t x → NoneRepeated (A .marked) (report-of s) → read marked s ≡ accepted t x
-  bound a n =
-      let z = a .shape in
-      let same : a .tree ≡ tree-of s = sym (tree-of-bytes (a .tree)) ∙ ap tree-of (a .form) in
-      let b : Reads marked s t x =
-      record {
-        tree = a .tree;
-        form = a .form;
-        shape = record {
-          coded = z .coded;
-          sound = sound-marked A (a .tree) (z .sound) (rw same n);
-          plain = z .plain;
-          groups = z .groups;
-          repeats = z .repeats;
-          total = z .total;
-        };
-        counts = a .counts;
-        text = a .text;
-      } in
-      reads-accepted b
+  bound a n = reads-accepted (reads-allowing A a (sound-marked A (a .tree) (a .shape .sound) (rw (same a) n)))
 
   pub marks-exactly : (read marked s ≡ accepted t x) ↔ ((read unmarked s ≡ accepted t x) × NoneRepeated (A .marked) (report-of s))
   marks-exactly = (λ e. freed (parses marked s small t x e), λ e. bound (parses unmarked s small t x (e .0)) (e .1))
