@@ -84,7 +84,7 @@ extern "C" {
 
 /* The version of the library, as numbers and as text. */
 #define RUNFOLD_VERSION_MAJOR 0
-#define RUNFOLD_VERSION_MINOR 6
+#define RUNFOLD_VERSION_MINOR 7
 #define RUNFOLD_VERSION_PATCH 0
 #define RUNFOLD_VERSION \
     RUNFOLD_QUOTE(RUNFOLD_VERSION_MAJOR) "." RUNFOLD_QUOTE(RUNFOLD_VERSION_MINOR) "." RUNFOLD_QUOTE(RUNFOLD_VERSION_PATCH)
@@ -148,7 +148,7 @@ enum {
     RUNFOLD_SMALL_COUNT = 6,        /* count 0 or 1 */
     RUNFOLD_WIDE = 7,               /* width operand over the limit */
     RUNFOLD_DEEP = 8,               /* a 9th open group or an 11th open repeat */
-    RUNFOLD_FALSE_WIDTH = 9,        /* width operand not the true width */
+    RUNFOLD_FALSE_WIDTH = 9,        /* width operand not the true width; tested after 10 */
     RUNFOLD_MANY_NODES = 10,        /* more than 1,024 nodes */
     RUNFOLD_STEP_TABLE_SIZE = 11,   /* step cost table not of 256 entries */
     RUNFOLD_LIMIT_SIZE = 12,        /* width limit over 1,024 */

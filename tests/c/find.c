@@ -58,6 +58,8 @@ static const struct sample samples[] = {
     /* There is no width limit here: it is not refused by 7 at its 20, as by the fold reader at any limit. */
     {.name = "width 1,025", .len = 8, .fold = {0x20, 0, 2, 4, 1, 0x10, 7, 0x21}, .refusal = RUNFOLD_FALSE_WIDTH, .place = 7},
     {.name = "1,025 nodes", .len = 8, .fold = {0x20, 4, 1, 0, 1, 0x10, 7, 0x21}, .refusal = RUNFOLD_MANY_NODES, .place = 7},
+    {.name = "a false width and 1,025 nodes", .len = 8, .fold = {0x20, 4, 1, 0, 2, 0x10, 7, 0x21},
+     .refusal = RUNFOLD_MANY_NODES, .place = 7},
 };
 enum { SAMPLES = sizeof samples / sizeof samples[0] };
 

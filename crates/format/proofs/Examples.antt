@@ -157,9 +157,9 @@ order =
     -- 6 before 7 and 8, 7 before 8
     ∷ fold-within 1 (times 10 (repeat-start 2 1) ++ repeat-start 1 2) gives a-refusal 6 50
     ∷ fold-within 1 (times 10 (repeat-start 2 1) ++ repeat-start 2 2) gives a-refusal 7 50
-    -- 8 and 9 before 10
+    -- 8 before 10, 10 before 9
     ∷ fold (repeating 1016 1 one-step ++ times 9 group-start) gives a-refusal 8 24
-    ∷ fold (repeating 1025 2 one-step) gives a-refusal 9 7
+    ∷ fold (repeating 1025 2 one-step) gives a-refusal 10 7
     -- 3 and 8 before 19: no label, a marked ninth group; 19 before 10, at a step and at a group
     ∷ fold-with 1024 (marked-with (mark-of 0)) (repeat-start 2 1 ++ 0x10 ∷ []) gives a-refusal 3 6
     ∷ fold-with 1024 (marked-with (mark-of 5)) (times 8 group-07 ++ repeat-start 2 1 ++ group-start) gives a-refusal 8 21

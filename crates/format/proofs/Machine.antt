@@ -59,8 +59,8 @@ repeat-end-checks R st =
     2 when not (R .folds)
     ∷ 4 when not (in-repeat (st .opens))
     ∷ 5 when eqb (st .tally .siblings) 0
-    ∷ 9 when not (eqb (st .tally .siblings) (claimed (st .opens)))
     ∷ 10 when ltb (R .limits .nodes) (total-of (st .opens) (st .tally .nodes))
+    ∷ 9 when not (eqb (st .tally .siblings) (claimed (st .opens)))
     ∷ []
 
 module _ (R : Rules) (st : State) (rest : List ℕ) where
@@ -97,7 +97,7 @@ module _ (R : Rules) (st : State) (rest : List ℕ) where
   -- And the node total that it makes is within the limit.
   pub total-within : (c : ℕ) → refusal R st c rest ≡ 0 → node-total c (st .opens) (st .tally .nodes) ≤ R .limits .nodes
   unfolding refusal
-  total-within c e = ltb-false _ _ (first-none (checks R st c rest) (omega arith) e .1 .1 .1 .1 .1 .1 .1 .1 .1 .1 .0)
+  total-within c e = ltb-false _ _ (first-none (checks R st c rest) (omega arith) e .1 .1 .1 .1 .1 .1 .1 .1 .1 .0)
 
 -- When each command is passed.
 pub record StepPasses (R : Rules) (st : State) (rest : List ℕ) : Type 0 where
@@ -126,8 +126,8 @@ pub record RepeatEndPasses (R : Rules) (st : State) : Type 0 where
   pub folds : R .folds ≡ true
   pub inner : in-repeat (st .opens) ≡ true
   pub some : 0 < st .tally .siblings
-  pub true-width : st .tally .siblings ≡ claimed (st .opens)
   pub total : total-of (st .opens) (st .tally .nodes) ≤ R .limits .nodes
+  pub true-width : st .tally .siblings ≡ claimed (st .opens)
 
 not-zero : (n : ℕ) → eqb n 0 ≡ false → 0 < n
 not-zero n e = let h : ¬ (n ≡ 0) = eqb-false n 0 e in omega arith
@@ -175,18 +175,19 @@ module _ (R : Rules) (st : State) (rest : List ℕ) where
   pub repeat-end-passed : refusal R st 0x21 rest ≡ 0 → RepeatEndPasses R st
   repeat-end-passed e =
       let z = first-none (repeat-end-checks R st) (omega arith) (sym (refusal-repeat-end R st rest) ∙ e) in
+      let y = z .1 .1 in
       record {
         folds = not-false _ (z .0);
         inner = not-false _ (z .1 .0);
-        some = not-zero _ (z .1 .1 .0);
-        true-width = eqb-true _ _ (not-false _ (z .1 .1 .1 .0));
-        total = ltb-false _ _ (z .1 .1 .1 .1 .0);
+        some = not-zero _ (y .0);
+        total = ltb-false _ _ (y .1 .0);
+        true-width = eqb-true _ _ (not-false _ (y .1 .1 .0));
       }
 
   pub repeat-end-passes : RepeatEndPasses R st → refusal R st 0x21 rest ≡ 0
   repeat-end-passes h =
       refusal-repeat-end R st rest
-      ∙ rw (h .folds, h .inner, zero-not _ (h .some), eq-eqb _ _ (h .true-width), le-ltb _ _ (h .total))
+      ∙ rw (h .folds, h .inner, zero-not _ (h .some), le-ltb _ _ (h .total), eq-eqb _ _ (h .true-width))
 
   pub group-end-passed : refusal R st 0x12 rest ≡ 0 → GroupEndPasses st
   group-end-passed e =

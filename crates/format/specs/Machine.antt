@@ -225,9 +225,9 @@ checks R st c rest =
     ∷ 7 when (eqb c 0x20 && ltb (R .allowed .widest) (width-operand rest))
     ∷ 8 when ((eqb c 0x11 && leb (R .limits .groups) (open-groups (st .opens)))
     || (eqb c 0x20 && leb (R .limits .repeats) (open-repeats (st .opens))))
-    ∷ 9 when (eqb c 0x21 && not (eqb (st .tally .siblings) (claimed (st .opens))))
     ∷ 19 when (is-node c && (R .allowed .marked (label-operand rest) && ltb 0 (open-repeats (st .opens))))
     ∷ 10 when ltb (R .limits .nodes) (node-total c (st .opens) (st .tally .nodes))
+    ∷ 9 when (eqb c 0x21 && not (eqb (st .tally .siblings) (claimed (st .opens))))
     ∷ []
 
 -- The number of the first check that applies, or 0.

@@ -283,10 +283,12 @@ fn open() {
     );
 }
 
-// Refusals 9 and 10: a body of another width, and too many nodes, at last 1,025 steps whose label is the byte of a step.
+// Refusals 9 and 10: a body of another width, too many nodes, both at one close, and 1,025 steps whose label is the byte of a
+// step.
 fn nodes() {
     refused_fold(9, b"\x20\x00\x02\x00\x02\x10\x07\x21", 7);
     refused_fold(10, b"\x20\x04\x01\x00\x01\x10\x07\x21", 7);
+    refused_fold(10, b"\x20\x04\x01\x00\x02\x10\x07\x21", 7);
     let run = [Format::STEP; 2050];
     refused_run(10, &run, 2048);
 }

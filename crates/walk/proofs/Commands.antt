@@ -234,18 +234,18 @@ module _ (a : Terms) (steps groups marks s : List ℕ) (d : Depth) (p : ℕ) (t 
             (λ os x. rw (refusal-repeat-end (rules-of a steps groups marks) (at (a-repeat n w t ∷ os) i x) (drop (p + 1) s), folds, e))
 
         module _ (some : i .siblings ≡ 0 → ⊥) where
-          pub repeat-untrue : (i .siblings ≡ w → ⊥) → (u : Tally) → CloseRead (rules-of a steps groups marks) s d p t i (a-repeat n w t) (record { refusal = 9; at = p; tally = u })
-          repeat-untrue e =
-              refused-close 0x21 9 b refl (omega arith) (a-repeat n w t)
-              (λ os x. rw (refusal-repeat-end (rules-of a steps groups marks) (at (a-repeat n w t ∷ os) i x) (drop (p + 1) s), folds, ne-eqb _ _ some, ne-eqb _ _ e))
+          pub repeat-full : a .limits .nodes < after-repeat n t i .nodes → (u : Tally) → CloseRead (rules-of a steps groups marks) s d p t i (a-repeat n w t) (record { refusal = 10; at = p; tally = u })
+          repeat-full e =
+              refused-close 0x21 10 b refl (omega arith) (a-repeat n w t)
+              (λ os x. rw (refusal-repeat-end (rules-of a steps groups marks) (at (a-repeat n w t ∷ os) i x) (drop (p + 1) s), folds, ne-eqb _ _ some, lt-ltb _ _ e))
 
-          module _ (true-width : i .siblings ≡ w) where
-            pub repeat-full : a .limits .nodes < after-repeat n t i .nodes → (u : Tally) → CloseRead (rules-of a steps groups marks) s d p t i (a-repeat n w t) (record { refusal = 10; at = p; tally = u })
-            repeat-full e =
-                refused-close 0x21 10 b refl (omega arith) (a-repeat n w t)
-                (λ os x. rw (refusal-repeat-end (rules-of a steps groups marks) (at (a-repeat n w t ∷ os) i x) (drop (p + 1) s), folds, ne-eqb _ _ some, eq-eqb _ _ true-width, lt-ltb _ _ e))
+          module _ (total : after-repeat n t i .nodes ≤ a .limits .nodes) where
+            pub repeat-untrue : (i .siblings ≡ w → ⊥) → (u : Tally) → CloseRead (rules-of a steps groups marks) s d p t i (a-repeat n w t) (record { refusal = 9; at = p; tally = u })
+            repeat-untrue e =
+                refused-close 0x21 9 b refl (omega arith) (a-repeat n w t)
+                (λ os x. rw (refusal-repeat-end (rules-of a steps groups marks) (at (a-repeat n w t ∷ os) i x) (drop (p + 1) s), folds, ne-eqb _ _ some, le-ltb _ _ total, ne-eqb _ _ e))
 
-            pub repeat-left : after-repeat n t i .nodes ≤ a .limits .nodes → Grown (a .limits) t (after-repeat n t i) → CloseRead (rules-of a steps groups marks) s d p t i (a-repeat n w t) (record { refusal = 0; at = p + 1; tally = after-repeat n t i })
+            pub repeat-left : i .siblings ≡ w → Grown (a .limits) t (after-repeat n t i) → CloseRead (rules-of a steps groups marks) s d p t i (a-repeat n w t) (record { refusal = 0; at = p + 1; tally = after-repeat n t i })
             unfolding leave-repeat
             repeat-left e g =
                 record {
@@ -255,7 +255,7 @@ module _ (a : Terms) (steps groups marks s : List ℕ) (d : Depth) (p : ℕ) (t 
                       rw (cut-one s p (omega (arith, h .within)), b)
                           (scan-repeat-end (rules-of a steps groups marks) p (at (a-repeat n w t ∷ os) i x) (drop (p + 1) s)
                           (repeat-end-passes (rules-of a steps groups marks) (at (a-repeat n w t ∷ os) i x) (drop (p + 1) s)
-                          (record { folds = folds; inner = refl; some = omega arith; true-width = true-width; total = e }))),
+                          (record { folds = folds; inner = refl; some = omega arith; true-width = e; total = total }))),
                     );
                     stops = λ z. absurd (z refl);
                   };

@@ -225,7 +225,7 @@ pub fn enter_repeat(s: &[u8], a: Terms, at: usize, d: Depth, t: Tally) -> Walk
     }
 }
 
-// The close of a repeat whose outer counts are t and inner counts i: refusals 3 at the end, 4, 5, 9 and 10.
+// The close of a repeat whose outer counts are t and inner counts i: refusals 3 at the end, 4, 5, 10 and 9.
 pub fn leave_repeat(s: &[u8], a: Terms, at: usize, o: Operands, t: Tally, i: Tally) -> Walk
     requires { ⌜ Halted (now s) at ⌝ }
     requires { ⌜ RoomSomewhere (a .limits) t ⌝ }
@@ -242,17 +242,20 @@ pub fn leave_repeat(s: &[u8], a: Terms, at: usize, o: Operands, t: Tally, i: Tal
     if s[at] == Format::GROUP_END {
         return refused(4, at, t);
     }
+    let siblings = i.siblings;
     let width = o.width;
-    if i.siblings == 0 {
+    if siblings == 0 {
         return refused(5, at, t);
     }
-    if i.siblings != width {
-        return refused(9, at, t);
-    }
     let passed = after_repeat(o.count, t, i);
+    let total = passed.nodes;
     let bounds = a.limits;
-    if bounds.nodes < passed.nodes {
+    let most = bounds.nodes;
+    if most < total {
         return refused(10, at, t);
+    }
+    if siblings != width {
+        return refused(9, at, t);
     }
     Walk {
         refusal: 0,

@@ -280,12 +280,12 @@ fn read(bytes: &[u8], limit: Option<usize>, prices: Option<&Prices>) -> Result<A
                     siblings = ended.siblings_outside + 1;
                     length += 1;
                 } else {
-                    if siblings != ended.width {
-                        return refuse(9);
-                    }
                     let more = ended.count - 1;
                     if nodes + more * (nodes - ended.nodes_before) > 1024 {
                         return refuse(10);
+                    }
+                    if siblings != ended.width {
+                        return refuse(9);
                     }
                     nodes += more * (nodes - ended.nodes_before);
                     length += more * (length - ended.length_before);

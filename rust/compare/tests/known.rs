@@ -392,6 +392,7 @@ fn numbered_refusals() {
         (bytes("20 0002 0002 1007 1007 21"), 1, Wide { place: 0 }),
         (bytes("20 0002 0002 1007 21"), 1024, FalseWidth { place: 7 }),
         (bytes("20 0401 0001 1007 21"), 1024, ManyNodes { place: 7 }),
+        (bytes("20 0401 0002 1007 21"), 1024, ManyNodes { place: 7 }),
         (bytes("1007"), 1025, LimitSize),
     ] {
         assert_eq!(read_fold(&fold, limit, unit), Err(refusal));
@@ -481,6 +482,7 @@ fn refusals_of_index_and_position() {
     check_refused(&bytes("1101").repeat(9), Deep { place: 16 });
     check_refused(&bytes("20 0002 0002 1007 21"), FalseWidth { place: 7 });
     check_refused(&bytes("20 0401 0001 1007 21"), ManyNodes { place: 7 });
+    check_refused(&bytes("20 0401 0002 1007 21"), ManyNodes { place: 7 });
     // No width limit stops the reading at the 20.
     let wide = bytes("20 0002 0401 1007 21");
     check_refused(&wide, FalseWidth { place: 7 });

@@ -61,7 +61,7 @@ pub enum Refusal {
         /// The command's offset.
         place: usize,
     },
-    /// 9: a width operand that is not the true width, found where the repeat closes.
+    /// 9: a width operand that is not the true width, found where the repeat closes, after [`ManyNodes`](Self::ManyNodes).
     FalseWidth {
         /// The close's offset.
         place: usize,

@@ -40,9 +40,13 @@ const POSSIBLE: [&[u8]; 7] = [
     &[1, 3, 4, 5, 6, 8, 9, 10, 16, 17],
 ];
 
-/// What has to come up, of fold reader and folder where labels are marked, of the folder by a trial of every fold, and of index
-/// builder and finder: a case that never did is a failure.
-const CASES: [&str; 72] = [
+/// What has to come up, of every reader of folds where 9 and 10 meet, of fold reader and folder where labels are marked, of the
+/// folder by a trial of every fold, and of index builder and finder: a case that never did is a failure.
+const CASES: [&str; 76] = [
+    "10 where 9 applies too, fold reader",
+    "10 where 9 applies too, unroller",
+    "10 where 9 applies too, index builder",
+    "10 where 9 applies too, finder",
     "11 where 18 applies too, fold reader",
     "11 where 18 applies too, folder",
     "15 where 18 applies too, fold reader",
@@ -168,13 +172,13 @@ fn nodes_of(run: &[u8]) -> Vec<[u8; 2]> {
     nodes
 }
 
-/// The commands that opened what is open behind these, the first of a fold, and the offset behind the last of them, which is
-/// past the end where it is cut off.
-fn open_behind(commands: &[u8]) -> (Vec<u8>, usize) {
+/// The offsets of the commands that opened what is open behind these, the first of a fold, and the offset behind the last of
+/// these, which is past the end where it is cut off.
+fn open_behind(commands: &[u8]) -> (Vec<usize>, usize) {
     let (mut open, mut at) = (Vec::new(), 0);
     while at < commands.len() {
         match commands[at] {
-            0x11 | 0x20 => open.push(commands[at]),
+            0x11 | 0x20 => open.push(at),
             0x12 | 0x21 => {
                 open.pop();
             }
@@ -187,6 +191,18 @@ fn open_behind(commands: &[u8]) -> (Vec<u8>, usize) {
         };
     }
     (open, at)
+}
+
+/// Whether something that this command opened is open at an offset of a fold.
+fn open_at(fold: &[u8], offset: usize, command: u8) -> bool {
+    open_behind(&fold[..offset]).0.iter().any(|&at| fold[at] == command)
+}
+
+/// Whether the `21` at an offset of a fold closes a repeat of another width than its `20` says.
+fn false_width(fold: &[u8], offset: usize) -> bool {
+    let at = *open_behind(&fold[..offset]).0.last().expect("a repeat that is open");
+    let width = usize::from(fold[at + 3]) * 256 + usize::from(fold[at + 4]);
+    reference::expand(&decode(&fold[at + 5..offset])).len() != width
 }
 
 /// The items with every group a step of its label.
@@ -302,6 +318,10 @@ impl Compare {
         if enough {
             after[..ENTRIES].copy_from_slice(&expected);
             self.refusals[entry as usize][refusal as usize] += 1;
+            let place = expected[raw::PLACE] as usize;
+            if refusal == 10 && input[place] == 0x21 && false_width(input, place) {
+                self.reached(&format!("10 where 9 applies too, {}", ENTRY_NAMES[entry as usize]));
+            }
         } else {
             self.short_answers += 1;
         }
@@ -595,7 +615,7 @@ impl Compare {
         if by_bytes != best {
             self.reached("a tie that fewer repeats decide against byte order");
             let at = (0..).find(|&k| best.bytes[k] != by_bytes.bytes[k]).unwrap();
-            if open_behind(&best.bytes[..at]).0.contains(&0x11) {
+            if open_at(&best.bytes, at, 0x11) {
                 self.reached("such a tie inside a group");
             }
         }
@@ -695,7 +715,7 @@ impl Compare {
     /// What marks decide at a command, by what the fold reader answers.
     fn marks_in_fold(&mut self, fold: &[u8], limit: usize, prices: &Prices, answer: Answer) {
         let place = answer.place;
-        let in_repeat = |end: usize| open_behind(&fold[..end]).0.contains(&0x20);
+        let in_repeat = |end: usize| open_at(fold, end, 0x20);
         let both = |items: &[Item]| reference::count_repeats(items) > 0 && prices.mark_in(items);
         match answer.refusal {
             0 if both(&decode(fold)) => self.reached("a fold read with repeats and a marked label outside them"),
@@ -714,7 +734,7 @@ impl Compare {
     fn marked_in_repeat(&mut self, fold: &[u8], limit: usize, prices: &Prices, place: usize) {
         let kind = if fold[place] == 0x10 { "step" } else { "group" };
         self.reached(&format!("19 at a {kind}"));
-        if open_behind(&fold[..place]).0.ends_with(&[0x11]) {
+        if open_behind(&fold[..place]).0.last().is_some_and(|&at| fold[at] == 0x11) {
             self.reached("19 in a group in a repeat");
         }
         if fold[place - 1] == 0x21 && open_behind(&fold[..place - 1]).1 == place - 1 {
@@ -1067,6 +1087,9 @@ fn edges() -> Vec<Vec<u8>> {
         vec![0x20, 0, 2, 0, 2, 0x10, 7, 0x10, 7, 0x21],
         vec![0x20, 0, 2, 0, 2, 0x10, 7, 0x21],
         vec![0x20, 4, 1, 0, 1, 0x10, 7, 0x21],
+        vec![0x20, 4, 1, 0, 2, 0x10, 7, 0x21],
+        vec![0x20, 4, 1, 0, 0, 0x10, 7, 0x21],
+        vec![0x20, 4, 0, 0, 2, 0x10, 7, 0x21],
         vec![0x20, 4, 0, 0, 1, 0x10, 7, 0x21],
         vec![0x20, 0xFF, 0xFF, 0, 1, 0x10, 7, 0x21],
         vec![0x20, 0xFF, 0xFF, 0xFF, 0xFF, 0x10, 7, 0x21],
@@ -1314,7 +1337,7 @@ fn main() {
         println!("NO FOLD WITH GROUPS PRICED UNLIKE STEPS");
         exit(1);
     }
-    println!("\nmarks, ties, indexes and positions");
+    println!("\n9 and 10 together, marks, ties, indexes and positions");
     for (case, count) in CASES.iter().zip(c.cases) {
         println!("  {case:62} {count:8}");
     }

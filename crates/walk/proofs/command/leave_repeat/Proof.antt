@@ -3,11 +3,13 @@ use borrow.Author.Needs.{needs}
 use native.Mathlib.Omega.{arith}
 use lib.ListN.{getD}
 use mathlib.Core.Path.{_≡_}
+use Prim.Native.Nat.{ℕ, _<_, _≤_}
+use Rattle.format.specs.declared.Tally.{Tally}
 use Rattle.walk.proofs.Commands.{left-open, repeat-crossed, repeat-empty, repeat-untrue, repeat-full, repeat-left, repeat-grown}
 use Rattle.walk.proofs.command.leave_repeat.Statement.{statement}
 use Rattle.walk.proofs.command.leave_repeat.Tie as tie
 
--- Each test passed, from the next one: the input goes on, no group's close, some items, of the width said.
+-- Each test passed, from the next one: the input goes on, no group's close, some items.
 abbrev start : tie.Else1 → tie.Start
 start c = c .before .before
 
@@ -15,13 +17,17 @@ abbrev going : tie.Else2 → tie.Else1
 going c = c .before .before
 
 abbrev uncrossed : tie.Else3 → tie.Else2
-uncrossed c = c .before .before
-
-abbrev some : tie.Else4 → tie.Else3
-some c = c .before .before
+uncrossed c = c .before
 
 closes-repeat : (c : tie.Else2) → (let a = start (going c) .args in getD (a .s .now) (a .at) 0 ≡ 0x21)
 closes-repeat c = start (going c) .pre .0 .close (going c .if1 .left) (c .if2 .left)
+
+-- The node total that was tested is that of the counts.
+over : {m : ℕ} {r u : Tally} → r ≡ u → m < r .nodes → m < u .nodes
+over e h = rw (← e) h
+
+within : {m : ℕ} {r u : Tally} → r ≡ u → r .nodes ≤ m → u .nodes ≤ m
+within e h = rw (← e) h
 
 refused-requires : tie.Need-refused-requires
 refused-requires c κs = search needs
@@ -48,48 +54,51 @@ refused-requires-3 c κs = search needs
 
 returns-3 : tie.Need-returns-3
 returns-3 c =
-    let u = c .before .before .before in
+    let u = c .before .before in
     let S = start (going u) in
     λ steps groups marks d. rw (c .refused3 .ensures) (repeat-empty (S .args .a) steps groups marks (S .args .s .now) d (S .args .at) (S .args .t) (S .args .i) (S .pre .0) (S .pre .1 .1 .1 .1 .0 .1) (going u .if1 .left) (S .pre .1 .1 .1 .0 .0) (S .args .o .count) (S .args .o .width) (closes-repeat u) (c .before .if3 .taken) _)
+
+after-repeat-requires : tie.Need-after-repeat-requires
+after-repeat-requires c κs =
+    let S = start (going (uncrossed c)) in
+    omega (arith, S .pre .1 .0 .1, S .pre .1 .1)
 
 refused-requires-4 : tie.Need-refused-requires-4
 refused-requires-4 c κs = search needs
 
 returns-4 : tie.Need-returns-4
 returns-4 c =
-    let e = c .before .before .before in
+    let p = c .before .before .before in
+    let e = p .before in
     let u = uncrossed e in
     let S = start (going u) in
-    λ steps groups marks d. rw (c .refused4 .ensures) (repeat-untrue (S .args .a) steps groups marks (S .args .s .now) d (S .args .at) (S .args .t) (S .args .i) (S .pre .0) (S .pre .1 .1 .1 .1 .0 .1) (going u .if1 .left) (S .pre .1 .1 .1 .0 .0) (S .args .o .count) (S .args .o .width) (closes-repeat u) (e .if3 .left) (c .before .if4 .taken) _)
-
-after-repeat-requires : tie.Need-after-repeat-requires
-after-repeat-requires c κs =
-    let S = start (going (uncrossed (some c))) in
-    omega (arith, S .pre .1 .0 .1, S .pre .1 .1)
+    λ steps groups marks d. rw (c .refused4 .ensures) (repeat-full (S .args .a) steps groups marks (S .args .s .now) d (S .args .at) (S .args .t) (S .args .i) (S .pre .0) (S .pre .1 .1 .1 .1 .0 .1) (going u .if1 .left) (S .pre .1 .1 .1 .0 .0) (S .args .o .count) (S .args .o .width) (closes-repeat u) (e .if3 .left) (over (p .after-repeat .ensures) (c .before .if4 .taken)) _)
 
 refused-requires-5 : tie.Need-refused-requires-5
 refused-requires-5 c κs = search needs
 
 returns-5 : tie.Need-returns-5
 returns-5 c =
-    let p = c .before .before .before .before .before in
-    let e = some (p .before) in
+    let f = c .before .before in
+    let p = f .before .before in
+    let e = p .before in
     let u = uncrossed e in
     let S = start (going u) in
-    λ steps groups marks d. rw (c .refused5 .ensures) (repeat-full (S .args .a) steps groups marks (S .args .s .now) d (S .args .at) (S .args .t) (S .args .i) (S .pre .0) (S .pre .1 .1 .1 .1 .0 .1) (going u .if1 .left) (S .pre .1 .1 .1 .0 .0) (S .args .o .count) (S .args .o .width) (closes-repeat u) (e .if3 .left) (p .before .if4 .left) (rw (p .after-repeat .ensures) at (c .before .if5 .taken)) _)
+    λ steps groups marks d. rw (c .refused5 .ensures) (repeat-untrue (S .args .a) steps groups marks (S .args .s .now) d (S .args .at) (S .args .t) (S .args .i) (S .pre .0) (S .pre .1 .1 .1 .1 .0 .1) (going u .if1 .left) (S .pre .1 .1 .1 .0 .0) (S .args .o .count) (S .args .o .width) (closes-repeat u) (e .if3 .left) (within (p .after-repeat .ensures) (f .if4 .left)) (c .before .if5 .taken) _)
 
-add-t10 : tie.Need-add-t10
-add-t10 c = search needs
+add-t13 : tie.Need-add-t13
+add-t13 c = search needs
 
 returns-6 : tie.Need-returns-6
 returns-6 c =
-    let p = c .before .before .before .before in
-    let e = some (p .before) in
+    let f = c .before in
+    let p = f .before .before in
+    let e = p .before in
     let u = uncrossed e in
     let S = start (going u) in
-    let total = rw (p .after-repeat .ensures) at (c .if5 .left) in
+    let total = within (p .after-repeat .ensures) (f .if4 .left) in
     let grown = repeat-grown (S .args .a .limits) (S .args .o .count) (S .args .t) (S .args .i) (S .pre .1 .1 .1 .0 .1) (S .pre .1 .1 .1 .1 .0 .0) (omega (arith, e .if3 .left)) (S .pre .1 .1 .1 .1 .1 .0 .0) (S .pre .1 .1 .1 .1 .1 .0 .1) (S .pre .1 .1 .1 .1 .1 .0 .2) (S .pre .1 .1 .1 .1 .1 .1 .0) (S .pre .1 .1 .1 .1 .1 .1 .1) total in
-    λ steps groups marks d. rw (p .after-repeat .ensures) (repeat-left (S .args .a) steps groups marks (S .args .s .now) d (S .args .at) (S .args .t) (S .args .i) (S .pre .0) (S .pre .1 .1 .1 .1 .0 .1) (going u .if1 .left) (S .pre .1 .1 .1 .0 .0) (S .args .o .count) (S .args .o .width) (closes-repeat u) (e .if3 .left) (p .before .if4 .left) total grown)
+    λ steps groups marks d. rw (p .after-repeat .ensures) (repeat-left (S .args .a) steps groups marks (S .args .s .now) d (S .args .at) (S .args .t) (S .args .i) (S .pre .0) (S .pre .1 .1 .1 .1 .0 .1) (going u .if1 .left) (S .pre .1 .1 .1 .0 .0) (S .args .o .count) (S .args .o .width) (closes-repeat u) (e .if3 .left) total (c .if5 .left) grown)
 
 pub leave-repeat-spec : {M : Type 1} → statement M
 leave-repeat-spec =
@@ -102,10 +111,10 @@ leave-repeat-spec =
     returns-2
     refused-requires-3
     returns-3
+    after-repeat-requires
     refused-requires-4
     returns-4
-    after-repeat-requires
     refused-requires-5
     returns-5
-    add-t10
+    add-t13
     returns-6)
