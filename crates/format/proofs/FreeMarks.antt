@@ -1,5 +1,5 @@
 -- WHAT MARKS DECIDE. Bytes are accepted under marks exactly where they are accepted without and no marked label of theirs lies in a
--- repeat. WITH ALL MARKS 0 EVERYTHING IS AS IT WAS before labels could be marked: every check at a command, and what the fold reader
+-- repeat. WITH ALL MARKS 0 EVERYTHING IS AS WHERE NO LABEL CAN BE MARKED: every check at a command, and what the fold reader
 -- answers.
 use mathlib.Core.Path.{_≡_, refl, sym, ap, _∙_}
 use mathlib.Core.Bool.{and-false}
@@ -88,7 +88,7 @@ module _ (steps groups : List ℕ) (first each : ℕ) where
   unfolding headed head-checks marks-in-order unmarked-headed
   free-headed k o = refl
 
-  -- The fold reader's whole answer is the one it had.
+  -- The fold reader's whole answer is the one without marks.
   pub free-reading : (s : List ℕ) (k : ℕ) → fold-reading s k T ≡ unmarked-reading s k steps groups first each
   unfolding fold-reading fold-outcome unmarked-reading
   free-reading s k = ap as-fold-reading (free-headed k _ ∙ ap (λ (A : Allowed). unmarked-headed steps groups k (read (fold-rules A (priced T)) s)) (free-allowed k))

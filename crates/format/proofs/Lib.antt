@@ -22,6 +22,7 @@ pub mod Letters
 pub mod Report
 pub mod OneTable
 pub mod FreeMarks
+pub mod FormerOrder
 pub mod StepsAndDepth
 pub mod Parts
 pub mod Examples

@@ -10,7 +10,8 @@ use lib.Dec.{ltb, leb, eqb}
 use lib.ListN.{length, drop, length-append}
 use lib.Seq.{drop-append-seam}
 use borrow.Author.Tests.{le-ltb, eq-eqb, ne-eqb, ltb-false, eqb-true, eqb-false, leb-false, lt-leb, not-false}
-use Rattle.format.specs.Machine.{Rules, State, Check, _when_, first-of, checks, refusal, scan, advance, operands, label-operand, count-operand, width-operand, is-known, place-of, unless, at-end, open-groups, open-repeats, in-group, in-repeat, claimed, total-of, node-total, refused, accepted, put-step, enter-group, leave-group, enter-repeat, leave-repeat}
+use Rattle.format.specs.Machine.{Rules, State, Check, _when_, first-of, checks, refusal, scan-by, scan, advance, operands, label-operand, count-operand, width-operand, is-known, place-of, unless, at-end, open-groups, open-repeats, in-group, in-repeat, claimed, total-of, node-total, refused, accepted, put-step, enter-group, leave-group, enter-repeat, leave-repeat}
+use Rattle.format.specs.Limits.{Prices}
 use Rattle.format.specs.Reasons.{None}
 use Rattle.format.specs.declared.Tally.{Tally}
 
@@ -264,19 +265,28 @@ module _ (R : Rules) (p : ℕ) (st : State) where
         passed zero f = refl
         passed (suc n) f = cc (e, scan-refuse (suc n) (omega arith) f)
 
-pub scan-drop : (R : Rules) (p k : ℕ) (st : State) (s : List ℕ) → k ≤ length s
-    → scan R p k st s ≡ scan R (p + k) 0 st (drop k s)
-unfolding scan
-scan-drop R p zero st s h = let e : p + 0 ≡ p = omega arith in rw e
-scan-drop R p (suc k) st [] h = absurd (omega arith)
-scan-drop R p (suc k) st (x ∷ s) h =
+-- Operands are passed over alike whatever refuses a command.
+pub by-drop : (refuse : State → ℕ → List ℕ → ℕ) (P : Prices) (p k : ℕ) (st : State) (s : List ℕ) → k ≤ length s
+    → scan-by refuse P p k st s ≡ scan-by refuse P (p + k) 0 st (drop k s)
+unfolding scan-by
+by-drop refuse P p zero st s h = let e : p + 0 ≡ p = omega arith in rw e
+by-drop refuse P p (suc k) st [] h = absurd (omega arith)
+by-drop refuse P p (suc k) st (x ∷ s) h =
     let e : p + suc k ≡ suc p + k = omega arith in
-    rw e (scan-drop R (suc p) k st s (omega arith))
+    rw e (by-drop refuse P (suc p) k st s (omega arith))
+
+-- A passed command that has its operands.
+pub by-past : (refuse : State → ℕ → List ℕ → ℕ) (P : Prices) (p : ℕ) (st : State) (c : ℕ) (s : List ℕ) → refuse st c s ≡ 0
+    → operands c ≤ length s
+    → scan-by refuse P p 0 st (c ∷ s) ≡ scan-by refuse P (suc p + operands c) 0 (advance P c s st) (drop (operands c) s)
+unfolding scan-by
+by-past refuse P p st c s e there = rw e (by-drop refuse P (suc p) (operands c) (advance P c s st) s there)
 
 pub scan-skip : (R : Rules) (p : ℕ) (st : State) (xs s : List ℕ)
     → scan R p (length xs) st (xs ++ s) ≡ scan R (p + length xs) 0 st s
+unfolding scan
 scan-skip R p st xs s =
-    scan-drop R p (length xs) st (xs ++ s) (simp length-append (omega arith)) ∙ rw drop-append-seam
+    by-drop (refusal R) (R .prices) p (length xs) st (xs ++ s) (simp length-append (omega arith)) ∙ rw drop-append-seam
 
 module _ (R : Rules) (p : ℕ) (st : State) where
   -- A passed command with its operands.
@@ -285,12 +295,6 @@ module _ (R : Rules) (p : ℕ) (st : State) where
   scan-on c xs s o e =
       let q : suc p + length xs ≡ p + suc (length xs) = omega arith in
       rw (scan-pass R p st c (xs ++ s) e, o, ← q) (scan-skip R (suc p) (advance (R .prices) c (xs ++ s) st) xs s)
-
-  pub scan-past : (c : ℕ) (s : List ℕ) → refusal R st c s ≡ 0
-      → scan R p 0 st (c ∷ s) ≡ scan R (suc p + operands c) 0 (advance (R .prices) c s st) (drop (operands c) s)
-  scan-past c s e =
-      scan-pass R p st c s e
-      ∙ scan-drop R (suc p) (operands c) (advance (R .prices) c s st) s (operands-there R st s c e)
 
   module _ (s : List ℕ) where
     pub scan-step : (l : ℕ) → refusal R st 0x10 (l ∷ s) ≡ 0

@@ -1,5 +1,5 @@
--- WITH EQUAL TABLES EVERYTHING IS AS IT WAS when one table priced the labels of steps and groups alike: what a fold costs, and
--- what the fold reader answers.
+-- WITH EQUAL TABLES EVERYTHING IS AS WITH ONE TABLE that prices the labels of steps and groups alike: what a fold costs, and what
+-- the fold reader answers.
 use mathlib.Core.Path.{_≡_, refl, ap, _∙_}
 use mathlib.Core.Bool.{Bool, true, false, not}
 use mathlib.Core.List.{List, [], _∷_}
@@ -48,7 +48,7 @@ module _ (table marks : List ℕ) (first each : ℕ) where
       by-size true = refl
       by-size false = refl
 
-  -- The fold reader's whole answer is the one it had.
+  -- The fold reader's whole answer is the one by one table.
   pub equal-tables-reading : (s : List ℕ) (k : ℕ) → fold-reading s k T ≡ one-table-reading s k table marks first each
   unfolding fold-reading fold-outcome one-table-reading
   equal-tables-reading s k = ap as-fold-reading (equal-tables-headed k (read (fold-rules (allowed k marks) (by-label table first each)) s))

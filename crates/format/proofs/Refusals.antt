@@ -9,10 +9,10 @@ use native.Mathlib.Decide.{decLe}
 use native.Mathlib.Omega.{arith}
 use lib.ListN.{length, getD, drop, length-drop}
 use lib.Seq.{drop-cons, drop-drop, drop-length}
-use Rattle.format.specs.Machine.{Rules, State, Open, Check, _when_, first-of, checks, refusal, scan, read, start, advance, operands, place-of, at-end, Outcome, refused, accepted}
+use Rattle.format.specs.Machine.{Rules, State, Open, Check, _when_, first-of, checks, refusal, scan-by, scan, read, start, advance, operands, place-of, at-end, Outcome, refused, accepted}
 use Rattle.format.specs.declared.Tally.{Tally}
 use Rattle.format.specs.Reasons.{None, First, Reached, at-start, passed, Because, at-command, left-open, Finished}
-use Rattle.format.proofs.Machine.{scan-end, scan-past, scan-refuse, operands-there}
+use Rattle.format.proofs.Machine.{scan-end, by-past, scan-refuse, operands-there}
 
 first-found : (rs : List Check) (n : ℕ) → n ≢ 0 → first-of rs ≡ n → First rs n
 first-found [] n some e = absurd (some (sym e))
@@ -67,7 +67,7 @@ refusal-numbered : (R : Rules) (st : State) (c : ℕ) (rest : List ℕ) → Numb
 unfolding refusal checks
 refusal-numbered R st c rest = first-each Numbered (checks R st c rest) (omega arith) (omega arith)
 
-open-end : (p : ℕ) (os : List Open) (st : State) → 0 < length os → at-end p os st ≡ refused 3 p
+pub open-end : (p : ℕ) (os : List Open) (st : State) → 0 < length os → at-end p os st ≡ refused 3 p
 open-end p [] st some = absurd (omega arith)
 open-end p (o ∷ os) st some = refl
 
@@ -76,18 +76,24 @@ module _ (R : Rules) (s : List ℕ) where
   at-offset : (p : ℕ) (st : State) → p < length s → scan R p 0 st (drop p s) ≡ scan R p 0 st (getD s p 0 ∷ drop (suc p) s)
   at-offset p st lt = rw (drop-cons s p 0 lt)
 
-  -- The reading goes on from every point that is reached.
+  -- The reading goes on from every point that is reached, also by other checks that pass what these pass.
+  module _ (refuse : State → ℕ → List ℕ → ℕ) (passes : (st : State) (c : ℕ) (rest : List ℕ) → refusal R st c rest ≡ 0 → refuse st c rest ≡ 0) where
+    pub reached-by : {p : ℕ} {st : State} → Reached R s p st
+        → (p ≤ length s) × (scan-by refuse (R .prices) 0 0 start s ≡ scan-by refuse (R .prices) p 0 st (drop p s))
+    reached-by at-start = (omega arith, refl)
+    reached-by (passed {p} {st} r lt e) =
+        let i = reached-by r in
+        let c : ℕ = getD s p 0 in
+        let there = operands-there R st (drop (suc p) s) c e in (
+          omega (arith, there, length-drop (suc p) s),
+          i .1 ∙ rw (drop-cons s p 0 lt) (by-past refuse (R .prices) p st c (drop (suc p) s) (passes st c (drop (suc p) s) e) there ∙ rw drop-drop),
+        )
+
   reached-read : {p : ℕ} {st : State} → Reached R s p st → (p ≤ length s) × (read R s ≡ scan R p 0 st (drop p s))
   unfolding read
-  reached-read at-start = (omega arith, refl)
-  reached-read (passed {p} {st} r lt e) =
-      let i = reached-read r in
-      let c : ℕ = getD s p 0 in (
-        omega (arith, operands-there R st (drop (suc p) s) c e, length-drop (suc p) s),
-        i .1 ∙ at-offset p st lt ∙ scan-past R p st c (drop (suc p) s) e ∙ rw drop-drop,
-      )
+  reached-read = reached-by (refusal R) (λ st c rest e. e)
 
-  place : (p : ℕ) → p < length s → p + suc (length (drop (suc p) s)) ≡ length s
+  pub place : (p : ℕ) → p < length s → p + suc (length (drop (suc p) s)) ≡ length s
   place p lt = omega (arith, length-drop (suc p) s)
 
   at-last : {st : State} → Reached R s (length s) st → read R s ≡ at-end (length s) (st .opens) st

@@ -1,4 +1,4 @@
--- Marks that are all 0: what was checked and answered before labels could be marked. Only the theorems about free marks use these.
+-- Marks that are all 0: what is checked and answered where no label can be marked. Only the theorems about free marks use these.
 use mathlib.Core.Bool.{not, cond}
 use mathlib.Core.List.{List, [], _∷_}
 use Prim.Native.Nat.{ℕ}
@@ -14,7 +14,7 @@ unfoldable pub without : ℕ → List Check → List Check
 without n [] = []
 without n (m when b ∷ rs) = cond (eqb m n) (without n rs) (m when b ∷ without n rs)
 
--- What was checked before the first command: 11, then 15, then 12, all at place 0.
+-- What is checked before the first command: 11, then 15, then 12, all at place 0.
 unfoldable pub unmarked-headed : (steps groups : List ℕ) → (limit : ℕ) → Outcome → Outcome
 unmarked-headed steps groups k next =
     unless

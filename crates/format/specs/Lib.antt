@@ -17,4 +17,5 @@ pub mod Meaning
 pub mod OneTable
 pub mod Marks
 pub mod FreeMarks
+pub mod FormerOrder
 pub mod inner

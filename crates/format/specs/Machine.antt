@@ -259,13 +259,18 @@ abbrev pub at-end : ℕ → List Open → State → Outcome
 at-end p [] st = accepted (st .tally) (st .text)
 at-end p (o ∷ os) st = refused 3 p
 
--- Read on from offset p with `skip` operand bytes to pass over first.
+-- Read on from offset p with `skip` operand bytes to pass over first, where `refuse` gives the refusal at a command.
+unfoldable pub scan-by : (refuse : State → (command : ℕ) → (rest : List ℕ) → ℕ) → Prices → (p skip : ℕ) → State → List ℕ → Outcome
+unfolding advance
+scan-by refuse P p k st [] = at-end p (st .opens) st
+scan-by refuse P p zero st (c ∷ s) =
+    unless (refuse st c s) p (p + suc (length s)) (scan-by refuse P (suc p) (operands c) (advance P c s st) s)
+scan-by refuse P p (suc k) st (c ∷ s) = scan-by refuse P (suc p) k st s
+
+-- Read on by rules: a command is refused by the table.
 unfoldable pub scan : Rules → (p skip : ℕ) → State → List ℕ → Outcome
-unfolding advance refusal
-scan R p k st [] = at-end p (st .opens) st
-scan R p zero st (c ∷ s) =
-    unless (refusal R st c s) p (p + suc (length s)) (scan R (suc p) (operands c) (advance (R .prices) c s st) s)
-scan R p (suc k) st (c ∷ s) = scan R (suc p) k st s
+unfolding scan-by refusal
+scan R p k st s = scan-by (refusal R) (R .prices) p k st s
 
 -- Before anything is read.
 abbrev pub start : State

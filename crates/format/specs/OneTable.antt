@@ -1,4 +1,4 @@
--- One table for the labels of steps and groups alike: what a fold cost, and what the fold reader answered, before groups were
+-- One table for the labels of steps and groups alike: what a fold costs, and what the fold reader answers, where groups are not
 -- priced apart. Only the theorems about equal tables use these.
 use mathlib.Core.Bool.{not}
 use mathlib.Core.List.{List, [], _∷_}
