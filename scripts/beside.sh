@@ -1,8 +1,8 @@
 #!/usr/bin/env bash
 # Measures the folder beside that of another archive of the library in one program: for each family of runs of the benchmark at
-# each prices the two times in microseconds and the part that this one takes of the other's, the highest parts first. The other
-# archive is the one before labels could be marked: its folder takes no marks, and this one is called with no label marked. An
-# archive whose folder takes other arguments needs its prototype in tests/c/beside.c. CC names the C compiler.
+# each prices the two times in microseconds and the part that this one takes of the other's, the highest parts first. No label is
+# marked. An archive whose folder takes other arguments, as before labels could be marked, needs its prototype in
+# tests/c/beside.c. CC names the C compiler.
 # Usage: scripts/beside.sh ARCHIVE [MILLISECONDS]   the least time for a run at one prices, of twelve such, 20 by default
 set -euo pipefail
 if [ $# -lt 1 ] || [ $# -gt 2 ]; then

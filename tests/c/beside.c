@@ -1,7 +1,7 @@
 /* The folder of another archive of the library beside that of this one, on the benchmark's runs and prices, which are read from
- * standard input. The other archive is the one before labels could be marked: its folder takes no marks, and this one is called
- * with no label marked. Both are called in turn; a line for each run at each prices gives the lowest time of either. They have
- * to agree in cost, and how many folds differ is said at the end. scripts/beside.sh links it. */
+ * standard input. Its folder has to take the same arguments; no label is marked. Both are called in turn; a line for each run at
+ * each prices gives the lowest time of either. They have to agree in cost, and how many folds differ is said at the end.
+ * scripts/beside.sh links it. */
 #define _GNU_SOURCE
 #include "runfold.h"
 
@@ -10,19 +10,13 @@
 #include <string.h>
 #include <time.h>
 
-/* Of the other archive, and of this one. */
-typedef uint8_t former_folder(const uint8_t *run, size_t run_len, size_t limit, const uint16_t *steps, size_t steps_len,
-                              const uint16_t *groups, size_t groups_len, uint16_t first, uint16_t each, uint32_t *costs,
-                              size_t costs_len, uint32_t *choices, size_t choices_len, uint8_t *out, size_t out_len,
-                              uint64_t *answer, size_t answer_len);
 typedef uint8_t folder(const uint8_t *run, size_t run_len, size_t limit, const uint16_t *steps, size_t steps_len,
                        const uint16_t *groups, size_t groups_len, const uint8_t *marks, size_t marks_len, uint16_t first,
                        uint16_t each, uint32_t *costs, size_t costs_len, uint32_t *choices, size_t choices_len, uint8_t *out,
                        size_t out_len, uint64_t *answer, size_t answer_len);
 
 /* Those of the two archives, under other names. */
-former_folder other_fold;
-folder this_fold;
+folder other_fold, this_fold;
 
 enum { NODES = RUNFOLD_MAX_NODES, PRICES = 8, ROUNDS = 7, OTHER = 0, THIS = 1 };
 
@@ -72,13 +66,9 @@ static size_t read_run(const char *hex) {
 
 /* The run by either folder, into its own output. */
 static uint8_t fold_by(int which, size_t length, const struct prices *p, uint64_t *answer) {
-    if (which == OTHER)
-        return other_fold(run, length, RUNFOLD_MAX_WIDTH, p->costs[0], 256, p->costs[1], 256, p->first, p->each, costs,
-                          RUNFOLD_WORK(NODES), choices, RUNFOLD_WORK(NODES), out[OTHER], RUNFOLD_ROOM(NODES), answer,
-                          RUNFOLD_ENTRIES);
-    return this_fold(run, length, RUNFOLD_MAX_WIDTH, p->costs[0], 256, p->costs[1], 256, marks, 256, p->first, p->each, costs,
-                     RUNFOLD_WORK(NODES), choices, RUNFOLD_WORK(NODES), out[THIS], RUNFOLD_ROOM(NODES), answer,
-                     RUNFOLD_ENTRIES);
+    folder *const fold = which == OTHER ? other_fold : this_fold;
+    return fold(run, length, RUNFOLD_MAX_WIDTH, p->costs[0], 256, p->costs[1], 256, marks, 256, p->first, p->each, costs,
+                RUNFOLD_WORK(NODES), choices, RUNFOLD_WORK(NODES), out[which], RUNFOLD_ROOM(NODES), answer, RUNFOLD_ENTRIES);
 }
 
 /* At least some rounds, and for as many nanoseconds as are given. */
