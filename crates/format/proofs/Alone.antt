@@ -1,6 +1,6 @@
 -- A fold read without a width limit: refusal 7 is skipped and nothing else is, and what is accepted is what is well formed.
 use mathlib.Core.Path.{_≡_, refl, sym, _∙_}
-use mathlib.Core.Bool.{Bool, true, false, true≢false, cond, _&&_}
+use mathlib.Core.Bool.{Bool, true, false, true≢false, cond, or-false, _&&_}
 use mathlib.Core.List.{List, [], _∷_}
 use mathlib.Core.Logic.{_≢_, _⊎_, inl, inr, _↔_}
 use Prim.Native.Nat.{ℕ, zero, suc, _+_, _*_, _≤_}
@@ -13,14 +13,14 @@ use borrow.Author.Tests.{le-ltb, ltb-false, eqb-true}
 use Rattle.format.specs.Limits.{limits}
 use Rattle.format.specs.Order.{Bytes}
 use Rattle.format.specs.Forest.{Forest, end, step, group, repeat, nodes, widest-of, Allowed, at-most, Sound}
-use Rattle.format.specs.Machine.{Rules, State, Check, _when_, first-of, checks, refusal, count-operand, width-operand, unless, advance, operands, scan, read, start, Outcome, refused, accepted}
+use Rattle.format.specs.Machine.{Rules, State, first-of, checks, refusal, count-operand, width-operand, unless, advance, operands, scan, read, start, Outcome, refused, accepted}
 use Rattle.format.specs.Readings.{no-costs, free, fold-rules, format-rules, greatest-operand, fold-alone}
-use Rattle.format.specs.Reasons.{Because, at-command, left-open}
+use Rattle.format.specs.Reasons.{holds-check, Because, at-command, left-open}
 use Rattle.format.specs.declared.Tally.{Tally}
 use Rattle.format.specs.Shape.{Reads}
 use Rattle.format.proofs.Bridge.{parses, reads-accepted, limit-law}
 use Rattle.format.proofs.Depth.{siblings-nodes}
-use Rattle.format.proofs.Refusals.{refused-exactly, refused-some}
+use Rattle.format.proofs.Refusals.{said-holds, refused-exactly, refused-some}
 
 -- No repeat is wider than the nodes that it unrolls to.
 widest-nodes : (A : Allowed) (f : Forest) → Sound A f → widest-of f ≤ nodes f
@@ -99,19 +99,9 @@ pub alone-or-seven : (k : ℕ) → k ≤ greatest-operand → (s : List ℕ)
 unfolding read fold-alone
 alone-or-seven k few s = scan-or-seven k greatest-operand few 0 0 start s
 
--- Checks of which none with the number k applies.
-abbrev Spares : ℕ → List Check → Type 0
-Spares k [] = Unit
-Spares k (n when b ∷ rs) = (n ≡ k → b ≡ false) × Spares k rs
-
-spared : (k : ℕ) → k ≢ 0 → (rs : List Check) → Spares k rs → first-of rs ≢ k
-spared k some [] z e = some (sym e)
-spared k some (n when true ∷ rs) z e = true≢false (z .0 e)
-spared k some (n when false ∷ rs) z e = spared k some rs (z .1) e
-
 -- Without a limit 7 is never the refusal.
 pub alone-never-seven : (s : List ℕ) → Bytes s → (n e : ℕ) → fold-alone s ≡ refused n e → n ≢ 7
-unfolding fold-alone refusal checks
+unfolding fold-alone refusal checks holds-check
 alone-never-seven s small n e r seven = because (refused-exactly (fold-rules (at-most greatest-operand) free) s n e .0 r)
   where
     narrow : (p : ℕ) → width-operand (drop (suc p) s) ≤ greatest-operand
@@ -121,32 +111,12 @@ alone-never-seven s small n e r seven = because (refused-exactly (fold-rules (at
     within false p = refl
     within true p = le-ltb greatest-operand _ (narrow p)
 
-    other : {m : ℕ} {b : Bool} → m ≢ 7 → m ≡ 7 → b ≡ false
-    other apart equal = absurd (apart equal)
-
     because : Because (fold-rules (at-most greatest-operand) free) s n e → ⊥
     because (left-open st r some m w) = omega arith
     because (at-command p st r lt f some w) =
-        spared 7 (omega arith) (checks (fold-rules (at-most greatest-operand) free) st (getD s p 0) (drop (suc p) s)) (
-          other (omega arith),
-          (
-            other (omega arith),
-            (
-              other (omega arith),
-              (
-                other (omega arith),
-                (
-                  other (omega arith),
-                  (
-                    other (omega arith),
-                    ((λ h. within (eqb (getD s p 0) 0x20) p), (other (omega arith), (other (omega arith), (other (omega arith), (other (omega arith), tt))))),
-                  ),
-                ),
-              ),
-            ),
-          ),
-        )
-        (f ∙ seven)
+        let rest : List ℕ = drop (suc p) s in
+        let over = said-holds 7 (omega arith) (checks (fold-rules (at-most greatest-operand) free) st (getD s p 0) rest) (f ∙ seven) in
+        true≢false (sym (rw or-false at over) ∙ within (eqb (getD s p 0) 0x20) p)
 
 -- What is refused has a number.
 pub alone-some : (s : List ℕ) (n e : ℕ) → fold-alone s ≡ refused n e → n ≢ 0

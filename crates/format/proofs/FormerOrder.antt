@@ -1,7 +1,7 @@
 -- WHICH ANSWERS CHANGED when 10 came before 9. Readings by the former order and by this one are the same, except where the former
 -- says 9 at a `21` at which 10 holds too: there this one says 10 at the same place.
 use mathlib.Core.Path.{_≡_, refl, sym, ap, _∙_}
-use mathlib.Core.Bool.{Bool, true, false, true≢false, cond, and-false, or-false, _&&_}
+use mathlib.Core.Bool.{Bool, true, false, true≢false, cond, or-false, _&&_}
 use mathlib.Core.List.{List, [], _∷_, _++_}
 use mathlib.Core.Logic.{_≢_, _↔_, _⊎_, inl, inr, ⊎-elim}
 use Prim.Native.Nat.{ℕ, zero, suc, _<_}
@@ -10,16 +10,16 @@ use native.Mathlib.Omega.{arith}
 use lib.Dec.{eqb, ltb}
 use lib.ListN.{length, getD, drop, take, List·getD-eq-default}
 use lib.Seq.{drop-cons, drop-length}
-use borrow.Author.Tests.{eq-eqb, eqb-true, ne-eqb}
+use borrow.Author.Tests.{eqb-true, ne-eqb}
 use Rattle.format.specs.Machine.{Rules, State, is-node, node-total, none, Check, _when_, first-of, checks, refusal, scan-by, read, place-of, at-end, Outcome, refused, accepted}
 use Rattle.format.specs.Limits.{limits, Tariff, priced, allowed}
-use Rattle.format.specs.Reasons.{None, Reached, Because, at-command, left-open}
+use Rattle.format.specs.Reasons.{holds-check, Reached, Because, at-command, left-open}
 use Rattle.format.specs.Head.{Head, head-checks, headed, marks-in-order, full-head}
 use Rattle.format.specs.Readings.{fold-rules, fold-numbers, as-fold-reading, fold-outcome, fold-reading}
-use Rattle.format.specs.FormerOrder.{former-checks, former-refusal, former-read, former-outcome, former-reading, holds-check, NineAndTen}
+use Rattle.format.specs.FormerOrder.{former-checks, former-refusal, former-read, former-outcome, former-reading, NineAndTen}
 use Rattle.format.specs.declared.Tally.{Tally}
 use Rattle.format.proofs.Machine.{first-none, refusal-repeat-end}
-use Rattle.format.proofs.Refusals.{Each, found-each, place, open-end, reached-by, refused-exactly, refused-some, accepted-exactly}
+use Rattle.format.proofs.Refusals.{said-holds, none-holds, Each, found-each, place, open-end, reached-by, refused-exactly, refused-some, accepted-exactly}
 use Rattle.format.proofs.Heads.{headed-refused, headed-passed}
 use Rattle.format.proofs.Examples.{sized, repeating, one-step, a-refusal}
 
@@ -64,18 +64,6 @@ closing c b e = eqb-true c 0x21 (both-left (eqb c 0x21) b e)
 -- 9 is for a `21` and 19 for a node.
 no-node : (c : ℕ) (a b : Bool) → eqb c 0x21 && a ≡ true → is-node c && b ≡ false
 no-node c a b e = rw (closing c a e)
-
--- A number that is said is that of a check that holds; where none applies, none holds.
-said-holds : (n : ℕ) → n ≢ 0 → (rs : List Check) → first-of rs ≡ n → holds-check n rs ≡ true
-unfolding holds-check
-said-holds n some [] e = absurd (some (sym e))
-said-holds n some (m when true ∷ rs) e = rw (eq-eqb m n e)
-said-holds n some (m when false ∷ rs) e = rw (and-false (eqb m n)) (said-holds n some rs e)
-
-none-holds : (n : ℕ) (rs : List Check) → None rs → holds-check n rs ≡ false
-unfolding holds-check
-none-holds n [] z = refl
-none-holds n (m when b ∷ rs) z = rw (z .0, and-false (eqb m n)) (none-holds n rs (z .1))
 
 module _ (R : Rules) (st : State) (c : ℕ) (rest : List ℕ) where
   ten-first : refusal R st c rest

@@ -1,17 +1,19 @@
 -- What a refusal means: the first command that cannot be passed, refused by the first check of the table that applies to it,
 -- or something left open at the end. What acceptance means: every command is passed and nothing is left open.
 use mathlib.Core.Path.{_≡_, refl, sym, _∙_}
-use mathlib.Core.Bool.{true, false}
+use mathlib.Core.Bool.{true, false, and-false}
 use mathlib.Core.List.{List, [], _∷_, _++_}
 use mathlib.Core.Logic.{_≢_, _↔_}
 use Prim.Native.Nat.{ℕ, zero, suc, _+_, _≤_, _<_}
 use native.Mathlib.Decide.{decLe}
 use native.Mathlib.Omega.{arith}
+use lib.Dec.{eqb}
 use lib.ListN.{length, getD, drop, length-drop}
 use lib.Seq.{drop-cons, drop-drop, drop-length}
+use borrow.Author.Tests.{eq-eqb}
 use Rattle.format.specs.Machine.{Rules, State, Open, Check, _when_, first-of, checks, refusal, scan-by, scan, read, start, advance, operands, place-of, at-end, Outcome, refused, accepted}
 use Rattle.format.specs.declared.Tally.{Tally}
-use Rattle.format.specs.Reasons.{None, First, Reached, at-start, passed, Because, at-command, left-open, Finished}
+use Rattle.format.specs.Reasons.{None, holds-check, First, Reached, at-start, passed, Because, at-command, left-open, Finished}
 use Rattle.format.proofs.Machine.{scan-end, by-past, scan-refuse, operands-there}
 
 first-found : (rs : List Check) (n : ℕ) → n ≢ 0 → first-of rs ≡ n → First rs n
@@ -36,6 +38,18 @@ first-exactly rs n some = (first-found rs n some, found-first rs n)
 pub none-first : (rs : List Check) → None rs → first-of rs ≡ 0
 none-first [] z = refl
 none-first (m when b ∷ rs) z = rw (z .0) (none-first rs (z .1))
+
+-- A number that is said is that of a check that holds; where none applies, none holds.
+pub said-holds : (n : ℕ) → n ≢ 0 → (rs : List Check) → first-of rs ≡ n → holds-check n rs ≡ true
+unfolding holds-check
+said-holds n some [] e = absurd (some (sym e))
+said-holds n some (m when true ∷ rs) e = rw (eq-eqb m n e)
+said-holds n some (m when false ∷ rs) e = rw (and-false (eqb m n)) (said-holds n some rs e)
+
+pub none-holds : (n : ℕ) (rs : List Check) → None rs → holds-check n rs ≡ false
+unfolding holds-check
+none-holds n [] z = refl
+none-holds n (m when b ∷ rs) z = rw (z .0, and-false (eqb m n)) (none-holds n rs (z .1))
 
 -- A command is refused by the first check of the table that applies to it.
 pub refusal-exactly : (R : Rules) (st : State) (c : ℕ) (rest : List ℕ) (n : ℕ) → n ≢ 0

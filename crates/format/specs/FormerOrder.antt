@@ -1,14 +1,14 @@
 -- The former order of the checks at a command, in which 9 came before 19 and 10: the readings by it, and where one `21` breaks 9
 -- and 10 together. Only the theorems about that order use these.
 use mathlib.Core.Path.{_≡_}
-use mathlib.Core.Bool.{Bool, true, false, cond, _&&_, _||_}
+use mathlib.Core.Bool.{true, cond}
 use mathlib.Core.List.{List, [], _∷_, _++_}
 use Prim.Native.Nat.{ℕ, suc}
 use lib.Dec.{eqb}
 use lib.ListN.{getD, drop}
 use Rattle.format.specs.Limits.{limits, Tariff, priced, allowed}
 use Rattle.format.specs.Machine.{Rules, State, Check, _when_, first-of, checks, scan-by, start, Outcome, refused}
-use Rattle.format.specs.Reasons.{Reached}
+use Rattle.format.specs.Reasons.{holds-check, Reached}
 use Rattle.format.specs.Head.{Head, headed, full-head}
 use Rattle.format.specs.Readings.{fold-rules, as-fold-reading}
 use Rattle.format.specs.declared.FoldReading.{FoldReading}
@@ -45,11 +45,6 @@ former-outcome h T s = headed limits h (former-read (fold-rules (allowed (h .lim
 unfoldable pub former-reading : List ℕ → (limit : ℕ) → Tariff → FoldReading
 unfolding former-outcome
 former-reading s k T = as-fold-reading (former-outcome (full-head T k) T s)
-
--- Whether a check of this number holds.
-unfoldable pub holds-check : ℕ → List Check → Bool
-holds-check n [] = false
-holds-check n (m when b ∷ rs) = (eqb m n && b) || holds-check n rs
 
 -- The former reading says 9 at the `21` at p, and 10 holds there too.
 pub record NineAndTen (R : Rules) (s : List ℕ) (p : ℕ) : Type 0 where

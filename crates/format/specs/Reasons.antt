@@ -1,9 +1,10 @@
 -- Why bytes are refused and how they are accepted, command by command: the words of the theorems about refusals.
 use mathlib.Core.Path.{_≡_}
-use mathlib.Core.Bool.{true, false}
+use mathlib.Core.Bool.{Bool, true, false, _&&_, _||_}
 use mathlib.Core.List.{List, [], _∷_, _++_}
 use mathlib.Core.Logic.{_≢_, _⊎_}
 use Prim.Native.Nat.{ℕ, suc, _+_, _<_}
+use lib.Dec.{eqb}
 use lib.ListN.{length, getD, drop}
 use Rattle.format.specs.Machine.{Rules, State, Check, _when_, refusal, start, advance, operands, place-of}
 use Rattle.format.specs.declared.Tally.{Tally}
@@ -12,6 +13,11 @@ use Rattle.format.specs.declared.Tally.{Tally}
 abbrev pub None : List Check → Type 0
 None [] = Unit
 None (n when b ∷ rs) = (b ≡ false) × None rs
+
+-- Whether a check of this number holds.
+unfoldable pub holds-check : ℕ → List Check → Bool
+holds-check n [] = false
+holds-check n (m when b ∷ rs) = (eqb m n && b) || holds-check n rs
 
 -- The first check that applies is this one.
 pub record First (rs : List Check) (n : ℕ) : Type 0 where
