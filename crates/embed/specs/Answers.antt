@@ -7,7 +7,7 @@ use lib.Dec.{ltb}
 use lib.ListN.{length, drop, getD}
 use Rattle.format.specs.declared.RunReading.{RunReading}
 use Rattle.format.specs.declared.FoldReading.{FoldReading}
-use Rattle.format.specs.declared.Unrolled.{Unrolled}
+use Rattle.format.specs.declared.Written.{Written}
 use Rattle.format.specs.declared.Folded.{Folded}
 use Rattle.index.specs.declared.Indexed.{Indexed}
 use Rattle.index.specs.declared.Found.{Found}
@@ -46,8 +46,8 @@ of-run r = with-values (r .refusal) (r .place) (r .nodes) 0 0 (r .steps) (r .dep
 abbrev pub of-fold : FoldReading → Answer
 of-fold r = with-values (r .refusal) (r .place) (r .nodes) (r .length) (r .cost) (r .steps) (r .depth)
 
-abbrev pub of-unrolled : Unrolled → Answer
-of-unrolled r = with-values (r .refusal) (r .place) 0 (r .length) 0 0 0
+abbrev pub of-written : Written → Answer
+of-written r = with-values (r .refusal) (r .place) 0 (r .length) 0 0 0
 
 abbrev pub of-folded : Folded → Answer
 of-folded r = with-values (r .refusal) (r .place) 0 (r .length) (r .cost) 0 0

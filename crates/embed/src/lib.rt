@@ -1,7 +1,12 @@
 // The static library's boundary for C and Rust: the readers, the unroller, the folder, the index and the finder over numbers and
-// lent slices. Every answer is seven numbers in a lent slice: refusal, place and five values, which readers, unroller and folder
+// lent slices; in short.rt the short family. Every answer is seven numbers in a lent slice: refusal, place and five values, which readers, unroller and folder
 // use for nodes, length, cost, steps and depth; 0 where the function gives no such value.
+mod short;
+
 use folder::fold;
+use format::FoldReading;
+use format::Folded;
+use format::Written;
 use format::wide;
 use index::build_index;
 use index::find;
@@ -18,11 +23,11 @@ ghost use Rattle.format.specs.Readings.{format-rules, run-reading, measured, fo
 ghost use Rattle.format.specs.Meaning.{Means, MeansAtCost};
 ghost use Rattle.format.specs.Parts.{part-of};
 ghost use Rattle.optimum.specs.Demands.{CheapestWithin, CheapestOver, MinimumTree};
-ghost use Rattle.unroller.specs.Unrolling.{unroll-answer, unroll-output};
+ghost use Rattle.format.specs.Output.{written-answer, written-output};
 ghost use Rattle.index.specs.Index.{index-of, index-answer, index-output};
 ghost use Rattle.index.specs.Finding.{find-answer, AtPosition};
 ghost use Rattle.folder.specs.Folding.{folding, fold-answer, fold-output, fold-work};
-ghost use Rattle.embed.specs.Answers.{entry-count, status, kept, numbers, entries, of-run, of-fold, of-unrolled, of-folded, of-indexed, of-found, found-in};
+ghost use Rattle.embed.specs.Answers.{entry-count, status, kept, numbers, entries, of-run, of-fold, of-written, of-folded, of-indexed, of-found, found-in};
 
 // The entries of an answer.
 const ENTRIES: usize = 7;
@@ -52,6 +57,63 @@ fn store(answer: &mut [u64], a: Answer)
     answer[4] = a.three;
     answer[5] = a.four;
     answer[6] = a.five;
+}
+
+// A fold reader's answer.
+fn store_reading(answer: &mut [u64], read: FoldReading)
+    requires { ⌜ entry-count ≤ length (now answer) ⌝ }
+    ensures { λ _. ⌜ now (answer .exit) ≡ numbers (of-fold read) ++ drop entry-count (now (answer .entry)) ⌝ }
+{
+    store(
+        answer,
+        Answer {
+            refusal: read.refusal,
+            place: read.place,
+            one: read.nodes as u64,
+            two: read.length as u64,
+            three: read.cost,
+            four: read.steps as u64,
+            five: read.depth as u64,
+        },
+    );
+}
+
+// A folder's answer.
+fn store_folded(answer: &mut [u64], folded: Folded)
+    requires { ⌜ entry-count ≤ length (now answer) ⌝ }
+    ensures { λ _. ⌜ now (answer .exit) ≡ numbers (of-folded folded) ++ drop entry-count (now (answer .entry)) ⌝ }
+{
+    store(
+        answer,
+        Answer {
+            refusal: folded.refusal,
+            place: folded.place,
+            one: 0,
+            two: folded.length as u64,
+            three: folded.cost,
+            four: 0,
+            five: 0,
+        },
+    );
+}
+
+// The answer where one text is written.
+fn store_written(answer: &mut [u64], written: Written)
+    requires { ⌜ entry-count ≤ length (now answer) ⌝ }
+    ensures { λ _. ⌜ now (answer .exit) ≡ numbers (of-written written) ++ drop entry-count (now (answer .entry)) ⌝ }
+{
+    store(
+        answer,
+        Answer {
+            refusal: written.refusal,
+            place: written.place,
+            one: 0,
+            two: written.length as u64,
+            three: 0,
+            four: 0,
+            five: 0,
+        },
+    );
 }
 
 // The run reader: the number of nodes, how many of them are steps, and the most groups open together.
@@ -109,20 +171,9 @@ pub extern "C" fn runfold_read_fold(
     if answer.len() < ENTRIES {
         return SHORT;
     }
-    let r = read_fold(fold, limit, steps, groups, marks, first, each);
-    store(
-        answer,
-        Answer {
-            refusal: r.refusal,
-            place: r.place,
-            one: r.nodes as u64,
-            two: r.length as u64,
-            three: r.cost,
-            four: r.steps as u64,
-            five: r.depth as u64,
-        },
-    );
-    r.refusal
+    let read = read_fold(fold, limit, steps, groups, marks, first, each);
+    store_reading(answer, read);
+    read.refusal
 }
 
 // The unroller at a width limit: the length written.
@@ -133,27 +184,16 @@ pub extern "C" fn runfold_unroll(
     out: &mut [u8],
     answer: &mut [u64],
 ) -> u8
-    ensures returned { λ r. ⌜ r ≡ status (now (answer .entry)) (unroll-answer (measured (now (fold .entry)) limit) (length (now (out .entry))) .refusal) ⌝ }
-    ensures answered { λ _. ⌜ now (answer .exit) ≡ entries (now (answer .entry)) (of-unrolled (unroll-answer (measured (now (fold .entry)) limit) (length (now (out .entry))))) ⌝ }
-    ensures written { λ _. ⌜ now (out .exit) ≡ kept (now (answer .entry)) (now (out .entry)) (unroll-output (measured (now (fold .entry)) limit) (now (out .entry))) ⌝ }
+    ensures returned { λ r. ⌜ r ≡ status (now (answer .entry)) (written-answer (measured (now (fold .entry)) limit) (length (now (out .entry))) .refusal) ⌝ }
+    ensures answered { λ _. ⌜ now (answer .exit) ≡ entries (now (answer .entry)) (of-written (written-answer (measured (now (fold .entry)) limit) (length (now (out .entry))))) ⌝ }
+    ensures written { λ _. ⌜ now (out .exit) ≡ kept (now (answer .entry)) (now (out .entry)) (written-output (measured (now (fold .entry)) limit) (now (out .entry))) ⌝ }
     ensures meant { λ r. ⌜ (r ≡ 0 → Means (at-most limit) (now (fold .entry)) (take (getD (now (answer .exit)) 3 0) (now (out .exit)))) ⌝ }
 {
     if answer.len() < ENTRIES {
         return SHORT;
     }
     let unrolled = unroll(fold, limit, out);
-    store(
-        answer,
-        Answer {
-            refusal: unrolled.refusal,
-            place: unrolled.place,
-            one: 0,
-            two: unrolled.length as u64,
-            three: 0,
-            four: 0,
-            five: 0,
-        },
-    );
+    store_written(answer, unrolled);
     unrolled.refusal
 }
 
@@ -196,18 +236,7 @@ pub extern "C" fn runfold_fold(
         choices,
         out,
     );
-    store(
-        answer,
-        Answer {
-            refusal: folded.refusal,
-            place: folded.place,
-            one: 0,
-            two: folded.length as u64,
-            three: folded.cost,
-            four: 0,
-            five: 0,
-        },
-    );
+    store_folded(answer, folded);
     folded.refusal
 }
 

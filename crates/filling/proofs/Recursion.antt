@@ -7,7 +7,7 @@ use native.Mathlib.Omega.{arith}
 use lib.ListN.{length, getD, take, drop, length-append}
 use lib.Seq.{take-at}
 use Rattle.format.specs.Limits.{Prices, allowed}
-use Rattle.format.specs.Forest.{Forest, group, bytes, siblings, nodes, Allowed}
+use Rattle.format.specs.Forest.{Forest, group, form-in, bytes, siblings, nodes, Allowed}
 use Rattle.format.specs.Tree.{tree-of}
 use Rattle.format.proofs.Tree.{tree-of-bytes}
 use Rattle.optimum.specs.Cheapest.{Run, front, back, node}
@@ -127,7 +127,7 @@ module _ {places nexts s : List ℕ} {level : Level} {steps groups prices costs�
       -- A step has nothing below it.
       pub through-step : (getD part 0 0 ≡ 0x11 → ⊥)
           → Through A P s b costs₀ choices₀ costs choices (getD nexts q 0)
-      unfolding front bytes
+      unfolding front form-in
       through-step other = by-form first
         where
           by-form : Sibling t (w .i) (getD s (place (w .i) t) 0) (getD s (place (w .i) t + 1) 0)
@@ -145,7 +145,7 @@ module _ {places nexts s : List ℕ} {level : Level} {steps groups prices costs�
       -- A group is entered by a call on what is inside it.
       module _ (opens : getD part 0 0 ≡ 0x11) where
         here : GroupAt s (w .i) part
-        unfolding front bytes
+        unfolding front form-in
         here = by-form first
           where
             by-form : Sibling t (w .i) (getD s (place (w .i) t) 0) (getD s (place (w .i) t + 1) 0) → GroupAt s (w .i) part

@@ -1,5 +1,6 @@
 -- What is always enough to lend: the work that a run needs, and four bytes of output for each of its nodes.
 use mathlib.Core.Path.{_≡_, refl}
+use mathlib.Core.Bool.{false}
 use mathlib.Core.List.{List}
 use Prim.Native.Nat.{ℕ, _*_, _≤_}
 use native.Mathlib.Omega.{arith}
@@ -33,4 +34,4 @@ lent-enough s small k T z costs choices room x y o =
     let f = bytes (preferred (allowed k (T .marks)) (priced T) (tree-of s)) in
     let short : length f ≤ room =
     omega (arith, cheapest-room s small (a .tally) (a .text) (accepts s k T r refl a) (allowed k (T .marks)) (priced T), a .all) in
-    rw (verdict-folds s k T r refl a, le-ltb costs (cells n) x, le-ltb choices (cells n) y, le-ltb room (length f) short)
+    rw (verdict-folds s k T r refl a false, le-ltb costs (cells n) x, le-ltb choices (cells n) y, le-ltb room (length f) short)

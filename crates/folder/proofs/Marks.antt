@@ -20,12 +20,12 @@ use Rattle.format.proofs.FreeMarks.{free-allowed, free-headed}
 use Rattle.optimum.specs.Verdict.{folds, verdict}
 use Rattle.optimum.proofs.Demands.{shaped-run, run-form, run-shape}
 use Rattle.optimum.proofs.AllMarked.{AllMarked, preferred-itself}
-use Rattle.folder.specs.Folding.{folding}
+use Rattle.folder.specs.Folding.{folding-in, folding}
 use Rattle.folder.specs.FreeMarks.{unmarked-folding}
 
 module _ (s : List ℕ) (k : ℕ) (steps groups : List ℕ) (first each : ℕ) where
   pub free-folding : folding s k (tariff steps groups free-marks first each) ≡ unmarked-folding s k steps groups first each
-  unfolding folding run-outcome unmarked-folding
+  unfolding folding-in run-outcome unmarked-folding
   free-folding =
       let T : Tariff = tariff steps groups free-marks first each in
       ap (verdict (allowed k free-marks) (priced T) s) (free-headed steps groups first each k (read run-rules s))
@@ -41,7 +41,7 @@ module _ (s : List ℕ) (small : Bytes s) (k : ℕ) (steps groups : List ℕ) (f
 
   pub all-marked-folding : (t : Tally) (x : List ℕ) → run-outcome (full-head T k) s ≡ accepted t x
       → folding s k T ≡ folds (t .nodes) s (cost (priced T) (tree-of s))
-  unfolding folding run-outcome
+  unfolding folding-in run-outcome
   all-marked-folding t x e =
       let A : Allowed = allowed k all-marks in
       let run = headed-accepted limits (full-head T k) (read run-rules s) t x e in

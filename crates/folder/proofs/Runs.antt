@@ -1,5 +1,6 @@
 -- The steps that fold an accepted run: its filled table, the answer, and the table cleared.
 use mathlib.Core.Path.{_≡_, refl, sym, ap, _∙_}
+use mathlib.Core.Bool.{Bool}
 use mathlib.Core.List.{List, [], _++_, append-nil}
 use Prim.Native.Nat.{ℕ, _+_, _*_, _<_, _≤_}
 use native.Mathlib.Nat.{zero-add}
@@ -9,7 +10,7 @@ use lib.ListN.{length, getD, drop, replicate, length-drop}
 use borrow.Author.Tests.{lt-ltb, le-ltb}
 use lib.Seq.{sets-eq, getD-drop, ext-getD}
 use Rattle.format.specs.Limits as limits
-use Rattle.format.specs.Forest.{Forest, end, Plain, siblings, nodes, cost, bytes, Allowed}
+use Rattle.format.specs.Forest.{Forest, end, Plain, siblings, nodes, cost, form-in, Allowed}
 use Rattle.format.specs.Tree.{tree-of}
 use Rattle.format.specs.declared.Folded.{Folded}
 use Rattle.optimum.specs.Cheapest.{back, cheapest, best-cost}
@@ -47,9 +48,6 @@ whole-stretch t p = front-whole (siblings t) t p refl
 
 -- What the writer rests on, and the cost of the whole.
 module _ {s : List ℕ} {n : ℕ} {A : Allowed} {P : limits.Prices} {costs choices : List ℕ} (w : RunFilled s n A P costs choices) where
-  abbrev f : List ℕ
-  f = bytes (preferred A P (tree-of s))
-
   -- The cheapest fold at prices that count repeats is the preferred one.
   enough : nodes (tree-of s) < 2 * factor
   enough = omega (arith, w .all, w .few)
@@ -57,7 +55,7 @@ module _ {s : List ℕ} {n : ℕ} {A : Allowed} {P : limits.Prices} {costs choic
   same-fold : cheapest A (counting factor P) (tree-of s) ≡ preferred A P (tree-of s)
   same-fold = any-factor A P (tree-of s) (w .spelled .run A) factor enough
 
-  pub write-ready : {places nexts : List ℕ} → RunListed s places nexts → WriteReady s places nexts choices n 0
+  pub write-ready : {short : Bool} {places nexts : List ℕ} → RunListed s places nexts → WriteReady short s places nexts choices n 0
   write-ready l =
       record {
         tree = tree-of s;
@@ -105,8 +103,11 @@ module _ {s : List ℕ} {n : ℕ} {A : Allowed} {P : limits.Prices} {costs choic
             some (omega arith) ∙ whole-cost _ _ (rw (first, last, whole-stretch t (run .plain)) at x)
       ]
 
-  module _ {places nexts : List ℕ} (listed : RunListed s places nexts) (len : ℕ) (is-length : FoldLength s places nexts choices n 0 len)
+  module _ {short : Bool} {places nexts : List ℕ} (listed : RunListed s places nexts) (len : ℕ) (is-length : FoldLength short s places nexts choices n 0 len)
       (out : List ℕ) where
+    abbrev f : List ℕ
+    f = form-in short (preferred A P (tree-of s))
+
     len-is : len ≡ length f
     unfolding write-ready
     len-is = is-length .is-length (write-ready listed) ∙ rw same-fold
@@ -118,7 +119,7 @@ module _ {s : List ℕ} {n : ℕ} {A : Allowed} {P : limits.Prices} {costs choic
         (q ∙ rw e, rw e)
 
     pub answer-whole : len ≤ length out → (c : ℕ) → c ≡ cost P (preferred A P (tree-of s)) → (out′ : List ℕ) (r : ℕ)
-        → FoldWritten s places nexts choices n 0 out out′ r
+        → FoldWritten short s places nexts choices n 0 out out′ r
         → (record { refusal = 0; place = 0; length = len; cost = c } ≡ room-answer (length out) f (cost P (preferred A P (tree-of s))))
         × (out′ ≡ room-output f out)
     unfolding write-ready
@@ -128,10 +129,10 @@ module _ {s : List ℕ} {n : ℕ} {A : Allowed} {P : limits.Prices} {costs choic
         (rw (e, len-is, is-cost), rw e (v .written (write-ready listed) ∙ rw same-fold (rw zero-add at all)))
 
 -- The answer holds for whatever repeats and prices the table was filled.
-module _ {s places nexts : List ℕ} (listed : RunListed s places nexts) {n : ℕ} {costs choices : List ℕ} (len : ℕ)
-    (is-length : FoldLength s places nexts choices n 0 len) (out : List ℕ) where
+module _ {short : Bool} {s places nexts : List ℕ} (listed : RunListed s places nexts) {n : ℕ} {costs choices : List ℕ} (len : ℕ)
+    (is-length : FoldLength short s places nexts choices n 0 len) (out : List ℕ) where
   pub written-short : length out < len → (r : Folded) → r ≡ record { refusal = 14; place = 0; length = 0; cost = 0 }
-      → RunWritten s n costs choices out out r
+      → RunWritten short s n costs choices out out r
   written-short l r q =
       record {
         answered = λ A P w. answer-short w listed len is-length out l r q _ .0;
@@ -139,8 +140,8 @@ module _ {s places nexts : List ℕ} (listed : RunListed s places nexts) {n : �
       }
 
   pub written-whole : len ≤ length out → (c : ℕ) → (n ≡ 0 → c ≡ 0) → (0 < n → c ≡ getD costs (cell 0 n) 0) → (out′ : List ℕ) (r : ℕ)
-      → FoldWritten s places nexts choices n 0 out out′ r
-      → RunWritten s n costs choices out out′ (record { refusal = 0; place = 0; length = len; cost = c })
+      → FoldWritten short s places nexts choices n 0 out out′ r
+      → RunWritten short s n costs choices out out′ (record { refusal = 0; place = 0; length = len; cost = c })
   written-whole l c none some out′ r v =
       record {
         answered = λ A P w. answer-whole w listed len is-length out l c (whole-is w c none some) out′ r v .0;
@@ -168,9 +169,9 @@ module _ {s : List ℕ} {n limit : ℕ} {steps groups prices costs choices : Lis
     cleared {before} {after} k e =
         e ∙ rw (is-used, ← all) (ap (λ (x : List ℕ). replicate (cells (nodes (tree-of s))) 0 ++ x) (kept-tail (nodes (tree-of s)) before after k))
 
-    pub run-folded : {out out′ costs″ choices″ : List ℕ} {r : Folded} → RunWritten s n costs′ choices′ out out′ r
+    pub run-folded : {short : Bool} {out out′ costs″ choices″ : List ℕ} {r : Folded} → RunWritten short s n costs′ choices′ out out′ r
         → costs″ ≡ replicate used 0 ++ drop used costs′ → choices″ ≡ replicate used 0 ++ drop used choices′
-        → RunFolded s n A (prices-of steps groups prices) costs costs″ choices choices″ out out′ r
+        → RunFolded short s n A (prices-of steps groups prices) costs costs″ choices choices″ out out′ r
     run-folded w x y =
         record {
           answered = w .answered A (prices-of steps groups prices) run-filled;

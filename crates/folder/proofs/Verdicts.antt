@@ -4,7 +4,7 @@ use mathlib.Core.Bool.{Bool, true, false, true≢false}
 use mathlib.Core.List.{List, [], _++_}
 use Prim.Native.Nat.{ℕ, zero, suc, _+_, _-_, _*_, _<_, _≤_}
 use native.Mathlib.Nat.{mul-le-mul, zero-add}
-use native.Mathlib.Decide.{decLe}
+use native.Mathlib.Decide.{decLe, ℕ-discrete}
 use native.Mathlib.Omega.{arith}
 use lib.Dec.{ltb}
 use lib.ListN.{length, getD, take, drop, List·getD-eq-default}
@@ -12,27 +12,29 @@ use lib.Seq.{take-at}
 use borrow.Author.Tests.{ltb-false, ltb-true}
 use Rattle.format.specs.Limits.{limits, Prices, Tariff, tariff, priced, of-repeat, allowed, cells}
 use Rattle.format.specs.Order.{Bytes}
-use Rattle.format.specs.Forest.{nodes, cost, bytes, at-most}
+use Rattle.format.specs.Forest.{Forest, nodes, cost, form-in, bytes, at-most, Allowed}
 use Rattle.format.specs.Machine.{Outcome, refused, accepted, read}
 use Rattle.format.specs.Head.{head-checks, full-head}
 use Rattle.format.specs.Readings.{run-rules, format-rules, as-run-reading, run-outcome}
 use Rattle.format.specs.Tree.{tree-of}
+use Rattle.format.specs.Family.{long-form}
 use Rattle.format.specs.declared.Tally.{Tally}
 use Rattle.format.specs.declared.RunReading.{RunReading}
 use Rattle.format.specs.declared.Folded.{Folded}
 use Rattle.format.proofs.Heads.{headed-accepted, headed-narrow, headed-each}
 use Rattle.format.proofs.Marks.{sound-plain}
+use Rattle.format.proofs.Family.{converted-form}
 use Rattle.format.proofs.Refusals.{refused-some, refused-numbered}
 use Rattle.optimum.specs.Fewest.{preferred}
-use Rattle.optimum.specs.Verdict.{Verdict, refuses, folds, verdict}
-use Rattle.optimum.specs.Demands.{CheapestWithin, CheapestOver, MinimumTree}
+use Rattle.optimum.specs.Verdict.{Verdict, refuses, folds, verdict-in, verdict}
+use Rattle.optimum.specs.Demands.{CheapestWithin, CheapestOver, ShortOver, MinimumTree}
 use Rattle.optimum.proofs.Demands.{run-form, run-shape, run-nodes, run-few, cheapest-small, cheapest-bytes}
 use Rattle.optimum.proofs.Minimum.{cheapest-minimum}
 use Rattle.optimum.proofs.Fewest.{counted-repeat}
 use Rattle.table.specs.Listing.{Spelled}
 use Rattle.table.specs.Keys.{factor, top-price}
 use Rattle.filling.specs.Filling.{Prepared, prices-of, LevelReady}
-use Rattle.folder.specs.Folding.{folding, short-work, fold-answer, fold-output, fold-work}
+use Rattle.folder.specs.Folding.{folding-in, folding, shortened, short-work, fold-answer, fold-output, fold-work}
 use Rattle.folder.specs.inner.Prices.{PriceList}
 use Rattle.folder.specs.inner.Run.{RunFolded}
 
@@ -81,18 +83,19 @@ prices-priced steps groups marks prices first each wide-first wide-each a b p =
 
 -- The verdict, as the admission decides it.
 module _ (s : List ℕ) (k : ℕ) (T : Tariff) (r : RunReading) (admitted : r ≡ as-run-reading (run-outcome (full-head T k) s)) where
-  verdict-at : (o : Outcome) → run-outcome (full-head T k) s ≡ o → folding s k T ≡ verdict (allowed k (T .marks)) (priced T) s o
-  unfolding folding
-  verdict-at o e = rw e
+  verdict-at : (short : Bool) (o : Outcome) → run-outcome (full-head T k) s ≡ o
+      → folding-in short s k T ≡ verdict-in short (allowed k (T .marks)) (priced T) s o
+  unfolding folding-in
+  verdict-at short o e = rw e
 
   answer-at : (o : Outcome) → run-outcome (full-head T k) s ≡ o → r ≡ as-run-reading o
   answer-at o e = admitted ∙ ap as-run-reading e
 
-  pub verdict-refused : (r .refusal ≡ 0 → ⊥) → folding s k T ≡ refuses (r .refusal) (r .place)
-  verdict-refused z = by-outcome (run-outcome (full-head T k) s) refl
+  pub verdict-refused : (short : Bool) → (r .refusal ≡ 0 → ⊥) → folding-in short s k T ≡ refuses (r .refusal) (r .place)
+  verdict-refused short z = by-outcome (run-outcome (full-head T k) s) refl
     where
-      by-outcome : (o : Outcome) → run-outcome (full-head T k) s ≡ o → folding s k T ≡ refuses (r .refusal) (r .place)
-      by-outcome (refused n p) e = verdict-at (refused n p) e ∙ rw (answer-at (refused n p) e)
+      by-outcome : (o : Outcome) → run-outcome (full-head T k) s ≡ o → folding-in short s k T ≡ refuses (r .refusal) (r .place)
+      by-outcome (refused n p) e = verdict-at short (refused n p) e ∙ rw (answer-at (refused n p) e)
       by-outcome (accepted t x) e = absurd (z (ap (λ (y : RunReading). y .refusal) (answer-at (accepted t x) e)))
 
   -- A number of the admission is none of the folder's own, and 0 only where the run is accepted.
@@ -133,8 +136,9 @@ module _ (s : List ℕ) (k : ℕ) (T : Tariff) (r : RunReading) (admitted : r �
     unfolding run-outcome
     narrow = headed-narrow limits (full-head T k) (read run-rules s) (a .tally) (a .text) (a .admits)
 
-    pub verdict-folds : folding s k T ≡ folds (r .nodes) (bytes (preferred (allowed k (T .marks)) (priced T) (tree-of s))) (cost (priced T) (preferred (allowed k (T .marks)) (priced T) (tree-of s)))
-    verdict-folds = verdict-at (accepted (a .tally) (a .text)) (a .admits) ∙ rw (a .all)
+    pub verdict-folds : (short : Bool)
+        → folding-in short s k T ≡ folds (r .nodes) (form-in short (preferred (allowed k (T .marks)) (priced T) (tree-of s))) (cost (priced T) (preferred (allowed k (T .marks)) (priced T) (tree-of s)))
+    verdict-folds short = verdict-at short (accepted (a .tally) (a .text)) (a .admits) ∙ rw (a .all)
 
     module _ (small : Bytes s) where
       pub spelled : Spelled s
@@ -182,67 +186,121 @@ long-enough n costs choices e = by-tests (ltb costs (cells n)) (ltb choices (cel
     by-tests false true x y z = absurd (true≢false (sym (rw (x, y)) ∙ z))
     by-tests true b x y z = absurd (true≢false (sym (rw x) ∙ z))
 
--- All that the folder promises, at a verdict.
-module _ (run : List ℕ) (k : ℕ) (T : Tariff) (v : Verdict) (costs choices out : List ℕ) where
-  abbrev P : Prices
-  P = priced T
+abbrev refused-as : (n p : ℕ) → Folded
+refused-as n p = record { refusal = n; place = p; length = 0; cost = 0 }
 
-  -- What holds of the fold, whatever the verdict's words: on success and after 14.
-  abbrev Held : (out′ : List ℕ) → Folded → Type 0
-  Held out′ r =
-      (r .refusal ≡ 0 → CheapestWithin run k (format-rules T) (take (r .length) out′) (r .cost))
-      × ((r .refusal ≡ 0 → MinimumTree run k T (take (r .length) out′))
-      × (r .refusal ≡ 14 → CheapestOver (length out) run k (format-rules T)))
-
+-- What the folder answers, writes and leaves in the work, at a verdict.
+module _ (v : Verdict) (costs choices out : List ℕ) where
   abbrev pub Met : (costs′ choices′ out′ : List ℕ) → Folded → Type 0
   Met costs′ choices′ out′ r =
       (r ≡ fold-answer v (length costs) (length choices) (length out))
       × ((out′ ≡ fold-output v (length costs) (length choices) out)
-      × ((costs′ ≡ fold-work v (length costs) (length choices) costs)
-      × ((choices′ ≡ fold-work v (length costs) (length choices) choices) × Held out′ r)))
+      × ((costs′ ≡ fold-work v (length costs) (length choices) costs) × (choices′ ≡ fold-work v (length costs) (length choices) choices)))
 
-  -- Other numbers say nothing of the fold.
-  unheld : (n : ℕ) → (n ≡ 0 → ⊥) → (n ≡ 14 → ⊥) → (out′ : List ℕ) (r : Folded) → r .refusal ≡ n → Held out′ r
-  unheld n z w out′ r q = (λ y. absurd (z (sym q ∙ y)), (λ y. absurd (z (sym q ∙ y)), λ y. absurd (w (sym q ∙ y))))
-
-  abbrev refused-as : (n p : ℕ) → Folded
-  refused-as n p = record { refusal = n; place = p; length = 0; cost = 0 }
-
-  number : (n p : ℕ) (r : Folded) → r ≡ refused-as n p → r .refusal ≡ n
-  number n p r q = ap (λ (x : Folded). x .refusal) q
-
-  pub met-refused : (n p : ℕ) → v ≡ refuses n p → (n ≡ 0 → ⊥) → (n ≡ 14 → ⊥) → (r : Folded) → r ≡ refused-as n p → Met costs choices out r
-  met-refused n p e z w r q = (q ∙ rw e, (rw e, (rw e, (rw e, unheld n z w out r (number n p r q)))))
+  pub met-refused : (n p : ℕ) → v ≡ refuses n p → (r : Folded) → r ≡ refused-as n p → Met costs choices out r
+  met-refused n p e r q = (q ∙ rw e, (rw e, (rw e, rw e)))
 
   module _ (n : ℕ) (f : List ℕ) (c : ℕ) (e : v ≡ folds n f c) where
     pub met-short : short-work n (length costs) (length choices) ≡ true → (r : Folded) → r ≡ refused-as 13 0 → Met costs choices out r
-    met-short x r q = (q ∙ rw (e, x), (rw (e, x), (rw (e, x), (rw (e, x), unheld 13 (omega arith) (omega arith) out r (number 13 0 r q)))))
+    met-short x r q = (q ∙ rw (e, x), (rw (e, x), (rw (e, x), rw (e, x))))
 
   -- The run is folded.
-  module _ (n : ℕ) (e : v ≡ folds n (bytes (preferred (allowed k (T .marks)) P (tree-of run))) (cost P (preferred (allowed k (T .marks)) P (tree-of run))))
-      (long : short-work n (length costs) (length choices) ≡ false)
-      (costs′ choices′ out′ : List ℕ) (r : Folded) (folded : RunFolded run n (allowed k (T .marks)) P costs costs′ choices choices′ out out′ r)
-      (demands : CheapestWithin run k (format-rules T) (bytes (preferred (allowed k (T .marks)) P (tree-of run))) (cost P (preferred (allowed k (T .marks)) P (tree-of run)))
-      × MinimumTree run k T (bytes (preferred (allowed k (T .marks)) P (tree-of run)))) where
-    abbrev f : List ℕ
-    f = bytes (preferred (allowed k (T .marks)) P (tree-of run))
+  pub met-folded : (short : Bool) (run : List ℕ) (n : ℕ) (A : Allowed) (P : Prices)
+      → v ≡ folds n (form-in short (preferred A P (tree-of run))) (cost P (preferred A P (tree-of run)))
+      → short-work n (length costs) (length choices) ≡ false
+      → (costs′ choices′ out′ : List ℕ) (r : Folded) → RunFolded short run n A P costs costs′ choices choices′ out out′ r
+      → Met costs′ choices′ out′ r
+  met-folded short run n A P e long costs′ choices′ out′ r folded = (
+    folded .answered ∙ rw (e, long),
+    (folded .written ∙ rw (e, long), (folded .costs-cleared ∙ rw (e, long), folded .choices-cleared ∙ rw (e, long))),
+  )
 
-    held : (b : Bool) → ltb (length out) (length f) ≡ b → Held out′ r
-    held true t =
-        let q = number 14 0 r (folded .answered ∙ rw t) in
-        let l = ltb-true _ _ t in
-        (λ y. absurd (omega arith), (λ y. absurd (omega arith), λ y. record { fold = f; cost = cost P (preferred (allowed k (T .marks)) P (tree-of run)); cheapest = demands .0; longer = l }))
-    held false t =
-        let q : r ≡ record { refusal = 0; place = 0; length = length f; cost = cost P (preferred (allowed k (T .marks)) P (tree-of run)) } = folded .answered ∙ rw t in
-        let w : out′ ≡ f ++ drop (length f) out = folded .written ∙ rw t in
-        let x = take-at f (drop (length f) out) (length f) refl in
-        (λ y. rw (q, w, x) (demands .0), (λ y. rw (q, w, x) (demands .1), λ y. let z = ap (λ (u : Folded). u .refusal) q in absurd (omega arith)))
+-- What an answer and an output say of the fold, in either family: nothing by other numbers; on success it is in front; after 14 it has
+-- no room.
+module _ (short : Bool) (s : List ℕ) (small : Bytes s) (k : ℕ) (T : Tariff) (costs choices : ℕ) (out out′ : List ℕ) (r : Folded)
+    (answered : r ≡ fold-answer (folding-in short s k T) costs choices (length out))
+    (written : out′ ≡ fold-output (folding-in short s k T) costs choices out) where
+  abbrev best : Forest
+  best = preferred (allowed k (T .marks)) (priced T) (tree-of s)
 
-    pub met-folded : Met costs′ choices′ out′ r
-    met-folded = (
-      folded .answered ∙ rw (e, long),
-      (
-        folded .written ∙ rw (e, long),
-        (folded .costs-cleared ∙ rw (e, long), (folded .choices-cleared ∙ rw (e, long), held (ltb (length out) (length f)) refl)),
-      ),
-    )
+  abbrev Demanded : ℕ → Type 0
+  Demanded c = CheapestWithin s k (format-rules T) (bytes best) c × MinimumTree s k T (bytes best)
+
+  pub data Told : Type 0 where
+    other : (r .refusal ≡ 0 → ⊥) → (r .refusal ≡ 14 → ⊥) → Told
+    wrote : r .refusal ≡ 0 → Demanded (r .cost) → take (r .length) out′ ≡ form-in short best → Told
+    over : r .refusal ≡ 14 → (c : ℕ) → Demanded c → length out < length (form-in short best) → Told
+
+  abbrev admitted : RunReading
+  admitted = as-run-reading (run-outcome (full-head T k) s)
+
+  number : {u : Folded} → r ≡ u → r .refusal ≡ u .refusal
+  number e = ap (λ (x : Folded). x .refusal) e
+
+  told : Told
+  told = by-number (ℕ-discrete (admitted .refusal) 0)
+    where
+      folded : (a : Accepted s k T admitted refl) → (x y : Bool) → short-work (admitted .nodes) costs choices ≡ x
+          → ltb (length out) (length (form-in short best)) ≡ y → Told
+      folded a true y e f =
+          let q : r ≡ refused-as 13 0 = answered ∙ rw (verdict-folds s k T admitted refl a short, e) in
+          other (λ z. omega (arith, number q)) (λ z. omega (arith, number q))
+      folded a false true e f =
+          let q : r ≡ refused-as 14 0 = answered ∙ rw (verdict-folds s k T admitted refl a short, e, f) in
+          over (number q) _ (demands s k T admitted refl a small) (ltb-true _ _ f)
+      folded a false false e f =
+          let g = form-in short best in
+          let q : r ≡ record { refusal = 0; place = 0; length = length g; cost = cost (priced T) best } =
+          answered ∙ rw (verdict-folds s k T admitted refl a short, e, f) in
+          let w : out′ ≡ g ++ drop (length g) out = written ∙ rw (verdict-folds s k T admitted refl a short, e, f) in
+          wrote (number q) (rw q (demands s k T admitted refl a small)) (rw (q, w) (take-at g (drop (length g) out) (length g) refl))
+
+      by-number : Dec (admitted .refusal ≡ 0) → Told
+      by-number (yes z) = folded (accepted-run s k T admitted refl z) _ _ refl refl
+      by-number (no z) =
+          let q : r ≡ refused-as (admitted .refusal) (admitted .place) = answered ∙ rw (verdict-refused s k T admitted refl short z) in
+          other (λ y. z (sym (number q) ∙ y)) (λ y. run-number s k T admitted refl (sym (number q) ∙ y))
+
+-- THE SHORT FOLDER'S BYTES ARE THE SHORT FORM OF THE FOLDER'S, and all else is the same.
+pub short-folding : (s : List ℕ) (k : ℕ) (T : Tariff) → folding-in true s k T ≡ shortened (folding s k T)
+unfolding folding-in
+short-folding s k T = by-outcome (run-outcome (full-head T k) s)
+  where
+    by-outcome : (o : Outcome) → verdict-in true (allowed k (T .marks)) (priced T) s o ≡ shortened (verdict (allowed k (T .marks)) (priced T) s o)
+    by-outcome (refused n p) = refl
+    by-outcome (accepted t x) = rw (converted-form true false (preferred (allowed k (T .marks)) (priced T) (tree-of s)))
+
+-- DEMAND 3 AND THE REPORT'S PROBLEM, of what the folder writes; and of the long form of what the short folder writes.
+module _ (s : List ℕ) (small : Bytes s) (k : ℕ) (T : Tariff) (costs choices : ℕ) (out out′ : List ℕ) (r : Folded) where
+  abbrev Held : (List ℕ → List ℕ) → Type 0
+  Held form =
+      (r .refusal ≡ 0 → CheapestWithin s k (format-rules T) (form (take (r .length) out′)) (r .cost))
+      × (r .refusal ≡ 0 → MinimumTree s k T (form (take (r .length) out′)))
+
+  pub fold-held : r ≡ fold-answer (folding s k T) costs choices (length out) → out′ ≡ fold-output (folding s k T) costs choices out
+      → Held (λ g. g) × (r .refusal ≡ 14 → CheapestOver (length out) s k (format-rules T))
+  fold-held e f = by-told (told false s small k T costs choices out out′ r e f)
+    where
+      by-told : Told false s small k T costs choices out out′ r e f
+          → Held (λ g. g) × (r .refusal ≡ 14 → CheapestOver (length out) s k (format-rules T))
+      by-told (other x y) = ((λ z. absurd (x z), λ z. absurd (x z)), λ z. absurd (y z))
+      by-told (wrote n d g) = ((λ z. rw g (d .0), λ z. rw g (d .1)), λ z. absurd (omega arith))
+      by-told (over n c d l) =
+          ((λ z. absurd (omega arith), λ z. absurd (omega arith)), λ z. record { fold = _; cost = c; cheapest = d .0; longer = l })
+
+  pub short-held : r ≡ fold-answer (folding-in true s k T) costs choices (length out) → out′ ≡ fold-output (folding-in true s k T) costs choices out
+      → Held long-form × (r .refusal ≡ 14 → ShortOver (length out) s k (format-rules T))
+  short-held e f = by-told (told true s small k T costs choices out out′ r e f)
+    where
+      fold : Forest
+      fold = preferred (allowed k (T .marks)) (priced T) (tree-of s)
+
+      by-told : Told true s small k T costs choices out out′ r e f
+          → Held long-form × (r .refusal ≡ 14 → ShortOver (length out) s k (format-rules T))
+      by-told (other x y) = ((λ z. absurd (x z), λ z. absurd (x z)), λ z. absurd (y z))
+      by-told (wrote n d g) =
+          let back = converted-form false true fold in
+          ((λ z. rw (g, back) (d .0), λ z. rw (g, back) (d .1)), λ z. absurd (omega arith))
+      by-told (over n c d l) =
+          let short = converted-form true false fold in
+          ((λ z. absurd (omega arith), λ z. absurd (omega arith)), λ z. record { fold = bytes fold; cost = c; cheapest = d .0; longer = rw short l })

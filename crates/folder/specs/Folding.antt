@@ -1,5 +1,5 @@
 -- What the folder answers, writes and leaves in the work slices, for every run, limit, prices and lent slices.
-use mathlib.Core.Bool.{Bool, cond, _||_}
+use mathlib.Core.Bool.{Bool, false, cond, _||_}
 use mathlib.Core.List.{List, _++_}
 use Prim.Native.Nat.{ℕ}
 use lib.Dec.{ltb}
@@ -7,13 +7,23 @@ use lib.ListN.{length, drop, replicate}
 use Rattle.format.specs.Limits.{Tariff, priced, allowed, cells}
 use Rattle.format.specs.Head.{full-head}
 use Rattle.format.specs.Readings.{run-outcome}
+use Rattle.format.specs.Family.{short-form}
 use Rattle.format.specs.declared.Folded.{Folded}
-use Rattle.optimum.specs.Verdict.{Verdict, refuses, folds, verdict}
+use Rattle.optimum.specs.Verdict.{Verdict, refuses, folds, verdict-in}
 
--- The checks of tables, limit and marks, then the run's own refusals; or the cheapest fold.
-unfoldable pub folding : List ℕ → (limit : ℕ) → Tariff → Verdict
+-- The checks of tables, limit and marks, then the run's own refusals; or the cheapest fold, in a family.
+unfoldable pub folding-in : (short : Bool) → List ℕ → (limit : ℕ) → Tariff → Verdict
 unfolding run-outcome
-folding s k T = verdict (allowed k (T .marks)) (priced T) s (run-outcome (full-head T k) s)
+folding-in short s k T = verdict-in short (allowed k (T .marks)) (priced T) s (run-outcome (full-head T k) s)
+
+-- Where no family is named, the long one.
+abbrev pub folding : List ℕ → (limit : ℕ) → Tariff → Verdict
+folding s k T = folding-in false s k T
+
+-- A verdict with its fold in the short form: which fold it is was decided before.
+abbrev pub shortened : Verdict → Verdict
+shortened (refuses n p) = refuses n p
+shortened (folds n f c) = folds n (short-form f) c
 
 -- A work slice is too short for n nodes.
 abbrev pub short-work : (n costs choices : ℕ) → Bool

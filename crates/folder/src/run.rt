@@ -110,19 +110,20 @@ fn whole_cost(costs: &[u32], n: usize) -> u64
     widen(costs[entry(0, n)])
 }
 
-// Writes the fold of the whole run of n nodes, behind which nothing follows, and answers its length.
+// Writes the fold of the whole run of n nodes, in a family, behind which nothing follows, and answers its length.
 fn write_run(
     run: &[u8],
     n: usize,
     places: &[usize],
     nexts: &[usize],
     choices: &[u32],
+    short: bool,
     out: &mut [u8],
 ) -> usize
-    requires { ⌜ WriteReady (now run) (now places) (now nexts) (now choices) n 0 ⌝ }
-    ensures { λ r. ⌜ FoldWritten (now (run .entry)) (now (places .entry)) (now (nexts .entry)) (now (choices .entry)) n 0 (now (out .entry)) (now (out .exit)) r ⌝ }
+    requires { ⌜ WriteReady short (now run) (now places) (now nexts) (now choices) n 0 ⌝ }
+    ensures { λ r. ⌜ FoldWritten short (now (run .entry)) (now (places .entry)) (now (nexts .entry)) (now (choices .entry)) n 0 (now (out .entry)) (now (out .exit)) r ⌝ }
 {
-    put_fold(run, places, nexts, choices, n, 0, out)
+    put_fold(run, places, nexts, choices, short, n, 0, out)
 }
 
 // The fold of a run whose n nodes are listed and entered, written where it fits: its length is known before a byte is written.
@@ -133,17 +134,18 @@ fn put_run(
     nexts: &[usize],
     costs: &[u32],
     choices: &[u32],
+    short: bool,
     out: &mut [u8],
 ) -> Folded
     requires { ⌜ RunListed (now run) (now places) (now nexts) ⌝ }
     requires { ⌜ ((A : Allowed) × ((P : Prices) × RunFilled (now run) n A P (now costs) (now choices))) ⌝ }
-    ensures { λ r. ⌜ RunWritten (now (run .entry)) n (now (costs .entry)) (now (choices .entry)) (now (out .entry)) (now (out .exit)) r ⌝ }
+    ensures { λ r. ⌜ RunWritten short (now (run .entry)) n (now (costs .entry)) (now (choices .entry)) (now (out .entry)) (now (out .exit)) r ⌝ }
 {
-    let length = fold_length(run, places, nexts, choices, n, 0);
+    let length = fold_length(run, places, nexts, choices, short, n, 0);
     if out.len() < length {
         return refuse(14, 0);
     }
-    write_run(run, n, places, nexts, choices, out);
+    write_run(run, n, places, nexts, choices, short, out);
     let cost = whole_cost(costs, n);
     Folded {
         refusal: 0,
@@ -153,7 +155,7 @@ fn put_run(
     }
 }
 
-// Folds an accepted run of n nodes, and clears the table.
+// Folds an accepted run of n nodes, the fold in a family, and clears the table.
 pub fn fold_run(
     run: &[u8],
     n: usize,
@@ -162,13 +164,14 @@ pub fn fold_run(
     groups: &[u16],
     marks: &[u8],
     prices: &[u64],
+    short: bool,
     costs: &mut [u32],
     choices: &mut [u32],
     out: &mut [u8],
 ) -> Folded
     requires { ⌜ LevelReady (now run) 0 limit (now steps) (now groups) (now prices) (now costs) (now choices) ⌝ }
     requires { ⌜ nodes (tree-of (now run)) ≡ n ⌝ }
-    ensures { λ r. ⌜ RunFolded (now (run .entry)) n (allowed limit (now (marks .entry))) (prices-of (now (steps .entry)) (now (groups .entry)) (now (prices .entry))) (now (costs .entry)) (now (costs .exit)) (now (choices .entry)) (now (choices .exit)) (now (out .entry)) (now (out .exit)) r ⌝ }
+    ensures { λ r. ⌜ RunFolded short (now (run .entry)) n (allowed limit (now (marks .entry))) (prices-of (now (steps .entry)) (now (groups .entry)) (now (prices .entry))) (now (costs .entry)) (now (costs .exit)) (now (choices .entry)) (now (choices .exit)) (now (out .entry)) (now (out .exit)) r ⌝ }
 {
     let mut places = [0usize; Lists::LENGTH];
     let mut nexts = [0usize; Lists::LENGTH];
@@ -190,7 +193,7 @@ pub fn fold_run(
         costs,
         choices,
     );
-    let r = put_run(run, n, &places, &nexts, costs, choices, out);
+    let r = put_run(run, n, &places, &nexts, costs, choices, short, out);
     let used = entries(n);
     clear(costs, used);
     clear(choices, used);

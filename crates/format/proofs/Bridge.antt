@@ -1,7 +1,7 @@
--- The bridge: the machine accepts bytes exactly when they are the byte form of a tree of the right shape, with the tree's
--- counts and its unrolled bytes. And so: one fold is one tree, whatever the prices and the limit.
+-- The bridge: the machine accepts bytes exactly when they are the byte form, in the rules' family, of a tree of the right shape, with
+-- the tree's counts and its unrolled bytes. Neither prices nor limit decide which tree that is.
 use mathlib.Core.Path.{_≡_, refl, sym, ap, _∙_}
-use mathlib.Core.Bool.{Bool, true, false, false≢true}
+use mathlib.Core.Bool.{Bool, true, false, false≢true, cond, _&&_}
 use mathlib.Core.List.{List, [], _∷_, _++_, append-assoc, append-nil}
 use mathlib.Core.Logic.{_≢_, _↔_}
 use Prim.Native.Nat.{ℕ, zero, suc, _+_, _-_, _*_, _/_, _%_, _≤_, _<_, max}
@@ -9,15 +9,16 @@ use native.Mathlib.Nat.{zero-add}
 use native.Mathlib.Omega.{arith}
 use lib.ListN.{length, length-append, getD, drop}
 use lib.Seq.{drop-at, getD-append-add}
-use Rattle.format.specs.Limits.{Prices}
+use borrow.Author.Tests.{lt-ltb}
+use Rattle.format.specs.Limits.{Prices, in-one-byte}
 use Rattle.format.specs.Order.{Bytes}
-use Rattle.format.specs.Forest.{Forest, end, step, group, repeat, join, copies, unroll, siblings, nodes, steps, cost, bytes, two-bytes, holds, Plain, Allowed, Repeats, Sound, Coded, group-depth, repeat-depth, widest-of}
+use Rattle.format.specs.Forest.{Forest, end, step, group, repeat, join, copies, unroll, siblings, nodes, steps, cost, opening, opening-size, form-in, bytes, two-bytes, holds, Plain, Allowed, Repeats, Sound, Coded, group-depth, repeat-depth, widest-of}
 use Rattle.format.specs.Machine.{Rules, State, Open, a-group, a-repeat, open-groups, open-repeats, times, put-step, enter-group, leave-group, enter-repeat, leave-repeat, repeated, scan, read, start, refused, accepted, refusal}
 use Rattle.format.specs.Shape.{Shaped, tally-of, Reads}
 use Rattle.format.specs.declared.Tally.{Tally}
 use Rattle.format.proofs.Marks.{holds-both, neither, unmarked-step, unmarked-group, unmarked-repeat}
-use Rattle.format.proofs.Forests.{bytes-join, bytes-copies, siblings-join, nodes-join, steps-join, cost-join, unroll-join, join-end, sound-join, plain-join, coded-join, group-depth-join, repeat-depth-join}
-use Rattle.format.proofs.Machine.{scan-end, scan-passed, refusal-unknown, scan-step, scan-group, scan-group-end, scan-repeat, scan-repeat-end, step-passes, group-passes, group-end-passes, repeat-passes, repeat-end-passes, step-passed, group-passed, group-end-passed, repeat-passed, repeat-end-passed, Command, step-byte, group-byte, group-end-byte, repeat-byte, repeat-end-byte, other-byte, command, StepPasses, GroupPasses, GroupEndPasses, RepeatPasses, RepeatEndPasses}
+use Rattle.format.proofs.Forests.{opening-append, form-join, bytes-join, bytes-copies, siblings-join, nodes-join, steps-join, cost-join, unroll-join, join-end, sound-join, plain-join, coded-join, group-depth-join, repeat-depth-join}
+use Rattle.format.proofs.Machine.{scan-end, scan-passed, refusal-other, scan-step, scan-group, scan-group-end, scan-repeat, scan-short, scan-repeat-end, step-passes, group-passes, group-end-passes, repeat-passes, repeat-end-passes, step-passed, group-passed, group-end-passed, repeat-passed, repeat-end-passed, Opens, by-two, by-one, Command, step-byte, group-byte, group-end-byte, repeat-byte, repeat-end-byte, other-byte, command, StepPasses, GroupPasses, GroupEndPasses, RepeatPasses, RepeatEndPasses}
 
 -- The state after a sequence is read.
 unfoldable pub after : Rules → Forest → State → State
@@ -84,7 +85,7 @@ pub record Kept (st : State) : Type 0 where
 
 module _ (R : Rules) (st : State) where
   pub after-end : Kept st → after R end st ≡ st
-  unfolding after unroll bytes siblings nodes steps cost group-depth
+  unfolding after unroll form-in siblings nodes steps cost group-depth
   after-end kept =
       same-state refl (omega arith) (omega arith) (omega arith) (omega arith) (omega arith) (omega arith) (append-nil (st .text))
 
@@ -102,12 +103,12 @@ module _ (R : Rules) (st : State) where
       (append-assoc (st .text) (bytes (unroll f)) (bytes (unroll g)) ∙ ap (λ (y : List ℕ). st .text ++ y) (sym x))
 
   pub after-step : (l : ℕ) → Kept st → put-step (R .prices) l st ≡ after R (step l end) st
-  unfolding after put-step unroll bytes siblings nodes steps cost group-depth
+  unfolding after put-step unroll form-in siblings nodes steps cost group-depth
   after-step l kept = same-state refl refl refl refl (omega arith) refl (omega arith) refl
 
   pub counted-group : (l : ℕ) (b : Forest)
       → leave-group ((after R b (inside-group R l st)) .opens) (after R b (inside-group R l st)) ≡ after R (group l b end) st
-  unfolding after leave-group enter-group unroll bytes siblings nodes steps cost group-depth
+  unfolding after leave-group enter-group unroll form-in siblings nodes steps cost group-depth
   counted-group l b =
       same-state refl (omega arith) (omega arith) (simp length-append (omega arith)) (omega arith) (omega arith) (omega arith)
       (simp append-assoc)
@@ -214,15 +215,31 @@ module _ (R : Rules) (st : State) (l : ℕ) (b f : Forest) (z : Fits R st (group
       }
 
 module _ (R : Rules) (st : State) (h w : ℕ) (b f : Forest) (z : Fits R st (repeat h w b f)) where
-  repeat-opens : (s : List ℕ) → refusal R st 0x20 (two-bytes h (two-bytes w s)) ≡ 0
+  repeat-opens : (s : List ℕ) → (R .short && in-one-byte h w) ≡ false → refusal R st 0x20 (two-bytes h (two-bytes w s)) ≡ 0
   unfolding repeat-depth
-  repeat-opens s =
-      repeat-passes R st (two-bytes h (two-bytes w s)) (omega arith)
+  repeat-opens s big =
+      repeat-passes R st (two-bytes h (two-bytes w s)) (omega arith) by-two
       (record {
+        known = refl;
         folds = true-fold (R .folds) (z .plain);
         operand = omega arith;
         twice = rw (word-again h) (z .sound .0 .twice);
         narrow = rw (word-again w) (omega arith);
+        fitting = rw (word-again h, word-again w) big;
+        room = omega arith;
+      })
+
+  short-opens : (s : List ℕ) → R .short ≡ true → refusal R st 0x22 (h ∷ w ∷ s) ≡ 0
+  unfolding repeat-depth
+  short-opens s one =
+      repeat-passes R st (h ∷ w ∷ s) (omega arith) by-one
+      (record {
+        known = rw one;
+        folds = true-fold (R .folds) (z .plain);
+        operand = omega arith;
+        twice = z .sound .0 .twice;
+        narrow = omega arith;
+        fitting = refl;
         room = omega arith;
       })
 
@@ -261,6 +278,18 @@ module _ (R : Rules) (st : State) (h w : ℕ) (b f : Forest) (z : Fits R st (rep
         unmarked = λ i. unmarked-repeat _ h w b f (z .unmarked i) .1;
       }
 
+-- The bytes that open a repeat, whichever command does.
+pub opening-length : (short : Bool) (h w : ℕ) (s : List ℕ) → length (opening short h w s) ≡ opening-size short h w + length s
+opening-length short h w s = by-command (short && in-one-byte h w)
+  where
+    by-command : (one : Bool) → length (cond one (0x22 ∷ h ∷ w ∷ s) (0x20 ∷ two-bytes h (two-bytes w s))) ≡ cond one 3 5 + length s
+    by-command true = omega arith
+    by-command false = omega arith
+
+first-true : (a b : Bool) → (a && b) ≡ true → a ≡ true
+first-true true b e = refl
+first-true false b e = e
+
 -- A sequence that fits is passed, whatever follows it.
 module _ (R : Rules) where
   onward : {p q : ℕ} {st st' : State} (s : List ℕ) → p ≡ q → st ≡ st' → scan R p 0 st s ≡ scan R q 0 st' s
@@ -270,13 +299,26 @@ module _ (R : Rules) where
       → inside-repeat R (h / 256 * 256 + h % 256) (w / 256 * 256 + w % 256) st ≡ inside-repeat R h w st
   same-operands h w st = rw (word-again h, word-again w)
 
+  -- The open of a repeat that fits is passed, whichever command opens it.
+  scan-opening : (p : ℕ) (st : State) (h w : ℕ) (b f : Forest) → Fits R st (repeat h w b f) → (s : List ℕ)
+      → scan R p 0 st (opening (R .short) h w s) ≡ scan R (p + opening-size (R .short) h w) 0 (inside-repeat R h w st) s
+  scan-opening p st h w b f z s = by-command (R .short && in-one-byte h w) refl
+    where
+      by-command : (one : Bool) → (R .short && in-one-byte h w) ≡ one
+          → scan R p 0 st (opening (R .short) h w s) ≡ scan R (p + opening-size (R .short) h w) 0 (inside-repeat R h w st) s
+      by-command true e = rw e (scan-short R p st s h w (short-opens R st h w b f z s (first-true _ _ e)))
+      by-command false e =
+          rw e
+          (scan-repeat R p st s (h / 256) (h % 256) (w / 256) (w % 256) (repeat-opens R st h w b f z s e)
+          ∙ onward s refl (same-operands h w st))
+
   pub scan-forest : (f : Forest) (p : ℕ) (st : State) (s : List ℕ) → Fits R st f → Kept st
-      → scan R p 0 st (bytes f ++ s) ≡ scan R (p + length (bytes f)) 0 (after R f st) s
-  unfolding bytes join
+      → scan R p 0 st (form-in (R .short) f ++ s) ≡ scan R (p + length (form-in (R .short) f)) 0 (after R f st) s
+  unfolding form-in join
   scan-forest end p st s z kept = onward s (omega arith) (sym (after-end R st kept))
   scan-forest (step l f) p st s z kept =
       let st1 : State = after R (step l end) st in
-      let r : List ℕ = bytes f ++ s in
+      let r : List ℕ = form-in (R .short) f ++ s in
       scan-step R p st r l (step-on R st l f z r)
       ∙ onward r refl (after-step R st l kept)
       ∙ scan-forest f (p + 2) st1 s (step-rest R st l f z) (kept-after R st kept (step l end))
@@ -284,40 +326,40 @@ module _ (R : Rules) where
   scan-forest (group l b f) p st s z kept =
       let inner : State = after R b (inside-group R l st) in
       let st1 : State = after R (group l b end) st in
-      let q : ℕ = p + 2 + length (bytes b) in
-      let r : List ℕ = bytes f ++ s in
+      let q : ℕ = p + 2 + length (form-in (R .short) b) in
+      let r : List ℕ = form-in (R .short) f ++ s in
       rw append-assoc
-      (scan-group R p st (bytes b ++ 0x12 ∷ r) l (group-opens R st l b f z (bytes b ++ 0x12 ∷ r))
+      (scan-group R p st (form-in (R .short) b ++ 0x12 ∷ r) l (group-opens R st l b f z (form-in (R .short) b ++ 0x12 ∷ r))
       ∙ scan-forest b (p + 2) (inside-group R l st) (0x12 ∷ r) (group-body R st l b f z) (kept-inside-group R st kept l)
       ∙ scan-group-end R q inner r (group-closes R st l b f z r)
       ∙ onward r refl (counted-group R st l b)
       ∙ scan-forest f (q + 1) st1 s (group-rest R st l b f z) (kept-after R st kept (group l b end))
-      ∙ onward s (omega (arith, length-append (bytes b) (0x12 ∷ bytes f))) (after-join R st (group l b end) f))
+      ∙ onward s (omega (arith, length-append (form-in (R .short) b) (0x12 ∷ form-in (R .short) f))) (after-join R st (group l b end) f))
   scan-forest (repeat h w b f) p st s z kept =
       let inner : State = after R b (inside-repeat R h w st) in
       let st1 : State = after R (repeat h w b end) st in
-      let q : ℕ = p + 5 + length (bytes b) in
-      let r : List ℕ = bytes f ++ s in
-      let o : List ℕ = bytes b ++ 0x21 ∷ r in
-      rw append-assoc
-      (scan-repeat R p st o (h / 256) (h % 256) (w / 256) (w % 256) (repeat-opens R st h w b f z o)
-      ∙ onward o refl (same-operands h w st)
-      ∙ scan-forest b (p + 5) (inside-repeat R h w st) (0x21 ∷ r) (repeat-body R st h w b f z) (kept-inside-repeat R st kept h w)
+      let n : ℕ = opening-size (R .short) h w in
+      let q : ℕ = p + n + length (form-in (R .short) b) in
+      let r : List ℕ = form-in (R .short) f ++ s in
+      let o : List ℕ = form-in (R .short) b ++ 0x21 ∷ r in
+      rw (opening-append (R .short) h w (form-in (R .short) b ++ 0x21 ∷ form-in (R .short) f) s, append-assoc)
+      (scan-opening p st h w b f z o
+      ∙ scan-forest b (p + n) (inside-repeat R h w st) (0x21 ∷ r) (repeat-body R st h w b f z) (kept-inside-repeat R st kept h w)
       ∙ scan-repeat-end R q inner r (repeat-closes R st h w b f z r)
       ∙ onward r refl (counted-repeat R st h w b (omega arith) kept)
       ∙ scan-forest f (q + 1) st1 s (repeat-rest R st h w b f z) (kept-after R st kept (repeat h w b end))
-      ∙ onward s (omega (arith, length-append (bytes b) (0x21 ∷ bytes f))) (after-join R st (repeat h w b end) f))
+      ∙ onward s (omega (arith, opening-length (R .short) h w (form-in (R .short) b ++ 0x21 ∷ form-in (R .short) f), length-append (form-in (R .short) b) (0x21 ∷ form-in (R .short) f))) (after-join R st (repeat h w b end) f))
 
 -- The machine accepts every tree of the right shape, with the tree's counts and its unrolled bytes.
 pub accepts : (R : Rules) (f : Forest) → Shaped R f
-    → read R (bytes f) ≡ accepted (tally-of (R .prices) f) (bytes (unroll f))
+    → read R (form-in (R .short) f) ≡ accepted (tally-of (R .prices) f) (bytes (unroll f))
 unfolding read tally-of after
 accepts R f z =
     let fits : Fits R start f =
     record { coded = z .coded; sound = z .sound; plain = z .plain; room = omega arith; unmarked = λ i. absurd (omega arith) } in
     let deep : max (start .tally .depth) (group-depth f) ≡ group-depth f = omega arith in
-    rw (← append-nil (bytes f))
-    (scan-forest R f 0 start [] fits kept-start ∙ scan-end R (0 + length (bytes f)) (after R f start) ∙ simp (zero-add, deep))
+    rw (← append-nil (form-in (R .short) f))
+    (scan-forest R f 0 start [] fits kept-start ∙ scan-end R (0 + length (form-in (R .short) f)) (after R f start) ∙ simp (zero-add, deep))
 
 -- Back: accepted bytes begin with a sequence that fits, up to where its reading stops: the end, or a close.
 data Stops : List ℕ → Type 0 where
@@ -328,7 +370,7 @@ data Stops : List ℕ → Type 0 where
 record Begins (R : Rules) (st : State) (s : List ℕ) : Type 0 where
   tree : Forest
   rest : List ℕ
-  form : bytes tree ++ rest ≡ s
+  form : form-in (R .short) tree ++ rest ≡ s
   fits : Fits R st tree
   stops : Stops rest
 
@@ -370,14 +412,14 @@ module _ (R : Rules) (st : State) (room : RoomBeside R st end) where
         unmarked = λ i. neither _ _ (z .unmarked i) (neither _ _ (y .unmarked i) refl);
       }
 
-  repeat-room : (h w : ℕ) (s : List ℕ) → RepeatPasses R st s → RoomBeside R (inside-repeat R h w st) end
+  repeat-room : (h w c : ℕ) (s : List ℕ) → RepeatPasses R st c s → RoomBeside R (inside-repeat R h w st) end
   unfolding enter-repeat group-depth repeat-depth nodes
-  repeat-room h w s z = omega arith
+  repeat-room h w c s z = omega arith
 
-  repeat-fits : (h w : ℕ) (b : Forest) (s : List ℕ) → h < 65536 → w < 65536 → 2 ≤ h → w ≤ R .allowed .widest → RepeatPasses R st s
+  repeat-fits : (h w : ℕ) (b : Forest) (c : ℕ) (s : List ℕ) → h < 65536 → w < 65536 → 2 ≤ h → w ≤ R .allowed .widest → RepeatPasses R st c s
       → Fits R (inside-repeat R h w st) b → RepeatEndPasses R (after R b (inside-repeat R h w st)) → Fits R st (repeat h w b end)
   unfolding nodes group-depth repeat-depth enter-repeat after holds
-  repeat-fits h w b s hs ws twice narrow z y a =
+  repeat-fits h w b c s hs ws twice narrow z y a =
       let all : repeated h (st .tally .nodes) (st .tally .nodes + nodes b) ≡ st .tally .nodes + h * nodes b =
       repeated-all h (st .tally .nodes) (nodes b) (omega arith) in
       record {
@@ -431,12 +473,12 @@ module _ (R : Rules) (t : Tally) (x : List ℕ) where
 
   -- Where the reading of what begins stops.
   stopped : (p : ℕ) (st : State) (s : List ℕ) (q : Begins R st s) → Kept st → Accepts p st s
-      → Accepts (p + length (bytes (q .tree))) (after R (q .tree) st) (q .rest)
+      → Accepts (p + length (form-in (R .short) (q .tree))) (after R (q .tree) st) (q .rest)
   stopped p st s q kept e = sym (scan-forest R (q .tree) p st (q .rest) (q .fits) kept) ∙ rw (q .form) e
 
   -- No item begins at a stop.
   none-read : (st : State) → RoomBeside R st end → (s : List ℕ) → Stops s → Begins R st s
-  unfolding bytes holds
+  unfolding form-in holds
   none-read st room s stops =
       record {
         tree = end;
@@ -453,14 +495,14 @@ module _ (R : Rules) (t : Tally) (x : List ℕ) where
 
   module _ (n : ℕ) (ih : Parses n) (p : ℕ) (st : State) (room : RoomBeside R st end) (kept : Kept st) where
     -- Past a first item that fits.
-    past : (f : Forest) (s whole : List ℕ) → bytes f ++ s ≡ whole → 0 < length (bytes f) → length whole ≤ suc n
+    past : (f : Forest) (s whole : List ℕ) → form-in (R .short) f ++ s ≡ whole → 0 < length (form-in (R .short) f) → length whole ≤ suc n
         → Bytes whole → Fits R st f → Accepts p st whole → Begins R st whole
     past f s whole form some short small fits e =
         let shorter : length s ≤ n = omega (arith, simp length-append at (ap length form)) in
-        let small' : Bytes s = λ i. rw (← getD-append-add (bytes f) s i 0, form) (small (length (bytes f) + i)) in
-        let e' : Accepts p st (bytes f ++ s) = rw form e in
+        let small' : Bytes s = λ i. rw (← getD-append-add (form-in (R .short) f) s i 0, form) (small (length (form-in (R .short) f) + i)) in
+        let e' : Accepts p st (form-in (R .short) f ++ s) = rw form e in
         joined
-        (ih (p + length (bytes f)) (after R f st) s shorter small' (room-after R st f (fits .room)) (kept-after R st kept f)
+        (ih (p + length (form-in (R .short) f)) (after R f st) s shorter small' (room-after R st f (fits .room)) (kept-after R st kept f)
         (sym (scan-forest R f p st s fits kept) ∙ e'))
       where
         joined : Begins R (after R f st) s → Begins R st whole
@@ -468,14 +510,14 @@ module _ (R : Rules) (t : Tally) (x : List ℕ) where
             record {
               tree = join f (q .tree);
               rest = q .rest;
-              form = rw (bytes-join f (q .tree), append-assoc, q .form) form;
+              form = rw (form-join (R .short) f (q .tree), append-assoc, q .form) form;
               fits = fits-join R st f (q .tree) fits (q .fits);
               stops = q .stops;
             }
 
     parse-step : (s : List ℕ) → length s ≤ n → Bytes (0x10 ∷ s) → StepPasses R st s → Accepts p st (0x10 ∷ s)
         → Begins R st (0x10 ∷ s)
-    unfolding bytes
+    unfolding form-in
     parse-step [] short small z e = absurd (omega arith)
     parse-step (l ∷ s) short small z e =
         past (step l end) s (0x10 ∷ l ∷ s) refl (omega arith) (omega arith) small
@@ -487,7 +529,7 @@ module _ (R : Rules) (t : Tally) (x : List ℕ) where
         (z : GroupPasses R st (l ∷ s)) (e : Accepts p st (0x11 ∷ l ∷ s)) where
       group-shut : (q : Begins R (inside-group R l st) s)
           → Shut 0x12 (GroupEndPasses (after R (q .tree) (inside-group R l st))) (q .rest) → Begins R st (0x11 ∷ l ∷ s)
-      unfolding bytes
+      unfolding form-in
       group-shut q y =
           past (group l (q .tree) end) (y .past) (0x11 ∷ l ∷ s)
           (rw append-assoc (cc (y .form, q .form)))
@@ -502,7 +544,7 @@ module _ (R : Rules) (t : Tally) (x : List ℕ) where
       unfolding after enter-group
       group-read q =
           group-shut q
-          (shuts-group (p + 2 + length (bytes (q .tree))) (after R (q .tree) (inside-group R l st))
+          (shuts-group (p + 2 + length (form-in (R .short) (q .tree))) (after R (q .tree) (inside-group R l st))
           (room-after R (inside-group R l st) (q .tree) (q .fits .room)) (st .tally) (st .opens) refl (q .stops)
           (stopped (p + 2) (inside-group R l st) s q (kept-inside-group R st kept l) in-body))
 
@@ -515,65 +557,87 @@ module _ (R : Rules) (t : Tally) (x : List ℕ) where
         (kept-inside-group R st kept l)
         (in-body l s short small z e))
 
-    -- A repeat: the same, and its operands are its bytes again.
-    module _ (a b c d : ℕ) (s : List ℕ) (short : length (a ∷ b ∷ c ∷ d ∷ s) ≤ n) (small : Bytes (0x20 ∷ a ∷ b ∷ c ∷ d ∷ s))
-        (z : RepeatPasses R st (a ∷ b ∷ c ∷ d ∷ s)) (e : Accepts p st (0x20 ∷ a ∷ b ∷ c ∷ d ∷ s)) where
-      repeat-shut : (h w : ℕ) → h ≡ a * 256 + b → w ≡ c * 256 + d → (q : Begins R (inside-repeat R h w st) s)
-          → Shut 0x21 (RepeatEndPasses R (after R (q .tree) (inside-repeat R h w st))) (q .rest)
-          → Begins R st (0x20 ∷ a ∷ b ∷ c ∷ d ∷ s)
-      unfolding bytes
-      repeat-shut h w hs ws q y =
-          let a1 : a < 256 = small 1 in
-          let b1 : b < 256 = small 2 in
-          let c1 : c < 256 = small 3 in
-          let d1 : d < 256 = small 4 in
-          let h1 : h / 256 ≡ a = omega arith in
-          let h2 : h % 256 ≡ b = omega arith in
-          let w1 : w / 256 ≡ c = omega arith in
-          let w2 : w % 256 ≡ d = omega arith in
-          past (repeat h w (q .tree) end) (y .past) (0x20 ∷ a ∷ b ∷ c ∷ d ∷ s)
-          (rw append-assoc (cc (y .form, q .form)))
-          (omega arith) (omega arith) small
-          (repeat-fits R st room h w (q .tree) (a ∷ b ∷ c ∷ d ∷ s) (omega arith) (omega arith) (rw hs (z .twice))
-          (rw ws (z .narrow)) z (q .fits) (y .passes))
+    -- A repeat: the same, and its operands are its bytes again, in the family's form.
+    module _ (c h w : ℕ) (o s : List ℕ) (few : h < 65536) (narrow : w < 65536) (opened : (r : List ℕ) → opening (R .short) h w r ≡ c ∷ o ++ r)
+        (short : length (o ++ s) ≤ n) (small : Bytes (c ∷ o ++ s)) (z : RepeatPasses R st c (o ++ s))
+        (twice : 2 ≤ h) (within : w ≤ R .allowed .widest) (e : Accepts p st (c ∷ o ++ s)) where
+      abbrev in-pass : State
+      in-pass = inside-repeat R h w st
+
+      repeat-shut : (q : Begins R in-pass s) → Shut 0x21 (RepeatEndPasses R (after R (q .tree) in-pass)) (q .rest)
+          → Begins R st (c ∷ o ++ s)
+      unfolding form-in
+      repeat-shut q y =
+          let b : List ℕ = form-in (R .short) (q .tree) in
+          let written : opening (R .short) h w (b ++ 0x21 ∷ []) ++ y .past ≡ c ∷ o ++ s =
+          opening-append (R .short) h w (b ++ 0x21 ∷ []) (y .past)
+          ∙ rw (append-assoc, y .form, q .form) (opened s) in
+          past (repeat h w (q .tree) end) (y .past) (c ∷ o ++ s) written
+          (rw (opening-length (R .short) h w (b ++ 0x21 ∷ [])) (omega (arith, length-append b (0x21 ∷ []))))
+          (omega arith) small
+          (repeat-fits R st room h w (q .tree) c (o ++ s) few narrow twice within z (q .fits) (y .passes))
           e
 
-      abbrev in-pass : State
-      in-pass = inside-repeat R (a * 256 + b) (c * 256 + d) st
-
-      in-one-pass : Accepts (p + 5) in-pass s
-      in-one-pass = sym (scan-repeat R p st s a b c d (repeat-passes R st (a ∷ b ∷ c ∷ d ∷ s) (omega arith) z)) ∙ e
-
-      repeat-read : Begins R in-pass s → Begins R st (0x20 ∷ a ∷ b ∷ c ∷ d ∷ s)
+      repeat-read : Accepts (p + suc (length o)) in-pass s → Begins R in-pass s → Begins R st (c ∷ o ++ s)
       unfolding after enter-repeat
-      repeat-read q =
-          repeat-shut (a * 256 + b) (c * 256 + d) refl refl q
-          (shuts-repeat (p + 5 + length (bytes (q .tree))) (after R (q .tree) in-pass)
-          (room-after R in-pass (q .tree) (q .fits .room)) (a * 256 + b) (c * 256 + d) (st .tally) (st .opens) refl (q .stops)
-          (stopped (p + 5) in-pass s q (kept-inside-repeat R st kept (a * 256 + b) (c * 256 + d)) in-one-pass))
+      repeat-read a q =
+          repeat-shut q
+          (shuts-repeat (p + suc (length o) + length (form-in (R .short) (q .tree))) (after R (q .tree) in-pass)
+          (room-after R in-pass (q .tree) (q .fits .room)) h w (st .tally) (st .opens) refl (q .stops)
+          (stopped (p + suc (length o)) in-pass s q (kept-inside-repeat R st kept h w) a))
 
-    parse-repeat : (s : List ℕ) → length s ≤ n → Bytes (0x20 ∷ s) → RepeatPasses R st s → Accepts p st (0x20 ∷ s)
+      parse-body : Accepts (p + suc (length o)) in-pass s → Begins R st (c ∷ o ++ s)
+      parse-body a =
+          let behind : Bytes s = λ i. rw (← getD-append-add (c ∷ o) s i 0) (small (suc (length o) + i)) in
+          repeat-read a
+          (ih (p + suc (length o)) in-pass s (omega (arith, length-append o s)) behind (repeat-room R st room h w c (o ++ s) z)
+          (kept-inside-repeat R st kept h w) a)
+
+    parse-two : (s : List ℕ) → length s ≤ n → Bytes (0x20 ∷ s) → RepeatPasses R st 0x20 s → Accepts p st (0x20 ∷ s)
         → Begins R st (0x20 ∷ s)
-    parse-repeat [] short small z e = absurd (omega arith)
-    parse-repeat (a ∷ []) short small z e = absurd (omega arith)
-    parse-repeat (a ∷ b ∷ []) short small z e = absurd (omega arith)
-    parse-repeat (a ∷ b ∷ c ∷ []) short small z e = absurd (omega arith)
-    parse-repeat (a ∷ b ∷ c ∷ d ∷ s) short small z e =
-        repeat-read a b c d s short small z e
-        (ih (p + 5) (inside-repeat R (a * 256 + b) (c * 256 + d) st) s (omega arith) (λ i. small (suc (suc (suc (suc (suc i))))))
-        (repeat-room R st room (a * 256 + b) (c * 256 + d) (a ∷ b ∷ c ∷ d ∷ s) z)
-        (kept-inside-repeat R st kept (a * 256 + b) (c * 256 + d))
-        (in-one-pass a b c d s short small z e))
+    parse-two [] short small z e = absurd (omega arith)
+    parse-two (a ∷ []) short small z e = absurd (omega arith)
+    parse-two (a ∷ b ∷ []) short small z e = absurd (omega arith)
+    parse-two (a ∷ b ∷ c ∷ []) short small z e = absurd (omega arith)
+    parse-two (a ∷ b ∷ c ∷ d ∷ s) short small z e =
+        let a1 : a < 256 = small 1 in
+        let b1 : b < 256 = small 2 in
+        let c1 : c < 256 = small 3 in
+        let d1 : d < 256 = small 4 in
+        let h : ℕ = a * 256 + b in
+        let w : ℕ = c * 256 + d in
+        let h1 : h / 256 ≡ a = omega arith in
+        let h2 : h % 256 ≡ b = omega arith in
+        let w1 : w / 256 ≡ c = omega arith in
+        let w2 : w % 256 ≡ d = omega arith in
+        parse-body 0x20 h w (a ∷ b ∷ c ∷ d ∷ []) s (omega arith) (omega arith) (λ r. rw (z .fitting, h1, h2, w1, w2)) short small z
+        (z .twice) (z .narrow) e
+        (sym (scan-repeat R p st s a b c d (repeat-passes R st (a ∷ b ∷ c ∷ d ∷ s) (omega arith) by-two z)) ∙ e)
+
+    parse-one : (s : List ℕ) → length s ≤ n → Bytes (0x22 ∷ s) → RepeatPasses R st 0x22 s → Accepts p st (0x22 ∷ s)
+        → Begins R st (0x22 ∷ s)
+    parse-one [] short small z e = absurd (omega arith)
+    parse-one (h ∷ []) short small z e = absurd (omega arith)
+    parse-one (h ∷ w ∷ s) short small z e =
+        let h1 : h < 256 = small 1 in
+        let w1 : w < 256 = small 2 in
+        let one : (R .short && in-one-byte h w) ≡ true = rw (first-true (R .short) true (z .known), lt-ltb h 256 h1, lt-ltb w 256 w1) in
+        parse-body 0x22 h w (h ∷ w ∷ []) s (omega arith) (omega arith) (λ r. rw one) short small z (z .twice) (z .narrow) e
+        (sym (scan-short R p st s h w (repeat-passes R st (h ∷ w ∷ s) (omega arith) by-one z)) ∙ e)
+
+    parse-repeat : {c : ℕ} (o : Opens c) (s : List ℕ) → length s ≤ n → Bytes (c ∷ s) → RepeatPasses R st c s → Accepts p st (c ∷ s)
+        → Begins R st (c ∷ s)
+    parse-repeat by-two s short small z e = parse-two s short small z e
+    parse-repeat by-one s short small z e = parse-one s short small z e
 
     parse-command : {c : ℕ} (s : List ℕ) → Command c → length s ≤ n → Bytes (c ∷ s) → refusal R st c s ≡ 0
         → Accepts p st (c ∷ s) → Begins R st (c ∷ s)
     parse-command s step-byte short small pass e = parse-step s short small (step-passed R st s pass) e
     parse-command s group-byte short small pass e = parse-group s short small (group-passed R st s pass) e
     parse-command s group-end-byte short small pass e = none-read st room (0x12 ∷ s) at-group-end
-    parse-command s repeat-byte short small pass e =
-        parse-repeat s short small (repeat-passed R st s pass) e
+    parse-command s (repeat-byte o) short small pass e = parse-repeat o s short small (repeat-passed R st s o pass) e
     parse-command s repeat-end-byte short small pass e = none-read st room (0x21 ∷ s) at-repeat-end
-    parse-command s (other-byte {c} h) short small pass e = absurd (omega (arith, sym (refusal-unknown R st s c h) ∙ pass))
+    parse-command s (other-byte {c} h) short small pass e = absurd (omega (arith, sym (refusal-other R st s c h) ∙ pass))
 
   grow : (n : ℕ) → Parses n → Parses (suc n)
   grow n ih p st [] short small room kept e = none-read st room [] at-nothing
@@ -590,9 +654,9 @@ module _ (R : Rules) (t : Tally) (x : List ℕ) where
   unfolding read after
   whole-read s e q =
       let none : q .rest ≡ [] =
-      shuts-nothing (0 + length (bytes (q .tree))) (after R (q .tree) start) (room-after R start (q .tree) (q .fits .room))
+      shuts-nothing (0 + length (form-in (R .short) (q .tree))) (after R (q .tree) start) (room-after R start (q .tree) (q .fits .room))
       refl (q .stops) (stopped 0 start s q kept-start e) in
-      let form : bytes (q .tree) ≡ s = sym (append-nil (bytes (q .tree))) ∙ rw none at (q .form) in
+      let form : form-in (R .short) (q .tree) ≡ s = sym (append-nil (form-in (R .short) (q .tree))) ∙ rw none at (q .form) in
       let z = q .fits in
       let shape : Shaped R (q .tree) =
       record {
@@ -612,70 +676,16 @@ unfolding read nodes group-depth repeat-depth
 parses R s small t x e =
     whole-read R t x s e (parse R t x (length s) 0 start s (omega arith) small (omega arith) kept-start e)
 
--- What follows a sequence does not begin with an item.
-abbrev pub NoItem : List ℕ → Type 0
-NoItem s = (getD s 0 0 ≢ 0x10) × (getD s 0 0 ≢ 0x11) × (getD s 0 0 ≢ 0x20)
-
-same-word : (m n : ℕ) → m / 256 ≡ n / 256 → m % 256 ≡ n % 256 → m ≡ n
-same-word m n high low = omega arith
-
-byte : {r s : List ℕ} (n : ℕ) → r ≡ s → getD r n 0 ≡ getD s n 0
-byte n e = cc
-
-behind : {r s : List ℕ} (n : ℕ) → r ≡ s → drop n r ≡ drop n s
-behind n e = cc
-
-regrouped : (c : ℕ) (b d f g r s : List ℕ) → (b ++ c ∷ f) ++ r ≡ (d ++ c ∷ g) ++ s
-    → b ++ (c ∷ (f ++ r)) ≡ d ++ (c ∷ (g ++ s))
-regrouped c b d f g r s e = sym (append-assoc b (c ∷ f) r) ∙ e ∙ append-assoc d (c ∷ g) s
-
--- A byte form ends where the next item would not begin, so it is read in one way.
-pub bytes-apart : (f g : Forest) (r s : List ℕ) → NoItem r → NoItem s → bytes f ++ r ≡ bytes g ++ s → (f ≡ g) × (r ≡ s)
-unfolding bytes
-bytes-apart end end r s m n e = (refl, e)
-bytes-apart end (step l g) r s m n e = absurd (omega (arith, byte 0 e))
-bytes-apart end (group l b g) r s m n e = absurd (omega (arith, byte 0 e))
-bytes-apart end (repeat h w b g) r s m n e = absurd (omega (arith, byte 0 e))
-bytes-apart (step l f) end r s m n e = absurd (omega (arith, byte 0 e))
-bytes-apart (group l b f) end r s m n e = absurd (omega (arith, byte 0 e))
-bytes-apart (repeat h w b f) end r s m n e = absurd (omega (arith, byte 0 e))
-bytes-apart (step l f) (step k g) r s m n e =
-    let j = bytes-apart f g r s m n (behind 2 e) in
-    (cc (byte 1 e, j .0), j .1)
-bytes-apart (group l b f) (group k d g) r s m n e =
-    let i =
-    bytes-apart b d (0x12 ∷ (bytes f ++ r)) (0x12 ∷ (bytes g ++ s)) (omega arith) (omega arith)
-    (regrouped 0x12 (bytes b) (bytes d) (bytes f) (bytes g) r s (behind 2 e)) in
-    let j = bytes-apart f g r s m n (behind 1 (i .1)) in
-    (cc (byte 1 e, i .0, j .0), j .1)
-bytes-apart (repeat h w b f) (repeat k v d g) r s m n e =
-    let i =
-    bytes-apart b d (0x21 ∷ (bytes f ++ r)) (0x21 ∷ (bytes g ++ s)) (omega arith) (omega arith)
-    (regrouped 0x21 (bytes b) (bytes d) (bytes f) (bytes g) r s (behind 5 e)) in
-    let j = bytes-apart f g r s m n (behind 1 (i .1)) in
-    (cc (same-word h k (byte 1 e) (byte 2 e), same-word w v (byte 3 e) (byte 4 e), i .0, j .0), j .1)
-bytes-apart (step l f) (group k d g) r s m n e = absurd (omega (arith, byte 0 e))
-bytes-apart (step l f) (repeat k v d g) r s m n e = absurd (omega (arith, byte 0 e))
-bytes-apart (group l b f) (step k g) r s m n e = absurd (omega (arith, byte 0 e))
-bytes-apart (group l b f) (repeat k v d g) r s m n e = absurd (omega (arith, byte 0 e))
-bytes-apart (repeat h w b f) (step k g) r s m n e = absurd (omega (arith, byte 0 e))
-bytes-apart (repeat h w b f) (group k d g) r s m n e = absurd (omega (arith, byte 0 e))
-
--- One fold, one tree.
-pub bytes-injective : (f g : Forest) → bytes f ≡ bytes g → f ≡ g
-bytes-injective f g e =
-    bytes-apart f g [] [] (omega arith) (omega arith) (append-nil (bytes f) ∙ e ∙ sym (append-nil (bytes g))) .0
-
 -- Bytes that read as a tree are accepted: with `parses`, the machine accepts exactly those.
 pub reads-accepted : {R : Rules} {s : List ℕ} {t : Tally} {x : List ℕ} → Reads R s t x → read R s ≡ accepted t x
 reads-accepted {R} {s} {t} {x} a = cc (accepts R (a .tree) (a .shape), a .form, a .counts, a .text)
 
 -- The same rules with other prices; with another width limit.
 abbrev pub at-prices : Rules → Prices → Rules
-at-prices R Q = record { limits = R .limits; folds = R .folds; allowed = R .allowed; prices = Q }
+at-prices R Q = record { limits = R .limits; folds = R .folds; short = R .short; allowed = R .allowed; prices = Q }
 
 abbrev pub allowing : Rules → Allowed → Rules
-allowing R A = record { limits = R .limits; folds = R .folds; allowed = A; prices = R .prices }
+allowing R A = record { limits = R .limits; folds = R .folds; short = R .short; allowed = A; prices = R .prices }
 
 abbrev pub at-limit : Rules → ℕ → Rules
 at-limit R k = allowing R (record { widest = k; marked = R .allowed .marked })

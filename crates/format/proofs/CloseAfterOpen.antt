@@ -10,9 +10,9 @@ use native.Mathlib.Omega.{arith}
 use lib.Dec.{eqb}
 use lib.ListN.{length, getD, take, drop}
 use borrow.Author.Tests.{le-ltb, eqb-true, not-false}
-use Rattle.format.specs.Machine.{Rules, State, Open, a-group, a-repeat, Check, _when_, first-of, checks, refusal, read, advance, operands, is-close, in-group, in-repeat, leave-group, leave-repeat, refused}
+use Rattle.format.specs.Machine.{Rules, State, Open, a-group, a-repeat, Check, _when_, first-of, checks, refusal, read, advance, operands, opens-repeat, is-close, in-group, in-repeat, leave-group, leave-repeat, refused}
 use Rattle.format.specs.Reasons.{None, Reached, at-start, passed, Because, at-command, left-open, OneKind, CloseAfterOpen}
-use Rattle.format.proofs.Machine.{refusal-unknown, Command, step-byte, group-byte, group-end-byte, repeat-byte, repeat-end-byte, other-byte, command, group-end-passed, repeat-passed, repeat-end-passed}
+use Rattle.format.proofs.Machine.{Opens, by-two, by-one, opens, refusal-other, Command, step-byte, group-byte, group-end-byte, repeat-byte, repeat-end-byte, other-byte, command, group-end-passed, repeat-passed, repeat-end-passed}
 use Rattle.format.proofs.Refusals.{Each, first-each, refused-exactly}
 
 -- Every open repeat has a count of at least 2, so at its close one sibling inside it is at least two outside.
@@ -24,7 +24,7 @@ Twice (a-repeat h w o ∷ os) = (2 ≤ h) × Twice os
 -- What a passed command leaves: the group or the repeat that it opens, or a sibling.
 data Leaves (c : ℕ) (st : State) : Type 0 where
   new-group : c ≡ 0x11 → in-repeat (st .opens) ≡ false → Leaves c st
-  new-repeat : c ≡ 0x20 → in-group (st .opens) ≡ false → Leaves c st
+  new-repeat : opens-repeat c ≡ true → in-group (st .opens) ≡ false → Leaves c st
   some-sibling : 0 < st .tally .siblings → Leaves c st
 
 record KeptCommand (c : ℕ) (st : State) : Type 0 where
@@ -66,12 +66,14 @@ module _ (R : Rules) (st : State) (rest : List ℕ) where
   kept group-byte z e = record { twice = z; leaves = new-group refl refl }
   kept group-end-byte z e =
       group-end-kept (st .opens) z (group-end-passed R st rest e .inner)
-  kept repeat-byte z e =
-      record { twice = (repeat-passed R st rest e .twice, z); leaves = new-repeat refl refl }
+  kept (repeat-byte by-two) z e =
+      record { twice = (repeat-passed R st rest by-two e .twice, z); leaves = new-repeat refl refl }
+  kept (repeat-byte by-one) z e =
+      record { twice = (repeat-passed R st rest by-one e .twice, z); leaves = new-repeat refl refl }
   kept repeat-end-byte z e =
       let y = repeat-end-passed R st rest e in
       repeat-end-kept (st .opens) z (y .inner) (y .some)
-  kept (other-byte {c} u) z e = absurd (omega (arith, refusal-unknown R st rest c u))
+  kept (other-byte {c} u) z e = absurd (omega (arith, refusal-other R st rest c u))
 
   -- Where check 5 answers none of the first four checks applies.
   fifth : (c : ℕ) → refusal R st c rest ≡ 5 → None (take 4 (checks R st c rest)) × (is-close c && eqb (st .tally .siblings) 0 ≡ true)
@@ -85,25 +87,26 @@ module _ (R : Rules) (st : State) (rest : List ℕ) where
   shut group-end-byte e =
       let z = fifth 0x12 e in
       shut-group refl (not-false _ (rw or-false at (z .0 .1 .1 .1 .0))) (eqb-true _ _ (z .1))
-  shut repeat-byte e = absurd (false≢true (fifth 0x20 e .1))
+  shut (repeat-byte by-two) e = absurd (false≢true (fifth 0x20 e .1))
+  shut (repeat-byte by-one) e = absurd (false≢true (fifth 0x22 e .1))
   shut repeat-end-byte e =
       let z = fifth 0x21 e in
       shut-repeat refl (not-false _ (z .0 .1 .1 .1 .0)) (eqb-true _ _ (z .1))
-  shut (other-byte {c} u) e = absurd (omega (arith, refusal-unknown R st rest c u))
+  shut (other-byte {c} u) e = absurd (omega (arith, refusal-other R st rest c u))
 
   -- Check 5 answers at the close of what was just opened.
   empty-group : (s : List ℕ) → refusal R (advance (R .prices) 0x11 rest st) 0x12 s ≡ 5
   unfolding advance refusal
   empty-group s = rw (le-ltb (length s) 0 (omega arith))
 
-  empty-repeat : (s : List ℕ) → refusal R st 0x20 rest ≡ 0 → refusal R (advance (R .prices) 0x20 rest st) 0x21 s ≡ 5
+  empty-repeat : {c : ℕ} (s : List ℕ) → Opens c → refusal R st c rest ≡ 0 → refusal R (advance (R .prices) c rest st) 0x21 s ≡ 5
   unfolding advance refusal
-  empty-repeat s e =
-      rw (repeat-passed R st rest e .folds, le-ltb (length s) 0 (omega arith))
+  empty-repeat s by-two e = rw (repeat-passed R st rest by-two e .folds, le-ltb (length s) 0 (omega arith))
+  empty-repeat s by-one e = rw (repeat-passed R st rest by-one e .folds, le-ltb (length s) 0 (omega arith))
 
   close-five : (c d : ℕ) (s : List ℕ) → OneKind c d → refusal R st c rest ≡ 0 → refusal R (advance (R .prices) c rest st) d s ≡ 5
   close-five c d s (inl k) e = rw (k .0, k .1) (empty-group s)
-  close-five c d s (inr k) e = rw (k .0, k .1) (empty-repeat s (rw (k .0) at e))
+  close-five c d s (inr k) e = rw (k .1) (empty-repeat s (opens c (k .0)) e)
 
 module _ (R : Rules) (s : List ℕ) where
   -- At every point that is reached the open repeats have counts of at least 2.

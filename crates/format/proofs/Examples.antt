@@ -8,15 +8,16 @@ use Rattle.format.specs.Limits.{Tariff, tariff}
 use Rattle.format.specs.Machine.{times}
 use Rattle.format.specs.Head.{marks-in-order}
 use Rattle.format.specs.Marks.{free-marks, mark-of, all-marks}
-use Rattle.format.specs.Readings.{run-reading, fold-reading}
+use Rattle.format.specs.Readings.{run-reading, fold-reading, short-reading}
 use Rattle.format.specs.Parts.{part-of}
 use Rattle.format.specs.declared.RunReading.{RunReading}
 use Rattle.format.specs.declared.FoldReading.{FoldReading}
 
--- What a reader is asked: a run; or a fold at a width limit and what is lent to price it.
+-- What a reader is asked: a run; or a fold, or a short fold, at a width limit and what is lent to price it.
 pub data Asked : Type 0 where
   run : (input : List ℕ) → Asked
   fold-with : (limit : ℕ) → Tariff → (input : List ℕ) → Asked
+  short-with : (limit : ℕ) → Tariff → (input : List ℕ) → Asked
 
 -- A table of that many entries, each 1.
 abbrev pub ones : ℕ → List ℕ
@@ -72,9 +73,10 @@ from-run-reading r =
     }
 
 unfoldable pub answer : Asked → FoldReading
-unfolding run-reading fold-reading
+unfolding run-reading fold-reading short-reading
 answer (run s) = from-run-reading (run-reading s)
 answer (fold-with k T s) = fold-reading s k T
+answer (short-with k T s) = short-reading s k T
 
 unfoldable pub answered : Case → FoldReading
 unfolding answer
@@ -87,7 +89,7 @@ expected (q gives a) = a
 abbrev pub Hold : List Case → Type 0
 Hold cs = map answered cs ≡ map expected cs
 
--- Checks 1 to 12, 15, 18 and 19 of the table of refusals, each by its example there.
+-- Checks 1 to 12, 15, 18, 19 and 20 of the table of refusals, each by its example there.
 unfoldable pub refusals : List Case
 unfolding fold times
 refusals =
@@ -106,6 +108,7 @@ refusals =
     ∷ fold-with 1024 (sized 256 255) [] gives a-refusal 15 0
     ∷ fold-with 1024 (marked-with (times 255 (0 ∷ []) ++ 2 ∷ [])) [] gives a-refusal 18 0
     ∷ fold-with 1024 (marked-with (mark-of 7)) (0x20 ∷ 0x00 ∷ 0x02 ∷ 0x00 ∷ 0x01 ∷ 0x10 ∷ 0x07 ∷ 0x21 ∷ []) gives a-refusal 19 5
+    ∷ short-with 1024 (sized 256 256) (0x20 ∷ 0x00 ∷ 0x02 ∷ 0x00 ∷ 0x01 ∷ 0x10 ∷ 0x07 ∷ 0x21 ∷ []) gives a-refusal 20 0
     ∷ []
 
 pub refusals-hold : Hold refusals

@@ -1,13 +1,16 @@
 -- Laws of sequences: what joining, copying and unrolling do to byte form, counts and cost.
 use mathlib.Core.Path.{_≡_, refl, sym, ap, ap₂, _∙_}
+use mathlib.Core.Bool.{Bool, true, false, false≢true, cond, _&&_}
 use mathlib.Core.List.{List, [], _∷_, _++_, append-assoc}
 use Prim.Native.Nat.{ℕ, zero, suc, _+_, _*_, _/_, _%_, _<_, _≤_, max}
 use native.Mathlib.Nat.{zero-add, suc-add}
 use native.Mathlib.Omega.{arith}
+use lib.Dec.{ltb}
 use lib.ListN.{getD}
-use Rattle.format.specs.Limits.{Prices}
+use borrow.Author.Tests.{ltb-true}
+use Rattle.format.specs.Limits.{Prices, in-one-byte}
 use Rattle.format.specs.Order.{Bytes}
-use Rattle.format.specs.Forest.{Forest, end, step, group, repeat, join, copies, unroll, siblings, nodes, steps, cost, bytes, Plain, Allowed, Sound, Coded, group-depth, repeat-depth}
+use Rattle.format.specs.Forest.{Forest, end, step, group, repeat, join, copies, unroll, siblings, nodes, steps, cost, opening, form-in, bytes, two-bytes, Plain, Allowed, Sound, Coded, group-depth, repeat-depth}
 use Rattle.format.specs.Machine.{times}
 
 pub join-end : (f : Forest) → join f end ≡ f
@@ -24,12 +27,26 @@ join-assoc (step l f) g k = ap (step l) (join-assoc f g k)
 join-assoc (group l b f) g k = ap (group l b) (join-assoc f g k)
 join-assoc (repeat h w b f) g k = ap (repeat h w b) (join-assoc f g k)
 
+-- What stands behind the open of a repeat stands behind it, whichever command opens it.
+pub opening-append : (short : Bool) (h w : ℕ) (s t : List ℕ) → opening short h w s ++ t ≡ opening short h w (s ++ t)
+opening-append short h w s t = by-command (short && in-one-byte h w)
+  where
+    by-command : (one : Bool) → cond one (0x22 ∷ h ∷ w ∷ s) (0x20 ∷ two-bytes h (two-bytes w s)) ++ t
+        ≡ cond one (0x22 ∷ h ∷ w ∷ (s ++ t)) (0x20 ∷ two-bytes h (two-bytes w (s ++ t)))
+    by-command true = refl
+    by-command false = refl
+
+pub form-join : (short : Bool) (f g : Forest) → form-in short (join f g) ≡ form-in short f ++ form-in short g
+unfolding join form-in
+form-join short end g = refl
+form-join short (step l f) g = rw (form-join short f g)
+form-join short (group l b f) g = rw (form-join short f g, append-assoc (form-in short b) (0x12 ∷ form-in short f) (form-in short g))
+form-join short (repeat h w b f) g =
+    rw (form-join short f g, ← append-assoc (form-in short b) (0x21 ∷ form-in short f) (form-in short g))
+    (sym (opening-append short h w (form-in short b ++ 0x21 ∷ form-in short f) (form-in short g)))
+
 pub bytes-join : (f g : Forest) → bytes (join f g) ≡ bytes f ++ bytes g
-unfolding join bytes
-bytes-join end g = refl
-bytes-join (step l f) g = rw (bytes-join f g)
-bytes-join (group l b f) g = rw (bytes-join f g, append-assoc (bytes b) (0x12 ∷ bytes f) (bytes g))
-bytes-join (repeat h w b f) g = rw (bytes-join f g, append-assoc (bytes b) (0x21 ∷ bytes f) (bytes g))
+bytes-join f g = form-join false f g
 
 pub siblings-join : (f g : Forest) → siblings (join f g) ≡ siblings f + siblings g
 unfolding join siblings
@@ -68,7 +85,7 @@ unroll-join (repeat h w b f) g =
     ap (join (copies h (unroll b))) (unroll-join f g) ∙ sym (join-assoc (copies h (unroll b)) (unroll f) (unroll g))
 
 pub bytes-copies : (h : ℕ) (f : Forest) → bytes (copies h f) ≡ times h (bytes f)
-unfolding copies times bytes
+unfolding copies times form-in
 bytes-copies zero f = refl
 bytes-copies (suc h) f = bytes-join f (copies h f) ∙ ap (λ (s : List ℕ). bytes f ++ s) (bytes-copies h f)
 
@@ -254,21 +271,43 @@ each-bytes none i = omega arith
 each-bytes (one l p) zero = l
 each-bytes (one l p) (suc i) = each-bytes p i
 
-each-coded : (f : Forest) → Coded f → Each (bytes f)
-unfolding bytes
-each-coded end p = none
-each-coded (step l f) p = one {a = 0x10} (omega arith) (one (p .0) (each-coded f (p .1)))
-each-coded (group l b f) p =
+-- A `22` stands only for a count and a width that a byte each can hold.
+pub one-byte-each : (short : Bool) (h w : ℕ) → (short && in-one-byte h w) ≡ true → (h < 256) × (w < 256)
+one-byte-each short h w e = let z = both short (ltb h 256) (ltb w 256) e in (ltb-true h 256 (z .0), ltb-true w 256 (z .1))
+  where
+    both : (a b d : Bool) → (a && (b && d)) ≡ true → (b ≡ true) × (d ≡ true)
+    both true true true e = (refl, refl)
+    both true true false e = absurd (false≢true e)
+    both true false d e = absurd (false≢true e)
+    both false b d e = absurd (false≢true e)
+
+each-opening : (short : Bool) (h w : ℕ) {s : List ℕ} → h < 65536 → w < 65536 → Each s → Each (opening short h w s)
+each-opening short h w {s} hs ws p = by-command (short && in-one-byte h w) refl
+  where
+    by-command : (one : Bool) → (short && in-one-byte h w) ≡ one → Each (cond one (0x22 ∷ h ∷ w ∷ s) (0x20 ∷ two-bytes h (two-bytes w s)))
+    by-command true e =
+        let z = one-byte-each short h w e in
+        one {a = 0x22} (omega arith) (one (z .0) (one (z .1) p))
+    by-command false e =
+        let x : h / 256 < 256 = omega arith in
+        let y : w / 256 < 256 = omega arith in
+        let m : h % 256 < 256 = omega arith in
+        let n : w % 256 < 256 = omega arith in
+        one {a = 0x20} (omega arith) (one x (one m (one y (one n p))))
+
+each-coded : (short : Bool) (f : Forest) → Coded f → Each (form-in short f)
+unfolding form-in
+each-coded short end p = none
+each-coded short (step l f) p = one {a = 0x10} (omega arith) (one (p .0) (each-coded short f (p .1)))
+each-coded short (group l b f) p =
     one {a = 0x11} (omega arith)
-    (one (p .0) (each-append (each-coded b (p .1)) (one {a = 0x12} (omega arith) (each-coded f (p .2)))))
-each-coded (repeat h w b f) p =
-    let x : h / 256 < 256 = omega arith in
-    let y : w / 256 < 256 = omega arith in
-    let m : h % 256 < 256 = omega arith in
-    let n : w % 256 < 256 = omega arith in
-    one {a = 0x20} (omega arith)
-    (one x (one m (one y (one n
-    (each-append (each-coded b (p .2)) (one {a = 0x21} (omega arith) (each-coded f (p .3))))))))
+    (one (p .0) (each-append (each-coded short b (p .1)) (one {a = 0x12} (omega arith) (each-coded short f (p .2)))))
+each-coded short (repeat h w b f) p =
+    each-opening short h w (p .0) (p .1)
+    (each-append (each-coded short b (p .2)) (one {a = 0x21} (omega arith) (each-coded short f (p .3))))
+
+pub form-bytes : (short : Bool) (f : Forest) → Coded f → Bytes (form-in short f)
+form-bytes short f p = each-bytes (each-coded short f p)
 
 pub coded-bytes : (f : Forest) → Coded f → Bytes (bytes f)
-coded-bytes f p = each-bytes (each-coded f p)
+coded-bytes f p = form-bytes false f p

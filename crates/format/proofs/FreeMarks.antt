@@ -12,7 +12,7 @@ use Rattle.format.specs.Order.{Bytes}
 use Rattle.format.specs.Forest.{Forest, end, step, group, repeat, holds, Sound}
 use Rattle.format.specs.Machine.{Rules, State, is-node, checks, first-of, refusal, Outcome, accepted, read}
 use Rattle.format.specs.Head.{head-checks, headed, marks-in-order, full-head}
-use Rattle.format.specs.Readings.{fold-rules, as-fold-reading, fold-outcome, fold-reading}
+use Rattle.format.specs.Readings.{fold-rules, as-fold-reading, outcome-in, fold-outcome, fold-reading}
 use Rattle.format.specs.Meaning.{NoneRepeated, report, report-of}
 use Rattle.format.specs.Shape.{Reads}
 use Rattle.format.specs.Tree.{tree-of}
@@ -23,7 +23,7 @@ use Rattle.format.proofs.Lists.{zeros}
 use Rattle.format.proofs.Marks.{holds-none}
 use Rattle.format.proofs.Bridge.{parses, reads-accepted, sound-widest, sound-within, reads-allowing}
 use Rattle.format.proofs.Report.{fold-of-report, none-repeated, none-held, none-within}
-use Rattle.format.proofs.Tree.{tree-of-bytes}
+use Rattle.format.proofs.Tree.{tree-of-form}
 
 -- A fold whose report's tree repeats no marked letter is sound under the marks.
 module _ (A : Allowed) where
@@ -54,7 +54,7 @@ module _ (A : Allowed) (P : Prices) (s : List ℕ) (small : Bytes s) (t : Tally)
   unmarked = fold-rules (at-most (A .widest)) P
 
   abbrev same : {R : Rules} (a : Reads R s t x) → a .tree ≡ tree-of s
-  same a = sym (tree-of-bytes (a .tree)) ∙ ap tree-of (a .form)
+  same {R} a = sym (tree-of-form (R .short) (a .tree)) ∙ ap tree-of (a .form)
 
   freed : Reads marked s t x → (read unmarked s ≡ accepted t x) × NoneRepeated (A .marked) (report-of s)
   freed a =
@@ -90,5 +90,5 @@ module _ (steps groups : List ℕ) (first each : ℕ) where
 
   -- The fold reader's whole answer is the one without marks.
   pub free-reading : (s : List ℕ) (k : ℕ) → fold-reading s k T ≡ unmarked-reading s k steps groups first each
-  unfolding fold-reading fold-outcome unmarked-reading
+  unfolding fold-reading outcome-in unmarked-reading
   free-reading s k = ap as-fold-reading (free-headed k _ ∙ ap (λ (A : Allowed). unmarked-headed steps groups k (read (fold-rules A (priced T)) s)) (free-allowed k))

@@ -20,9 +20,11 @@ pub mod Runs
 pub mod Expansion
 pub mod Letters
 pub mod Report
+pub mod Family
 pub mod OneTable
 pub mod FreeMarks
 pub mod FormerOrder
 pub mod StepsAndDepth
 pub mod Parts
 pub mod Examples
+pub mod ShortExamples

@@ -10,11 +10,11 @@ use lib.Dec.{ltb, eqb}
 use lib.ListN.{length, getD, take, drop, length-append, length-drop, List·getD-append}
 use borrow.Author.Tests.{le-ltb, ltb-false, ne-eqb}
 use Rattle.format.specs.Limits.{limits, Prices}
-use Rattle.format.specs.Machine.{Rules, State, checks, Open, a-group, a-repeat, Outcome, refused, accepted, refusal, scan, read, start, advance, is-node, is-known, operands, open-groups, in-group, leave-group, place-of, at-end}
+use Rattle.format.specs.Machine.{Rules, State, checks, Open, a-group, a-repeat, Outcome, refused, accepted, refusal, scan, read, start, advance, is-node, opens-repeat, is-known, operands, open-groups, in-group, leave-group, place-of, at-end}
 use Rattle.format.specs.Readings.{free, run-rules}
 use Rattle.format.specs.declared.Tally.{Tally}
 use Rattle.format.specs.Reasons.{Reached, at-start, passed, Because, at-command, left-open}
-use Rattle.format.proofs.Machine.{Command, step-byte, group-byte, group-end-byte, repeat-byte, repeat-end-byte, other-byte, command, refusal-unknown, step-passed, group-passed, group-end-passed, operands-there, scan-pass, scan-refuse}
+use Rattle.format.proofs.Machine.{by-two, by-one, Command, step-byte, group-byte, group-end-byte, repeat-byte, repeat-end-byte, other-byte, command, operands-few, refusal-other, step-passed, group-passed, group-end-passed, operands-there, scan-pass, scan-refuse}
 use Rattle.format.proofs.Refusals.{first-each, refused-exactly, accepted-exactly}
 
 -- What the first of two lists has is not changed by the second.
@@ -32,16 +32,17 @@ module _ (R : Rules) (st : State) (x y : List ℕ) where
   with-operands step-byte h = rw (enough x y 1 h, byte x y 0 (omega arith))
   with-operands group-byte h = rw (enough x y 1 h, byte x y 0 (omega arith))
   with-operands group-end-byte h = rw (enough x y 0 h)
-  with-operands repeat-byte h =
+  with-operands (repeat-byte by-two) h =
       rw (enough x y 4 h, byte x y 0 (omega arith), byte x y 1 (omega arith), byte x y 2 (omega arith), byte x y 3 (omega arith))
+  with-operands (repeat-byte by-one) h = rw (enough x y 2 h, byte x y 0 (omega arith), byte x y 1 (omega arith))
   with-operands repeat-end-byte h = rw (enough x y 0 h)
-  with-operands (other-byte {c} e) h = refusal-unknown R st (x ++ y) c e ∙ sym (refusal-unknown R st x c e)
+  with-operands (other-byte {c} e) h = refusal-other R st (x ++ y) c e ∙ sym (refusal-other R st x c e)
 
   same-refusal : (c : ℕ) → refusal R st c x ≢ 3 → refusal R st c (x ++ y) ≡ refusal R st c x
   unfolding refusal
   same-refusal c not3 = go _ _ _ refl refl refl
     where
-      go : (unknown banned missing : Bool) → not (is-known c) ≡ unknown → ((eqb c 0x20 || eqb c 0x21) && not (R .folds)) ≡ banned
+      go : (unknown banned missing : Bool) → not (is-known (R .short) c) ≡ unknown → ((opens-repeat c || eqb c 0x21) && not (R .folds)) ≡ banned
           → ltb (length x) (operands c) ≡ missing → refusal R st c (x ++ y) ≡ refusal R st c x
       go true banned missing p q r = rw p
       go false true missing p q r = rw (p, q)
@@ -54,10 +55,11 @@ module _ (R : Rules) (st : State) (x y : List ℕ) where
   same-advance P step-byte e h = rw (byte x y 0 (omega arith))
   same-advance P group-byte e h = rw (byte x y 0 (omega arith))
   same-advance P group-end-byte e h = refl
-  same-advance P repeat-byte e h =
+  same-advance P (repeat-byte by-two) e h =
       rw (byte x y 0 (omega arith), byte x y 1 (omega arith), byte x y 2 (omega arith), byte x y 3 (omega arith))
+  same-advance P (repeat-byte by-one) e h = rw (byte x y 0 (omega arith), byte x y 1 (omega arith))
   same-advance P repeat-end-byte e h = refl
-  same-advance P (other-byte {c} f) e h = absurd (omega (arith, refusal-unknown R st x c f))
+  same-advance P (other-byte {c} f) e h = absurd (omega (arith, refusal-other R st x c f))
 
 -- A refusal other than 3 stays, whatever follows.
 module _ (R : Rules) (y : List ℕ) (n e : ℕ) (not3 : n ≢ 3) where
@@ -118,9 +120,10 @@ module _ (p : ℕ) (st : State) (b : Bounded p st) where
   bounded-command group-byte rest e = let z = group-passed run-rules st rest e in omega arith
   bounded-command group-end-byte rest e =
       bounded-end (st .opens) refl (group-end-passed run-rules st rest e .inner)
-  bounded-command repeat-byte rest e = absurd (omega arith)
+  bounded-command (repeat-byte by-two) rest e = absurd (omega arith)
+  bounded-command (repeat-byte by-one) rest e = absurd (omega arith)
   bounded-command repeat-end-byte rest e = absurd (omega arith)
-  bounded-command (other-byte {c} f) rest e = absurd (omega (arith, refusal-unknown run-rules st rest c f))
+  bounded-command (other-byte {c} f) rest e = absurd (omega (arith, refusal-other run-rules st rest c f))
 
 bounded : {s : List ℕ} {p : ℕ} {st : State} → Reached run-rules s p st → Bounded p st
 bounded at-start = omega arith
@@ -134,17 +137,12 @@ reached-below r = let b = bounded r in omega arith
 pub accepted-short : (s : List ℕ) (t : Tally) (x : List ℕ) → read run-rules s ≡ accepted t x → length s ≤ 3 * limits .nodes
 accepted-short s t x out = reached-below (accepted-exactly run-rules s t x .0 out .reached)
 
--- A command whose operands are there is not refused with 3, and no command has more than four.
+-- A command whose operands are there is not refused with 3.
 not-missing : (R : Rules) (st : State) (c : ℕ) (rest : List ℕ) → operands c ≤ length rest → refusal R st c rest ≢ 3
 unfolding refusal
 not-missing R st c rest h e =
     let rs = checks R st c rest in
     first-each (λ n. n ≢ 3) (take 2 rs ++ drop 3 rs) (omega arith) (omega arith) (rw (le-ltb _ _ h) at e)
-
-at-most-four : (node repeat : Bool) → cond node 1 (cond repeat 4 0) ≤ 4
-at-most-four true b = omega arith
-at-most-four false true = omega arith
-at-most-four false false = omega arith
 
 -- A run that is refused whatever follows it.
 pub record SettledRefusal (s : List ℕ) : Type 0 where
@@ -158,7 +156,7 @@ module _ (s : List ℕ) (long : 3077 ≤ length s) where
   all-there : (e : ℕ) → Because run-rules s 3 e → ⊥
   all-there e (at-command p st r lt f some w) =
       let c = getD s p 0 in
-      let few : operands c ≤ 4 = at-most-four (is-node c) (eqb c 0x20) in
+      let few : operands c ≤ 4 = operands-few c in
       let below = reached-below r in
       not-missing run-rules st c (drop (suc p) s) (simp length-drop (omega arith)) f
   all-there e (left-open st r some m w) = let below = reached-below r in omega arith

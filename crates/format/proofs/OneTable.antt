@@ -12,7 +12,7 @@ use Rattle.format.specs.Order.{Bytes}
 use Rattle.format.specs.Forest.{Forest, end, step, group, repeat, cost}
 use Rattle.format.specs.Machine.{Outcome, accepted, read, unless, first-of, Check, _when_}
 use Rattle.format.specs.Head.{head-checks, headed, marks-in-order, full-head}
-use Rattle.format.specs.Readings.{fold-rules, as-fold-reading, fold-outcome, fold-reading}
+use Rattle.format.specs.Readings.{fold-rules, as-fold-reading, outcome-in, fold-outcome, fold-reading}
 use Rattle.format.specs.Tree.{tree-of}
 use Rattle.format.specs.OneTable.{label-cost, by-label, one-table-headed, one-table-reading}
 use Rattle.format.specs.declared.Tally.{Tally}
@@ -50,5 +50,5 @@ module _ (table marks : List ℕ) (first each : ℕ) where
 
   -- The fold reader's whole answer is the one by one table.
   pub equal-tables-reading : (s : List ℕ) (k : ℕ) → fold-reading s k T ≡ one-table-reading s k table marks first each
-  unfolding fold-reading fold-outcome one-table-reading
+  unfolding fold-reading outcome-in one-table-reading
   equal-tables-reading s k = ap as-fold-reading (equal-tables-headed k (read (fold-rules (allowed k marks) (by-label table first each)) s))

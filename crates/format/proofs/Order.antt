@@ -11,7 +11,7 @@ use native.Mathlib.Numerals.{one-add}
 use native.Mathlib.Omega.{arith}
 use lib.Dec.{eqb}
 use borrow.Author.Tests.{eqb-true}
-use Rattle.format.specs.Forest.{Forest, end, step, group, repeat, join, copies, unroll, siblings, bytes, two-bytes, Plain, Allowed, Repeats, Sound}
+use Rattle.format.specs.Forest.{Forest, end, step, group, repeat, join, copies, unroll, siblings, form-in, bytes, two-bytes, Plain, Allowed, Repeats, Sound}
 use Rattle.format.specs.Order.{Before, here, there}
 use Rattle.format.specs.Machine.{is-node}
 use Rattle.format.specs.Difference.{Commands, none, command, Sooner, plain-first, fewer, narrower, DiffersFirst}
@@ -113,7 +113,7 @@ followed d x y =
 
 -- A byte form is whole commands.
 bytes-commands : (f : Forest) → Commands (bytes f)
-unfolding bytes
+unfolding form-in
 bytes-commands end = none
 bytes-commands (step l f) = command 0x10 (l ∷ []) (bytes f) refl refl (bytes-commands f)
 bytes-commands (group l b f) =
@@ -178,7 +178,7 @@ module _ (open-with : List ℕ) (close : ℕ) (item : Forest → Forest → Fore
   by-parts b b' f f' (inr (inr h)) o = inr (inr (by-body b' b f' f h))
 
 step-parts : (l : ℕ) (f g : Forest) → Compared f g → Compared (step l f) (step l g)
-unfolding bytes
+unfolding form-in
 step-parts l f g (inl e) = inl (ap (step l) e)
 step-parts l f g (inr (inl d)) = inr (inl (behind (command 0x10 (l ∷ []) [] refl refl none) d))
 step-parts l f g (inr (inr d)) = inr (inr (behind (command 0x10 (l ∷ []) [] refl refl none) d))
@@ -210,7 +210,7 @@ repeats : (A : Allowed) (h h' w w' : ℕ) (b b' f f' : Forest) → Repeats A h w
     → unroll (repeat h w b f) ≡ unroll (repeat h' w' b' f')
     → (unroll b ≡ unroll b' → Compared b b') → (unroll f ≡ unroll f' → Compared f f')
     → Dec (h < h') → Dec (h' < h) → Dec (w < w') → Dec (w' < w) → Compared (repeat h w b f) (repeat h' w' b' f')
-unfolding bytes
+unfolding form-in
 repeats A h h' w w' b b' f f' r r' e body rest (yes k) _ _ _ = inr (inl (at-once (fewer h h' _ _ k)))
 repeats A h h' w w' b b' f f' r r' e body rest (no _) (yes k) _ _ = inr (inr (at-once (fewer h' h _ _ k)))
 repeats A h h' w w' b b' f f' r r' e body rest (no i) (no j) (yes k) _ =
@@ -233,7 +233,7 @@ never e = omega arith
 
 -- THE COMPARISON: two sound folds of one run are the same, or they differ first at a command that decides.
 pub compare-first : (A : Allowed) (f g : Forest) → Sound A f → Sound A g → unroll f ≡ unroll g → Compared f g
-unfolding bytes unroll
+unfolding form-in unroll
 compare-first A end end p q e = inl refl
 compare-first A end (step m g) p q e = absurd (never (cc))
 compare-first A end (group m c g) p q e = absurd (never (cc))

@@ -10,10 +10,10 @@ use lib.Dec.{eqb}
 use lib.ListN.{length, take, drop, length-append}
 use lib.Seq.{take-at, drop-append-add}
 use borrow.Author.Tests.{eq-eqb}
-use Rattle.format.specs.Forest.{Forest, end, step, group, repeat, bytes, Plain}
+use Rattle.format.specs.Forest.{Forest, end, step, group, repeat, form-in, bytes, Plain}
 use Rattle.format.specs.Readings.{run-reading}
 use Rattle.format.specs.Parts.{starts, closing, node-size, part-of, Stands, first-step, first-group, behind-step, inside-group, behind-group}
-use Rattle.format.proofs.Bridge.{bytes-injective}
+use Rattle.format.proofs.Tree.{bytes-injective}
 
 -- A single node of a run.
 pub data Node : Forest → Type 0 where
@@ -22,7 +22,7 @@ pub data Node : Forest → Type 0 where
 
 -- A run inside an open group leaves it open.
 pub closing-plain : (f : Forest) → Plain f → (rest : List ℕ) (d : ℕ) → closing (bytes f ++ rest) (suc d) 0 ≡ length (bytes f) + closing rest (suc d) 0
-unfolding bytes closing
+unfolding form-in closing
 closing-plain end p rest d = omega arith
 closing-plain (step l f) p rest d = omega (arith, closing-plain f p rest d)
 closing-plain (group l b f) p rest d =
@@ -38,7 +38,7 @@ closing-none (c ∷ s) k = refl
 
 -- A node's size is the length of its byte form.
 pub size-of-node : (n : Forest) → Node n → (rest : List ℕ) → node-size (bytes n ++ rest) ≡ length (bytes n)
-unfolding bytes node-size
+unfolding form-in node-size
 size-of-node n (a-step l) rest = refl
 size-of-node n (a-group l b p) rest =
     rw (append-assoc (bytes b) (0x12 ∷ []) rest)
@@ -56,7 +56,7 @@ stands-node f p n (inside-group l b g q m h) a = stands-node b q m h (a .0)
 stands-node f p n (behind-group l b g q m h) a = stands-node g q m h (a .1)
 
 pub stands-bytes : (f : Forest) (p : ℕ) (n : Forest) → Stands f p n → (rest : List ℕ) → (tail : List ℕ) × (drop p (bytes f ++ rest) ≡ bytes n ++ tail)
-unfolding bytes
+unfolding form-in
 stands-bytes f p n (first-step l g) rest = (bytes g ++ rest, refl)
 stands-bytes f p n (first-group l b g) rest =
     (bytes g ++ rest, rw (append-assoc (bytes b) (0x12 ∷ bytes g) rest, append-assoc (bytes b) (0x12 ∷ []) (bytes g ++ rest)))
@@ -70,7 +70,7 @@ stands-bytes f p n (behind-group l b g q m h) rest =
 
 -- Behind a whole sequence the count of operand bytes starts anew.
 pub starts-behind : (f : Forest) (p : ℕ) (rest : List ℕ) → starts (length (bytes f) + p) 0 (bytes f ++ rest) ≡ starts p 0 rest
-unfolding bytes starts
+unfolding form-in starts
 starts-behind end p rest = rw zero-add
 starts-behind (step l f) p rest = rw (suc-add, suc-add) (starts-behind f p rest)
 starts-behind (group l b f) p rest =
@@ -86,7 +86,7 @@ starts-behind (repeat h w b f) p rest =
 
 -- A node starts at each offset where one stands.
 pub stands-starts : (f : Forest) (p : ℕ) (n : Forest) → Stands f p n → (rest : List ℕ) → starts p 0 (bytes f ++ rest) ≡ true
-unfolding bytes starts
+unfolding form-in starts
 stands-starts f p n (first-step l g) rest = refl
 stands-starts f p n (first-group l b g) rest = refl
 stands-starts f p n (behind-step l g q m h) rest = stands-starts g q m h rest
@@ -106,7 +106,7 @@ behind-at : (l : ℕ) (b f : Forest) (p q : ℕ) (n : Forest) → p ≡ length (
 behind-at l b f p q n e h = rw e (behind-group l b f q n h)
 
 pub starts-stands : (f : Forest) → Plain f → (p : ℕ) (rest : List ℕ) → starts p 0 (bytes f ++ rest) ≡ true → ((n : Forest) × Stands f p n) ⊎ ((q : ℕ) × (p ≡ length (bytes f) + q) × (starts q 0 rest ≡ true))
-unfolding bytes starts
+unfolding form-in starts
 starts-stands end a p rest h = inr (p, omega arith, h)
 starts-stands (step l f) a zero rest h = inl (step l end, first-step l f)
 starts-stands (step l f) a (suc zero) rest h = absurd (false≢true h)

@@ -73,9 +73,9 @@ found-each Q [] n some e q = absurd (some (sym e))
 found-each Q (m when true ∷ rs) n some e q = rw e at (q .0)
 found-each Q (m when false ∷ rs) n some e q = found-each Q rs n some e (q .1)
 
--- The numbers of the table are 1 to 10, and above these 19 alone.
+-- The numbers of the table are 1 to 10, and above these 19 and 20 alone.
 abbrev pub Numbered : ℕ → Type 0
-Numbered n = 10 < n → n ≡ 19
+Numbered n = 10 < n → (19 ≤ n) × (n ≤ 20)
 
 refusal-numbered : (R : Rules) (st : State) (c : ℕ) (rest : List ℕ) → Numbered (refusal R st c rest)
 unfolding refusal checks

@@ -2,7 +2,7 @@
 -- for the bytes that the fold reader accepts. The report's definitions decide: its index i − (j − 1)h near Proposition 4,
 -- where i − j(h − 1) is meant, plays no part.
 use mathlib.Core.Path.{_≡_, refl, sym, ap, ap₂, _∙_}
-use mathlib.Core.Bool.{false}
+use mathlib.Core.Bool.{Bool, false}
 use mathlib.Core.Logic.{_↔_, _≢_}
 use mathlib.Core.List.{List}
 use Prim.Native.Nat.{ℕ, zero, suc, _<_}
@@ -14,7 +14,7 @@ use Rattle.format.specs.Forest.{Forest, end, step, group, repeat, join, 
 use Rattle.format.specs.Machine.{Rules, Outcome, refused, accepted, read}
 use Rattle.format.specs.Order.{Bytes}
 use Rattle.format.specs.Tree.{tree-of}
-use Rattle.format.specs.Readings.{fold-rules, as-fold-reading, fold-outcome, fold-reading}
+use Rattle.format.specs.Readings.{rules-at, fold-rules, as-fold-reading, outcome-in, fold-outcome, fold-reading}
 use Rattle.format.specs.Head.{Head, head-checks, full-head}
 use Rattle.format.specs.Shape.{Reads, tally-of}
 use Rattle.format.specs.Report.{RRT, empty, letter, repetition, count, Valid, append, series, Represents, Width, WidthAtMost, size}
@@ -231,18 +231,26 @@ module _ (A : Allowed) (P : Prices) (s : List ℕ) (small : Bytes s) (t : Tally)
   unfolding tally-of
   accepted-length = rw (← spelled .text) (ap (λ (u : Tally). u .size) (spelled .counts))
 
--- A fold at an entry point: what is accepted is read, and what is refused has a number.
-module _ (h : Head) (T : Tariff) (s : List ℕ) where
+-- A fold of a family at an entry point: what is accepted is read, and what is refused has a number.
+module _ (short : Bool) (h : Head) (T : Tariff) (s : List ℕ) where
   abbrev R : Rules
-  R = fold-rules (allowed (h .limit) (T .marks)) (priced T)
+  R = rules-at short h T
 
-  pub outcome-read : (t : Tally) (x : List ℕ) → fold-outcome h T s ≡ accepted t x → read R s ≡ accepted t x
-  unfolding fold-outcome
-  outcome-read t x e = headed-accepted limits h (read R s) t x e
+  pub in-read : (t : Tally) (x : List ℕ) → outcome-in short h T s ≡ accepted t x → read R s ≡ accepted t x
+  unfolding outcome-in
+  in-read t x e = headed-accepted limits h (read R s) t x e
+
+  pub in-some : (n p : ℕ) → outcome-in short h T s ≡ refused n p → n ≢ 0
+  unfolding outcome-in head-checks
+  in-some n p e = headed-each limits h (read R s) (λ m. m ≢ 0) (omega arith) (refused-some R s) n p e
+
+module _ (h : Head) (T : Tariff) (s : List ℕ) where
+  pub outcome-read : (t : Tally) (x : List ℕ) → fold-outcome h T s ≡ accepted t x
+      → read (fold-rules (allowed (h .limit) (T .marks)) (priced T)) s ≡ accepted t x
+  outcome-read = in-read false h T s
 
   pub outcome-some : (n p : ℕ) → fold-outcome h T s ≡ refused n p → n ≢ 0
-  unfolding fold-outcome head-checks
-  outcome-some n p e = headed-each limits h (read R s) (λ m. m ≢ 0) (omega arith) (refused-some R s) n p e
+  outcome-some = in-some false h T s
 
 -- What the fold reader's success says.
 module _ (s : List ℕ) (k : ℕ) (T : Tariff) (small : Bytes s) (r : FoldReading) (answered : r ≡ fold-reading s k T) (success : r .refusal ≡ 0) where

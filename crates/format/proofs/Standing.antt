@@ -7,14 +7,14 @@ use Prim.Native.Nat.{ℕ, _+_, _*_, _-_, _≤_, _<_}
 use native.Mathlib.Omega.{arith}
 use lib.ListN.{length, length-append, length-drop, getD, drop}
 use lib.Seq.{getD-drop, drop-drop, drop-append-seam, getD-append-seam}
-use Rattle.format.specs.Forest.{Forest, end, step, group, repeat, join, nodes, bytes, Allowed, Sound}
+use Rattle.format.specs.Forest.{Forest, end, step, group, repeat, join, nodes, form-in, bytes, Allowed, Sound}
 use Rattle.format.specs.inner.Standing.{Ends, One, one-step, one-group, one-repeat, FormAt, SequenceAt, ItemAt}
 use Rattle.format.proofs.Bridge.{word-again}
 use Rattle.format.proofs.Forests.{join-end, join-assoc, bytes-join, nodes-join, sound-parts}
 
 -- The byte form of an item is not empty.
 pub one-some : {f : Forest} → One f → 0 < length (bytes f)
-unfolding bytes
+unfolding form-in
 one-some (one-step l) = omega arith
 one-some (one-group l b) = omega arith
 one-some (one-repeat h w b) = omega arith
@@ -51,36 +51,36 @@ module _ {s : List ℕ} {p c : ℕ} {f : Forest} {rest : List ℕ} (z : FormAt s
 -- A step, a group and a repeat at a place, whatever items follow: what is read of them, and what stands inside and behind.
 module _ {s : List ℕ} {p l : ℕ} {f : Forest} {rest : List ℕ} (z : FormAt s p (step l f) rest) where
   pub step-there : p + 2 ≤ length s
-  unfolding bytes
+  unfolding form-in
   step-there = omega (arith, remain z)
 
   pub step-byte : getD s p 0 ≡ 0x10
-  unfolding bytes
+  unfolding form-in
   step-byte = first-byte z
 
   pub step-label : getD s (p + 1) 0 ≡ l
-  unfolding bytes
+  unfolding form-in
   step-label = byte-at z 1 (p + 1) refl
 
   pub step-behind : FormAt s (p + 2) f rest
-  unfolding bytes
+  unfolding form-in
   step-behind = record { form = form-from z 2 (p + 2) refl; allowed = z .allowed; sound = z .sound }
 
 module _ {s : List ℕ} {p l : ℕ} {b f : Forest} {rest : List ℕ} (z : FormAt s p (group l b f) rest) where
   pub group-there : p + 2 + length (bytes b) < length s
-  unfolding bytes
+  unfolding form-in
   group-there = omega (arith, remain z, length-append (bytes b) (0x12 ∷ bytes f))
 
   pub group-byte : getD s p 0 ≡ 0x11
-  unfolding bytes
+  unfolding form-in
   group-byte = first-byte z
 
   pub group-label : getD s (p + 1) 0 ≡ l
-  unfolding bytes
+  unfolding form-in
   group-label = byte-at z 1 (p + 1) refl
 
   pub group-inside : FormAt s (p + 2) b (0x12 ∷ bytes f ++ rest)
-  unfolding bytes
+  unfolding form-in
   group-inside =
       record {
         form = form-from z 2 (p + 2) refl ∙ append-assoc (bytes b) (0x12 ∷ bytes f) rest;
@@ -97,19 +97,19 @@ module _ {s : List ℕ} {p l : ℕ} {b f : Forest} {rest : List ℕ} (z : FormAt
 
 module _ {s : List ℕ} {p h w : ℕ} {b f : Forest} {rest : List ℕ} (z : FormAt s p (repeat h w b f) rest) where
   pub repeat-there : p + 5 + length (bytes b) < length s
-  unfolding bytes
+  unfolding form-in
   repeat-there = omega (arith, remain z, length-append (bytes b) (0x21 ∷ bytes f))
 
   pub repeat-byte : getD s p 0 ≡ 0x20
-  unfolding bytes
+  unfolding form-in
   repeat-byte = first-byte z
 
   pub repeat-count : getD s (p + 1) 0 * 256 + getD s (p + 1 + 1) 0 ≡ h
-  unfolding bytes
+  unfolding form-in
   repeat-count = rw (byte-at z 1 (p + 1) refl, byte-at z 2 (p + 1 + 1) (omega arith)) (word-again h)
 
   pub repeat-inside : FormAt s (p + 5) b (0x21 ∷ bytes f ++ rest)
-  unfolding bytes
+  unfolding form-in
   repeat-inside =
       record {
         form = form-from z 5 (p + 5) refl ∙ append-assoc (bytes b) (0x21 ∷ bytes f) rest;
@@ -230,7 +230,7 @@ cut (repeat h w b f) some = record { front = repeat h w b end; back = f; split =
 -- A sequence is not empty where no close stands before the end.
 some-left : {s : List ℕ} {p : ℕ} {f : Forest} (rest : List ℕ) → Ends rest → FormAt s p f rest → p < length s
     → getD s p 0 ≢ 0x12 → getD s p 0 ≢ 0x21 → f ≢ end
-unfolding bytes
+unfolding form-in
 some-left [] n z e g h none = omega (arith, remain (rw none at z))
 some-left (c ∷ rest) (inl n) z e g h none = g (first-byte (rw none at z) ∙ n)
 some-left (c ∷ rest) (inr n) z e g h none = h (first-byte (rw none at z) ∙ n)
@@ -251,7 +251,7 @@ pub record Adds (m : Forest → ℕ) : Type 0 where
   pub joined : (f g : Forest) → m (join f g) ≡ m f + m g
 
 pub bytes-adds : Adds (λ (f : Forest). length (bytes f))
-unfolding bytes
+unfolding form-in
 bytes-adds = record { none = refl; joined = λ f g. ap length (bytes-join f g) ∙ length-append (bytes f) (bytes g) }
 
 pub nodes-adds : Adds nodes
@@ -272,7 +272,7 @@ unfolding join
 end-join f = refl
 
 pub none-passed : (p : ℕ) → p ≡ p + length (bytes end)
-unfolding bytes
+unfolding form-in
 none-passed p = omega arith
 
 abbrev pub along-none : {s : List ℕ} {p : ℕ} {f : Forest} {rest : List ℕ} → FormAt s p f rest → Along s p p f rest
@@ -289,7 +289,7 @@ module _ {s : List ℕ} {p q : ℕ} {f : Forest} {rest : List ℕ} (a : Along s 
   more-before-close n = some-left rest n (a .ahead)
 
   pub more-before-end : rest ≡ [] → q < length s → a .left ≢ end
-  unfolding bytes
+  unfolding form-in
   more-before-end n e none = omega (arith, remain (rw none at (a .ahead)), ap length n)
 
   module _ (some : a .left ≢ end) where

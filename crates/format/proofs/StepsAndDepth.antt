@@ -17,7 +17,8 @@ use Rattle.format.specs.Shape.{Reads, tally-of}
 use Rattle.format.specs.declared.Tally.{Tally}
 use Rattle.format.specs.declared.RunReading.{RunReading}
 use Rattle.format.proofs.Forests.{nodes-unroll, steps-unroll, group-depth-unroll}
-use Rattle.format.proofs.Bridge.{accepts, parses, bytes-injective}
+use Rattle.format.proofs.Bridge.{accepts, parses}
+use Rattle.format.proofs.Tree.{bytes-injective}
 use Rattle.format.proofs.Runs.{unrolled-shape}
 use Rattle.format.proofs.Report.{outcome-read, outcome-some}
 

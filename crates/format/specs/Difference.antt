@@ -1,6 +1,6 @@
 -- How two folds of one run differ first: at a command, by its kind, then by its count, then by its width.
 use mathlib.Core.Path.{_≡_}
-use mathlib.Core.Bool.{true}
+use mathlib.Core.Bool.{true, false}
 use mathlib.Core.List.{List, [], _∷_, _++_}
 use Prim.Native.Nat.{ℕ, _<_}
 use lib.ListN.{length}
@@ -10,7 +10,7 @@ use Rattle.format.specs.Machine.{is-node, is-known, operands}
 -- A number of whole commands, each with its operands.
 pub data Commands : List ℕ → Type 0 where
   none : Commands []
-  command : (c : ℕ) (o s : List ℕ) → is-known c ≡ true → length o ≡ operands c → Commands s → Commands (c ∷ o ++ s)
+  command : (c : ℕ) (o s : List ℕ) → is-known false c ≡ true → length o ≡ operands c → Commands s → Commands (c ∷ o ++ s)
 
 -- Of two commands with their operands the left one goes before: a plain node before a repeat, then the smaller count, then the
 -- smaller width. What follows them, s and t, is ignored.

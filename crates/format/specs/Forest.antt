@@ -1,10 +1,10 @@
 -- Sequences as trees. A run is an ordered forest of labelled nodes, a fold a forest that may hold repetition nodes as well
 -- (the repetition representation tree of the report's section 3.1, without its root).
 use mathlib.Core.Path.{_≡_}
-use mathlib.Core.Bool.{Bool, false, _||_}
+use mathlib.Core.Bool.{Bool, false, cond, _&&_, _||_}
 use mathlib.Core.List.{List, [], _∷_, _++_}
 use Prim.Native.Nat.{ℕ, zero, suc, _+_, _*_, _/_, _%_, _≤_, _<_, max}
-use Rattle.format.specs.Limits.{Prices, of-repeat}
+use Rattle.format.specs.Limits.{Prices, of-repeat, in-one-byte}
 pub use Rattle.format.specs.Limits.{Allowed, at-most}
 
 -- A sequence: nothing, or its first item and the rest.
@@ -68,12 +68,24 @@ cost P (repeat h w b f) = of-repeat P h + cost P b + cost P f
 abbrev pub two-bytes : ℕ → List ℕ → List ℕ
 two-bytes n s = n / 256 ∷ n % 256 ∷ s
 
--- The byte form.
-unfoldable pub bytes : Forest → List ℕ
-bytes end = []
-bytes (step l f) = 0x10 ∷ l ∷ bytes f
-bytes (group l b f) = 0x11 ∷ l ∷ bytes b ++ 0x12 ∷ bytes f
-bytes (repeat h w b f) = 0x20 ∷ two-bytes h (two-bytes w (bytes b ++ 0x21 ∷ bytes f))
+-- The open of a repeat, with what follows it: a `20`, or in the short family a `22` where a byte each holds count and width.
+abbrev pub opening : (short : Bool) → (count width : ℕ) → List ℕ → List ℕ
+opening short h w s = cond (short && in-one-byte h w) (0x22 ∷ h ∷ w ∷ s) (0x20 ∷ two-bytes h (two-bytes w s))
+
+-- Its bytes: three, or five.
+abbrev pub opening-size : (short : Bool) → (count width : ℕ) → ℕ
+opening-size short h w = cond (short && in-one-byte h w) 3 5
+
+-- The byte form in a family, the short one or the long one.
+unfoldable pub form-in : (short : Bool) → Forest → List ℕ
+form-in short end = []
+form-in short (step l f) = 0x10 ∷ l ∷ form-in short f
+form-in short (group l b f) = 0x11 ∷ l ∷ form-in short b ++ 0x12 ∷ form-in short f
+form-in short (repeat h w b f) = opening short h w (form-in short b ++ 0x21 ∷ form-in short f)
+
+-- The byte form where no family is named: the long one.
+abbrev pub bytes : Forest → List ℕ
+bytes f = form-in false f
 
 -- A run: no repeat anywhere.
 abbrev pub Plain : Forest → Type 0

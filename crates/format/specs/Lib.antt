@@ -7,6 +7,8 @@ pub mod Machine
 pub mod Reasons
 pub mod Head
 pub mod Readings
+pub mod Family
+pub mod Output
 pub mod StepsAndDepth
 pub mod Difference
 pub mod Shape

@@ -1,8 +1,8 @@
 -- The limits of the format, the lent prices and marks, which repeats they allow, and the size of the lent work.
-use mathlib.Core.Bool.{Bool, false}
+use mathlib.Core.Bool.{Bool, false, _&&_}
 use mathlib.Core.List.{List}
 use Prim.Native.Nat.{ℕ, _+_, _-_, _*_, _/_}
-use lib.Dec.{eqb}
+use lib.Dec.{ltb, eqb}
 use lib.ListN.{getD}
 pub use Rattle.format.specs.declared.Limits.{Limits}
 
@@ -57,6 +57,10 @@ marked-in marks l = eqb (getD marks l 0) 1
 
 abbrev pub allowed : (limit : ℕ) → (marks : List ℕ) → Allowed
 allowed k marks = record { widest = k; marked = marked-in marks }
+
+-- A count and a width that a byte each can hold: the short family says these in one byte.
+abbrev pub in-one-byte : (count width : ℕ) → Bool
+in-one-byte h w = ltb h 256 && ltb w 256
 
 -- The entries that each of the two work slices must have for a run of n nodes: one for each stretch of numbers from 1 to n.
 abbrev pub cells : ℕ → ℕ

@@ -5,46 +5,56 @@ use mathlib.Core.List.{List, [], _∷_, _++_}
 use Prim.Native.Nat.{ℕ, zero, suc, _+_, _-_, _*_, max}
 use lib.Dec.{ltb, leb, eqb}
 use lib.ListN.{length, getD, drop}
-use Rattle.format.specs.Limits.{Limits, Prices, of-repeat, Allowed}
+use Rattle.format.specs.Limits.{Limits, Prices, of-repeat, Allowed, in-one-byte}
 use Rattle.format.specs.declared.Tally.{Tally}
 
--- The commands: `10` a step, `11` opens a group, `12` closes it, `20` opens a repeat, `21` closes it.
+-- The commands: `10` a step, `11` opens a group, `12` closes it, `20` opens a repeat, `21` closes it. In the short family `22`
+-- opens a repeat too.
 abbrev pub is-node : ℕ → Bool
 is-node c = eqb c 0x10 || eqb c 0x11
 
 abbrev pub is-close : ℕ → Bool
 is-close c = eqb c 0x12 || eqb c 0x21
 
-abbrev pub is-known : ℕ → Bool
-is-known c = is-node c || is-close c || eqb c 0x20
+abbrev pub opens-repeat : ℕ → Bool
+opens-repeat c = eqb c 0x20 || eqb c 0x22
+
+-- In a family: a `22` is none in the long one.
+abbrev pub opens-in : (short : Bool) → ℕ → Bool
+opens-in short c = eqb c 0x20 || (short && eqb c 0x22)
+
+abbrev pub is-known : (short : Bool) → ℕ → Bool
+is-known short c = is-node c || is-close c || opens-in short c
 
 -- The number of operand bytes.
 abbrev pub operands : ℕ → ℕ
-operands c = cond (is-node c) 1 (cond (eqb c 0x20) 4 0)
+operands c = cond (is-node c) 1 (cond (eqb c 0x20) 4 (cond (eqb c 0x22) 2 0))
 
--- The operands, of the bytes behind the command: a label; a count and a width, the high byte first.
+-- The operands, of the bytes behind the command: a label; a count and a width, one byte each behind a `22`, else two, the high byte
+-- first.
 abbrev pub label-operand : List ℕ → ℕ
 label-operand s = getD s 0 0
 
 abbrev pub word : List ℕ → ℕ → ℕ
 word s i = getD s i 0 * 256 + getD s (suc i) 0
 
-abbrev pub count-operand : List ℕ → ℕ
-count-operand s = word s 0
+abbrev pub count-operand : (command : ℕ) → List ℕ → ℕ
+count-operand c s = cond (eqb c 0x22) (getD s 0 0) (word s 0)
 
-abbrev pub width-operand : List ℕ → ℕ
-width-operand s = word s 2
+abbrev pub width-operand : (command : ℕ) → List ℕ → ℕ
+width-operand c s = cond (eqb c 0x22) (getD s 1 0) (word s 2)
 
 -- What is open, with the counts outside it: a group, or a repeat with its operands.
 pub data Open : Type 0 where
   a-group : (outer : Tally) → Open
   a-repeat : (count width : ℕ) (outer : Tally) → Open
 
--- By what rules bytes are read: the format's limits, whether repeats may stand in them (a fold) or not (a run), which ones are
--- allowed, and the prices.
+-- By what rules bytes are read: the format's limits, whether repeats may stand in them (a fold) or not (a run), whether they are of
+-- the short family, which repeats are allowed, and the prices.
 pub record Rules : Type 0 where
   pub limits : Limits
   pub folds : Bool
+  pub short : Bool
   pub allowed : Allowed
   pub prices : Prices
 
@@ -205,7 +215,7 @@ advance P c rest st =
     cond (eqb c 0x10) (put-step P (label-operand rest) st)
     (cond (eqb c 0x11) (enter-group P (label-operand rest) st)
     (cond (eqb c 0x12) (leave-group (st .opens) st)
-    (cond (eqb c 0x20) (enter-repeat P (count-operand rest) (width-operand rest) st)
+    (cond (opens-repeat c) (enter-repeat P (count-operand c rest) (width-operand c rest) st)
     (leave-repeat (st .opens) st))))
 
 -- A check of the table: the number, and whether its condition holds.
@@ -213,18 +223,19 @@ pub data Check : Type 0 where
   _when_ : ℕ → Bool → Check
 
 infix 68 _when_
--- Refusals 1 to 10 and 19 at one command, in the order of docs/REFUSALS.md. `rest` is what follows the command's byte.
+-- Refusals 1 to 10, 19 and 20 at one command, in the order of docs/REFUSALS.md. `rest` is what follows the command's byte.
 unfoldable pub checks : Rules → State → (command : ℕ) → (rest : List ℕ) → List Check
 checks R st c rest =
-    1 when not (is-known c)
-    ∷ 2 when ((eqb c 0x20 || eqb c 0x21) && not (R .folds))
+    1 when not (is-known (R .short) c)
+    ∷ 2 when ((opens-repeat c || eqb c 0x21) && not (R .folds))
     ∷ 3 when ltb (length rest) (operands c)
     ∷ 4 when ((eqb c 0x12 && not (in-group (st .opens))) || (eqb c 0x21 && not (in-repeat (st .opens))))
     ∷ 5 when (is-close c && eqb (st .tally .siblings) 0)
-    ∷ 6 when (eqb c 0x20 && ltb (count-operand rest) 2)
-    ∷ 7 when (eqb c 0x20 && ltb (R .allowed .widest) (width-operand rest))
+    ∷ 6 when (opens-repeat c && ltb (count-operand c rest) 2)
+    ∷ 7 when (opens-repeat c && ltb (R .allowed .widest) (width-operand c rest))
+    ∷ 20 when (eqb c 0x20 && (R .short && in-one-byte (count-operand c rest) (width-operand c rest)))
     ∷ 8 when ((eqb c 0x11 && leb (R .limits .groups) (open-groups (st .opens)))
-    || (eqb c 0x20 && leb (R .limits .repeats) (open-repeats (st .opens))))
+    || (opens-repeat c && leb (R .limits .repeats) (open-repeats (st .opens))))
     ∷ 19 when (is-node c && (R .allowed .marked (label-operand rest) && ltb 0 (open-repeats (st .opens))))
     ∷ 10 when ltb (R .limits .nodes) (node-total c (st .opens) (st .tally .nodes))
     ∷ 9 when (eqb c 0x21 && not (eqb (st .tally .siblings) (claimed (st .opens))))

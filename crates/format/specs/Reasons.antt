@@ -6,7 +6,7 @@ use mathlib.Core.Logic.{_≢_, _⊎_}
 use Prim.Native.Nat.{ℕ, suc, _+_, _<_}
 use lib.Dec.{eqb}
 use lib.ListN.{length, getD, drop}
-use Rattle.format.specs.Machine.{Rules, State, Check, _when_, refusal, start, advance, operands, place-of}
+use Rattle.format.specs.Machine.{Rules, State, Check, _when_, refusal, start, advance, opens-repeat, operands, place-of}
 use Rattle.format.specs.declared.Tally.{Tally}
 
 -- Checks of which none applies.
@@ -48,7 +48,7 @@ pub record Finished (R : Rules) (s : List ℕ) (t : Tally) (x : List ℕ) : Type
 
 -- The commands of an open and a close of one kind, group or repeat.
 abbrev pub OneKind : (opening closing : ℕ) → Type 0
-OneKind c d = ((c ≡ 0x11) × (d ≡ 0x12)) ⊎ ((c ≡ 0x20) × (d ≡ 0x21))
+OneKind c d = ((c ≡ 0x11) × (d ≡ 0x12)) ⊎ ((opens-repeat c ≡ true) × (d ≡ 0x21))
 
 -- The close at offset e stands right after its open: the commands before the open are passed, the open is passed, and nothing
 -- but its operands stands between it and the close of its kind.

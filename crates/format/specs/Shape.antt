@@ -5,7 +5,7 @@ use mathlib.Core.List.{List}
 use Prim.Native.Nat.{ℕ, _≤_}
 use lib.ListN.{length}
 use Rattle.format.specs.Limits.{Prices}
-use Rattle.format.specs.Forest.{Forest, Coded, Sound, Plain, group-depth, repeat-depth, siblings, nodes, steps, cost, bytes, unroll}
+use Rattle.format.specs.Forest.{Forest, Coded, Sound, Plain, group-depth, repeat-depth, siblings, nodes, steps, cost, form-in, bytes, unroll}
 use Rattle.format.specs.Machine.{Rules}
 use Rattle.format.specs.declared.Tally.{Tally}
 
@@ -30,10 +30,11 @@ tally-of P f =
       depth = group-depth f;
     }
 
--- A byte list that reads as a tree: it is the byte form of one of the right shape, with these counts and this text.
+-- A byte list that reads as a tree: it is the byte form, in the rules' family, of one of the right shape, with these counts and this
+-- text.
 pub record Reads (R : Rules) (s : List ℕ) (t : Tally) (x : List ℕ) : Type 0 where
   pub tree : Forest
-  pub form : bytes tree ≡ s
+  pub form : form-in (R .short) tree ≡ s
   pub shape : Shaped R tree
   pub counts : tally-of (R .prices) tree ≡ t
   pub text : bytes (unroll tree) ≡ x

@@ -4,7 +4,7 @@ use mathlib.Core.List.{List, [], _∷_}
 use Prim.Native.Nat.{ℕ, zero, suc}
 use lib.Dec.{eqb}
 use Rattle.format.specs.Forest.{Forest, end, step, group, repeat, join}
-use Rattle.format.specs.Machine.{label-operand, count-operand, width-operand, operands}
+use Rattle.format.specs.Machine.{opens-repeat, label-operand, count-operand, width-operand, operands}
 
 -- A group or a repeat that is being read, with what stands before it.
 pub data Pending : Type 0 where
@@ -27,7 +27,8 @@ unfolding close join
 take-in c rest p =
     cond (eqb c 0x10) (record { pending = p .pending; sofar = join (p .sofar) (step (label-operand rest) end) })
     (cond (eqb c 0x11) (record { pending = a-group (label-operand rest) (p .sofar) ∷ p .pending; sofar = end })
-    (cond (eqb c 0x20) (record { pending = a-repeat (count-operand rest) (width-operand rest) (p .sofar) ∷ p .pending; sofar = end })
+    (cond (opens-repeat c)
+    (record { pending = a-repeat (count-operand c rest) (width-operand c rest) (p .sofar) ∷ p .pending; sofar = end })
     (close (p .pending) (p .sofar))))
 
 -- The tree of the bytes, with `skip` operand bytes to pass over first.

@@ -2,10 +2,11 @@
 // contracts cite them.
 
 ghost use mathlib.Core.Path.{_≡_};
-ghost use Prim.Native.Nat.{_<_};
-ghost use Rattle.format.specs.Limits.{limits, marked-in};
-ghost use Rattle.format.specs.Machine.{none, first-of};
-ghost use Rattle.format.specs.Head.{head-checks, marks-in-order};
+ghost use mathlib.Core.Bool.{_&&_};
+ghost use Prim.Native.Nat.{ℕ, _<_};
+ghost use Rattle.format.specs.Limits.{limits, tariff, marked-in, in-one-byte};
+ghost use Rattle.format.specs.Machine.{none, first-of, is-node, operands, opens-in};
+ghost use Rattle.format.specs.Head.{head-checks, marks-in-order, full-head};
 
 // What the format bounds: the nodes of a run, the groups and the repeats open at a time, the width limit; and the entries
 // that a cost table and the list of marks have.
@@ -54,6 +55,11 @@ impl Format {
     pub const REPEAT: u8 = 0x20;
     // Closes a repeat.
     pub const REPEAT_END: u8 = 0x21;
+    // Opens a repeat in the short family: count and width follow, one byte each.
+    pub const SHORT_REPEAT: u8 = 0x22;
+
+    // The first number that one byte cannot hold: below it the short family says count and width in one byte each.
+    pub const ONE_BYTE: usize = 256;
 
     // The limits together: those that the definitions have.
     pub fn limits() -> Limits
@@ -74,6 +80,58 @@ pub fn wide(x: u8) -> usize
     ensures { λ r. ⌜ (r ≡ x) × (r < 256) ⌝ }
 {
     x as usize
+}
+
+// The operand bytes of a command.
+pub fn operand_bytes(c: u8) -> usize
+    ensures { λ r. ⌜ r ≡ operands c ⌝ }
+{
+    if c == Format::STEP {
+        return 1;
+    }
+    if c == Format::GROUP {
+        return 1;
+    }
+    if c == Format::REPEAT {
+        return 4;
+    }
+    if c == Format::SHORT_REPEAT {
+        return 2;
+    }
+    0
+}
+
+// Whether a command is a step or opens a group.
+pub fn opens_node(c: u8) -> bool
+    ensures { λ r. ⌜ r ≡ is-node c ⌝ }
+{
+    if c == Format::STEP {
+        return true;
+    }
+    c == Format::GROUP
+}
+
+// Whether a command opens a repeat: `20` in either family, `22` in the short one.
+pub fn opens_repeat(short: bool, c: u8) -> bool
+    ensures { λ r. ⌜ r ≡ opens-in short c ⌝ }
+{
+    if c == Format::SHORT_REPEAT {
+        return short;
+    }
+    c == Format::REPEAT
+}
+
+// Whether a `22` opens a repeat of this count and width: in the short family, where a byte each holds them.
+pub fn opens_short(short: bool, count: usize, width: usize) -> bool
+    ensures { λ r. ⌜ r ≡ (short && in-one-byte count width) ⌝ }
+{
+    if !short {
+        return false;
+    }
+    if count < Format::ONE_BYTE {
+        return width < Format::ONE_BYTE;
+    }
+    false
 }
 
 pub fn wide_cost(x: u16) -> u64
@@ -108,6 +166,18 @@ pub fn marks_in_order(marks: &[u8]) -> bool
         i += 1;
     }
     true
+}
+
+// The head of an entry point that takes costs and a limit.
+pub fn full_head(limit: usize, steps: &[u16], groups: &[u16], marks: &[u8]) -> Head
+    ensures { λ r. ⌜ ((first each : ℕ) → r ≡ full-head (tariff (now (steps .entry)) (now (groups .entry)) (now (marks .entry)) first each) limit) ⌝ }
+{
+    Head {
+        steps: steps.len(),
+        groups: groups.len(),
+        limit,
+        marks: marks_in_order(marks),
+    }
 }
 
 // The refusal of a head: 11 for the table of steps, then 15 for that of groups, then 12 for the limit, then 18 for the marks;
@@ -180,8 +250,8 @@ pub struct FoldReading {
     pub depth: usize,
 }
 
-// The unroller's answer: refusal number and place, and the length written.
-pub struct Unrolled {
+// The answer where one text is written, by the unroller and by the conversions: refusal number and place, and the length written.
+pub struct Written {
     pub refusal: u8,
     pub place: usize,
     pub length: usize,

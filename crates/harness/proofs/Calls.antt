@@ -5,7 +5,7 @@ use mathlib.Core.Logic.{_↔_}
 use mathlib.Core.List.{List}
 use Prim.Native.Nat.{ℕ}
 use lib.ListN.{length, length-replicate}
-use Rattle.format.specs.declared.Unrolled.{Unrolled}
+use Rattle.format.specs.declared.Written.{Written}
 use Rattle.optimum.specs.Verdict.{Verdict}
 use Rattle.folder.specs.Folding.{fold-answer, fold-output, fold-work}
 use Rattle.harness.specs.Lent.{filled-words, filled-bytes, unroll-says, unroll-leaves, Unrolls}
@@ -27,7 +27,7 @@ module _ (v : Verdict) (costs choices out costs′ choices′ out′ : List ℕ)
       ≡ fold-work v (length costs) (length choices) (filled-words (length choices))
   choices-filled = rw (p, q) (simp length-replicate)
 
-pub unroll-filled : (fold : List ℕ) (limit : ℕ) (before text run after : List ℕ) (r : Unrolled) (b : Bool) → text ≡ filled-bytes (length before)
+pub unroll-filled : (fold : List ℕ) (limit : ℕ) (before text run after : List ℕ) (r : Written) (b : Bool) → text ≡ filled-bytes (length before)
     → r ≡ unroll-says fold limit (length text) → after ≡ unroll-leaves fold limit text → (b ≡ true) ↔ Unrolls r run after
     → (after ≡ unroll-leaves fold limit (filled-bytes (length before))) × ((b ≡ true) ↔ Unrolls (unroll-says fold limit (length before)) run after)
 unroll-filled fold limit before text run after r b e f w says =

@@ -7,9 +7,9 @@ use lib.Dec.{eqb}
 use lib.ListN.{length, take, drop, replicate}
 use Rattle.format.specs.Readings.{run-reading, measured}
 use Rattle.format.specs.declared.Folded.{Folded}
-use Rattle.format.specs.declared.Unrolled.{Unrolled}
+use Rattle.format.specs.declared.Written.{Written}
 use Rattle.format.specs.Limits.{cells}
-use Rattle.unroller.specs.Unrolling.{unroll-answer, unroll-output}
+use Rattle.format.specs.Output.{written-answer, written-output}
 
 -- A slice of n entries as it is filled before a call.
 abbrev pub filled-words : ℕ → List ℕ
@@ -47,14 +47,14 @@ pub record LentAsSaid (run : List ℕ) (answer : Folded) (costs choices out : Li
   pub valued : Valued answer
 
 -- What the unroller answers with room for n bytes, and what it leaves in a text.
-abbrev pub unroll-says : (fold : List ℕ) (limit n : ℕ) → Unrolled
-unroll-says fold limit n = unroll-answer (measured fold limit) n
+abbrev pub unroll-says : (fold : List ℕ) (limit n : ℕ) → Written
+unroll-says fold limit n = written-answer (measured fold limit) n
 
 abbrev pub unroll-leaves : (fold : List ℕ) (limit : ℕ) (text : List ℕ) → List ℕ
-unroll-leaves fold limit text = unroll-output (measured fold limit) text
+unroll-leaves fold limit text = written-output (measured fold limit) text
 
 -- The unroller's answer is success, the text begins with the run, and behind it the text is as it was filled.
-pub record Unrolls (answer : Unrolled) (run text : List ℕ) : Type 0 where
+pub record Unrolls (answer : Written) (run text : List ℕ) : Type 0 where
   pub success : answer .refusal ≡ 0
   pub no-place : answer .place ≡ 0
   pub rest-kept : Untouched text (answer .length)

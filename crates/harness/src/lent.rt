@@ -2,7 +2,7 @@
 // holds what docs/FORMAT.md says.
 use folder::fold;
 use format::Folded;
-use format::Unrolled;
+use format::Written;
 use reader::read_run;
 use unroller::unroll;
 ghost use mathlib.Core.Path.{_≡_};
@@ -193,7 +193,7 @@ pub fn unrolls(fold: &[u8], limit: usize, run: &[u8], text: &mut [u8]) -> bool
 }
 
 // Whether the unroller's answer and the text are so.
-fn unrolled(answer: Unrolled, run: &[u8], text: &[u8]) -> bool
+fn unrolled(answer: Written, run: &[u8], text: &[u8]) -> bool
     ensures { λ r. ⌜ (r ≡ true) ↔ Unrolls answer (now (run .entry)) (now (text .entry)) ⌝ }
 {
     if answer.refusal != 0 {

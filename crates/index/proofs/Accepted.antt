@@ -8,7 +8,7 @@ use Rattle.format.specs.Forest.{at-most, unroll, nodes, bytes}
 use Rattle.format.specs.Tree.{tree-of}
 use Rattle.format.specs.Machine.{accepted}
 use Rattle.format.specs.Order.{Bytes}
-use Rattle.format.specs.Readings.{free, fold-rules, greatest-operand, fold-alone}
+use Rattle.format.specs.Readings.{free, fold-rules, greatest-operand, alone-in, fold-alone}
 use Rattle.format.specs.Shape.{tally-of}
 use Rattle.format.specs.declared.Tally.{Tally}
 use Rattle.format.proofs.Bridge.{parses}
@@ -25,7 +25,7 @@ pub record AcceptedFold (s : List ℕ) (t : Tally) (x : List ℕ) : Type 0 where
   pub text : bytes (unroll (tree-of s)) ≡ x
 
 pub accepted-fold : (s : List ℕ) → Bytes s → (t : Tally) (x : List ℕ) → fold-alone s ≡ accepted t x → AcceptedFold s t x
-unfolding fold-alone tally-of
+unfolding alone-in tally-of
 accepted-fold s small t x e =
     let a = parses (fold-rules (at-most greatest-operand) free) s small t x e in
     let same : a .tree ≡ tree-of s = sym (tree-of-bytes (a .tree)) ∙ ap tree-of (a .form) in

@@ -105,14 +105,14 @@ module _ (s : List ℕ) (small : Bytes s) (offsets before : List ℕ) (n : ℕ) 
   answer-right r e success = by-outcome (fold-alone s) refl (is-index (index-of s) offsets before) (getElem? (written-by s) n) refl e
     where
       by-outcome : (o : Outcome) → fold-alone s ≡ o → (b : Bool) (w : Option Written) → getElem? (written-by s) n ≡ w → r ≡ finding o b w → AtPosition s n r
-      by-outcome (refused k p) q b w v f = absurd (alone-some s k p q (sym (ap (λ (u : Found). u .refusal) f) ∙ success))
+      by-outcome (refused k p) q b w v f = absurd (alone-some false s k p q (sym (ap (λ (u : Found). u .refusal) f) ∙ success))
       by-outcome (accepted t x) q false w v f = absurd (omega (arith, ap (λ (u : Found). u .refusal) f, success))
       by-outcome (accepted t x) q true none v f = absurd (omega (arith, ap (λ (u : Found). u .refusal) f, success))
       by-outcome (accepted t x) q true (some w) v f =
           rw f
           (record {
             run = x;
-            means = accepted-means (at-most (limits .width)) free s small t x (alone-well-formed s small t x .0 q);
+            means = accepted-means (at-most (limits .width)) free s small t x (alone-well-formed false s small t x .0 q);
             node = rw (← written-run s small t x q) (nth-map (λ (w : Written). w .node) (written-by s) n ∙ rw v);
             stands = written-stands s small t x q n w v;
           })

@@ -9,7 +9,7 @@ use native.Mathlib.Nat.{mul-le-mul, mod-lt}
 use native.Mathlib.Omega.{arith}
 use lib.ListN.{length, length-append, length-map, getD, getElem?}
 use Rattle.format.specs.Limits.{limits}
-use Rattle.format.specs.Forest.{Forest, end, step, group, repeat, nodes, bytes}
+use Rattle.format.specs.Forest.{Forest, end, step, group, repeat, nodes, form-in, bytes}
 use Rattle.format.specs.inner.Standing.{FormAt, SequenceAt}
 use Rattle.format.proofs.Standing.{step-there, step-byte, step-behind, group-there, group-byte, group-inside, group-close, group-behind, repeat-there, repeat-byte, repeat-count, repeat-inside, repeat-behind}
 use Rattle.format.specs.Machine.{times}
@@ -70,7 +70,7 @@ module _ {s : List ℕ} where
   -- Those of a sequence that stands at p, and then those behind it.
   ahead-of : (f : Forest) (p q : ℕ) (rest os : List ℕ) → FormAt s p f rest → nodes f ≤ limits .nodes → q ≡ p + length (bytes f)
       → Ahead s q os → Ahead s p (offsets-in p f ++ os)
-  unfolding nodes bytes
+  unfolding nodes form-in
   ahead-of end p q rest os z few e a = let same : q ≡ p = omega arith in rw (offsets-end p) (rw same at a)
   ahead-of (step l f) p q rest os z few e a =
       let byte = step-byte z in

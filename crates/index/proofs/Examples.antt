@@ -3,8 +3,8 @@
 use mathlib.Core.Path.{_≡_, refl}
 use mathlib.Core.List.{List, [], _∷_, map}
 use Prim.Native.Nat.{ℕ}
-use Rattle.format.specs.Forest.{nodes, bytes}
-use Rattle.format.specs.Readings.{fold-alone}
+use Rattle.format.specs.Forest.{nodes, form-in, bytes}
+use Rattle.format.specs.Readings.{alone-in, fold-alone}
 use Rattle.format.specs.Tree.{tree-of}
 use Rattle.index.specs.Nodes.{written, writes, written-by}
 use Rattle.index.specs.Index.{sums, same, index-of, indexed, index-answer, index-output}
@@ -54,7 +54,7 @@ pub indexes : map index-of (mixed ∷ twice ∷ [] ∷ [])
     ∷ record { offsets = 0 ∷ []; before = 0 ∷ [] }
     ∷ record { offsets = []; before = [] }
     ∷ []
-unfolding sums tree-of nodes bytes
+unfolding sums tree-of nodes form-in
 indexes = refl
 
 -- What the builder answers for slices of so many entries.
@@ -62,7 +62,7 @@ pub data Built : Type 0 where
   build : (fold : List ℕ) (offsets before : ℕ) → Indexed → Built
 
 unfoldable pub built : Built → Indexed
-unfolding fold-alone sums tree-of nodes bytes
+unfolding alone-in sums tree-of nodes form-in
 built (build s a b r) = index-answer (fold-alone s) (index-of s) a b
 
 abbrev pub expected-built : Built → Indexed
@@ -90,7 +90,7 @@ pub data Sought : Type 0 where
   seek : (fold offsets before : List ℕ) (position : ℕ) → Found → Sought
 
 unfoldable pub sought : Sought → Found
-unfolding fold-alone sums tree-of same writes nodes bytes
+unfolding alone-in sums tree-of same writes nodes form-in
 sought (seek s offsets before n r) = find-answer s offsets before n
 
 abbrev pub expected-sought : Sought → Found
@@ -155,5 +155,5 @@ false-indexes-hold = refl
 -- only 2 entries, all as it was.
 pub slices-hold : map (λ (b : ℕ). index-output (fold-alone mixed) (index-of mixed) 5 b (index-of mixed .offsets) (7 ∷ 7 ∷ 7 ∷ 7 ∷ 7 ∷ [])) (3 ∷ 2 ∷ [])
     ≡ (0 ∷ 2 ∷ 21 ∷ 7 ∷ 7 ∷ []) ∷ (7 ∷ 7 ∷ 7 ∷ 7 ∷ 7 ∷ []) ∷ []
-unfolding fold-alone sums tree-of nodes bytes
+unfolding alone-in sums tree-of nodes form-in
 slices-hold = refl

@@ -9,7 +9,7 @@ use native.Mathlib.Nat.{zero-add, suc-add}
 use native.Mathlib.Omega.{arith}
 use lib.ListN.{length, length-append, drop, getElem?}
 use lib.Seq.{drop-drop, drop-append-seam}
-use Rattle.format.specs.Forest.{Forest, end, step, group, repeat, join, copies, unroll, nodes, bytes, Plain}
+use Rattle.format.specs.Forest.{Forest, end, step, group, repeat, join, copies, unroll, nodes, form-in, bytes, Plain}
 use Rattle.format.specs.Machine.{times, is-node, operands}
 use Rattle.format.specs.Parts.{starts}
 use Rattle.format.specs.inner.Standing.{FormAt}
@@ -34,7 +34,7 @@ length-writes p (repeat h w b f) =
 
 -- One sequence behind another.
 pub writes-join : (p : ℕ) (f g : Forest) (q : ℕ) → q ≡ p + length (bytes f) → writes p (join f g) ≡ writes p f ++ writes q g
-unfolding writes join bytes
+unfolding writes join form-in
 writes-join p end g q e = let h : q ≡ p = omega arith in rw h
 writes-join p (step l f) g q e = ap (λ (ws : List Written). written 0x10 l p ∷ ws) (writes-join (p + 2) f g q (omega arith))
 writes-join p (group l b f) g q e =
@@ -85,7 +85,7 @@ names-unroll (repeat h w b f) = names-join (copies h (unroll b)) (unroll f) ∙ 
 
 -- The nodes of a run's bytes.
 names-bytes : (f : Forest) → Plain f → (rest : List ℕ) → nodes-from 0 (bytes f ++ rest) ≡ names f ++ nodes-from 0 rest
-unfolding names bytes nodes-from
+unfolding names form-in nodes-from
 names-bytes end a rest = refl
 names-bytes (step l f) a rest = rw (names-bytes f a rest)
 names-bytes (group l b f) a rest =
@@ -180,7 +180,7 @@ module _ (s : List ℕ) where
   label-at p = omega arith
 
   stand-writes : (f : Forest) (p : ℕ) (rest : List ℕ) → FormAt s p f rest → Boundary p → AllStand s (writes p f)
-  unfolding writes bytes
+  unfolding writes form-in
   stand-writes end p rest z b = tt
   stand-writes (step l f) p rest z b =
       let here : StandsIn s (written 0x10 l p) =

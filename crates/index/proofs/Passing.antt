@@ -7,7 +7,7 @@ use native.Mathlib.Nat.{mul-le-mul}
 use native.Mathlib.Omega.{arith}
 use lib.ListN.{length, length-append, getD}
 use Rattle.format.specs.Limits.{limits}
-use Rattle.format.specs.Forest.{Forest, end, step, group, repeat, nodes, bytes}
+use Rattle.format.specs.Forest.{Forest, end, step, group, repeat, nodes, form-in, bytes}
 use Rattle.format.specs.inner.Standing.{One, one-step, one-group, one-repeat, FormAt}
 use Rattle.format.proofs.Forests.{nodes-join}
 use Rattle.format.proofs.Standing.{nodes-adds, along-total, one-some, repeat-byte, RepeatAt, GroupAt, item-repeat, item-step, item-group, NoItem, Along, along-none, along-ended, next, next-item, along-more}
@@ -16,15 +16,15 @@ use Rattle.index.specs.declared.pass.Spot.{Spot}
 
 -- What each kind of item has, of nodes and of bytes.
 step-has : (l : ℕ) → (nodes (step l end) ≡ 1) × (length (bytes (step l end)) ≡ 2)
-unfolding nodes bytes
+unfolding nodes form-in
 step-has l = (refl, refl)
 
 group-has : (l : ℕ) (b : Forest) → (nodes (group l b end) ≡ 1 + nodes b) × (length (bytes (group l b end)) ≡ 3 + length (bytes b))
-unfolding nodes bytes
+unfolding nodes form-in
 group-has l b = (omega arith, omega (arith, length-append (bytes b) (0x12 ∷ [])))
 
 repeat-has : (h w : ℕ) (b : Forest) → (nodes (repeat h w b end) ≡ h * nodes b) × (length (bytes (repeat h w b end)) ≡ 6 + length (bytes b))
-unfolding nodes bytes
+unfolding nodes form-in
 repeat-has h w b = (omega arith, omega (arith, length-append (bytes b) (0x21 ∷ [])))
 
 node-some : {s : List ℕ} {p : ℕ} {f : Forest} {rest : List ℕ} → One f → FormAt s p f rest → getD s p 0 ≢ 0x20 → 1 ≤ nodes f

@@ -9,7 +9,7 @@ use native.Mathlib.Decide.{ℕ-discrete}
 use native.Mathlib.Omega.{arith}
 use lib.ListN.{length, length-append, getD}
 use lib.Seq.{getD-at}
-use Rattle.format.specs.Forest.{Forest, end, step, group, repeat, Forest-discrete, join, nodes, bytes, Allowed, Sound}
+use Rattle.format.specs.Forest.{Forest, end, step, group, repeat, Forest-discrete, join, nodes, form-in, bytes, Allowed, Sound}
 use Rattle.format.specs.inner.Standing.{One, one-step, one-group, one-repeat}
 use Rattle.format.proofs.Forests.{join-end, join-assoc, nodes-join}
 use Rattle.format.proofs.Depth.{siblings-nodes}
@@ -39,7 +39,7 @@ outermost-one (one-repeat h w b) = refl
 
 -- An item has a byte at least.
 pub outermost-short : (f : Forest) → outermost f ≤ length (bytes f)
-unfolding outermost bytes
+unfolding outermost form-in
 outermost-short end = omega arith
 outermost-short (step l f) = omega (arith, outermost-short f)
 outermost-short (group l b f) = omega (arith, length-append (bytes b) (0x12 ∷ bytes f), outermost-short f)

@@ -4,7 +4,7 @@ use mathlib.Core.Bool.{true, cond}
 use mathlib.Core.List.{List, [], _∷_, _++_}
 use Prim.Native.Nat.{ℕ, zero, suc, _+_, _<_}
 use lib.ListN.{length, getD}
-use Rattle.format.specs.Forest.{Forest, end, step, group, repeat, bytes}
+use Rattle.format.specs.Forest.{Forest, end, step, group, repeat, form-in, bytes}
 use Rattle.format.specs.Machine.{times, is-node, operands, label-operand}
 use Rattle.format.specs.Parts.{starts}
 use Rattle.format.specs.Tree.{tree-of}
@@ -25,7 +25,7 @@ written c l p = record { node = record { command = c; label = l }; offset = p }
 -- What unrolling writes of a sequence whose byte form stands at offset p: a step or a group writes its own node, a group then
 -- those that it holds, a repeat those of its body count times.
 unfoldable pub writes : (p : ℕ) → Forest → List Written
-unfolding times bytes
+unfolding times form-in
 writes p end = []
 writes p (step l f) = written 0x10 l p ∷ writes (p + 2) f
 writes p (group l b f) = written 0x11 l p ∷ writes (p + 2) b ++ writes (p + 3 + length (bytes b)) f
@@ -38,7 +38,7 @@ written-by s = writes 0 (tree-of s)
 -- The same sequence with the offset of each node's command in place of its label: what unrolling makes of this shows which
 -- command each node of the run comes from.
 unfoldable pub marked : (p : ℕ) → Forest → Forest
-unfolding bytes
+unfolding form-in
 marked p end = end
 marked p (step l f) = step p (marked (p + 2) f)
 marked p (group l b f) = group p (marked (p + 2) b) (marked (p + 3 + length (bytes b)) f)

@@ -41,7 +41,7 @@ pub fn build_index(fold: &[u8], offsets: &mut [u32], before: &mut [u32]) -> Inde
     ensures offsets_written { λ _. ⌜ now (offsets .exit) ≡ index-output (fold-alone (now (fold .entry))) (index-of (now (fold .entry))) (length (now (offsets .entry))) (length (now (before .entry))) (index-of (now (fold .entry)) .offsets) (now (offsets .entry)) ⌝ }
     ensures before_written { λ _. ⌜ now (before .exit) ≡ index-output (fold-alone (now (fold .entry))) (index-of (now (fold .entry))) (length (now (offsets .entry))) (length (now (before .entry))) (index-of (now (fold .entry)) .before) (now (before .entry)) ⌝ }
 {
-    let m = read_alone(fold);
+    let m = read_alone(fold, false);
     if m.refusal != 0 {
         return Indexed {
             refusal: m.refusal,
@@ -92,7 +92,7 @@ pub fn find(fold: &[u8], offsets: &[u32], before: &[u32], position: u64) -> Foun
     ensures answered { λ r. ⌜ r ≡ find-answer (now (fold .entry)) (now (offsets .entry)) (now (before .entry)) position ⌝ }
     ensures right { λ r. ⌜ (r .refusal ≡ 0 → AtPosition (now (fold .entry)) position r) ⌝ }
 {
-    let m = read_alone(fold);
+    let m = read_alone(fold, false);
     if m.refusal != 0 {
         return refused(m.refusal, m.place);
     }

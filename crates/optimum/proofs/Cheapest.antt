@@ -1,12 +1,13 @@
 -- The cheapest fold is optimal, and how long it is at most; the optimal fold by its least pair, and the least cost.
+use mathlib.Core.Bool.{Bool}
 use mathlib.Core.Path.{_≡_, sym, ap, _∙_}
 use Prim.Native.Nat.{ℕ, zero, suc, _+_, _*_, _≤_, _<_}
 use native.Mathlib.Omega.{arith}
 use lib.ListN.{length}
 use Rattle.format.specs.Limits.{Prices}
-use Rattle.format.specs.Forest.{Forest, end, step, group, repeat, siblings, nodes, bytes, cost, Plain, Allowed, Sound}
+use Rattle.format.specs.Forest.{Forest, end, step, group, repeat, siblings, nodes, form-in, cost, Plain, Allowed, Sound}
 use Rattle.format.proofs.Forests.{nodes-unroll}
-use Rattle.format.proofs.Short.{sound-short}
+use Rattle.format.proofs.Short.{form-short}
 use Rattle.optimum.specs.Optimal.{FoldOf, Optimal}
 use Rattle.optimum.specs.Cheapest.{Run, front, back, node, build, price, Bases, usual, own, Spans, Least, choose, cheapest-by, cheapest, best-cost}
 use Rattle.optimum.proofs.Cut.{run-body}
@@ -38,11 +39,11 @@ module _ (A : Allowed) (P : Prices) where
   solves : (t : Forest) → Run A t → Optimal A P t (cheapest A P t)
   solves t r = cheapest-optimal A P t (r .plain) (r .sound)
 
-  -- It is a fold, and so it is short.
-  pub cheapest-short : (t : Forest) → Run A t → length (bytes (cheapest A P t)) ≤ 4 * nodes t
-  cheapest-short t r =
+  -- It is a fold, and so it is short, in either family.
+  pub cheapest-short : (short : Bool) (t : Forest) → Run A t → length (form-in short (cheapest A P t)) ≤ 4 * nodes t
+  cheapest-short short t r =
       let o = solves t r .fold in
-      omega (arith, sound-short A (cheapest A P t) (o .sound), nodes-unroll (cheapest A P t), ap nodes (o .unrolls))
+      omega (arith, form-short short A (cheapest A P t) (o .sound), nodes-unroll (cheapest A P t), ap nodes (o .unrolls))
 
   -- It is the only one, and so the least cost is that of any.
   pub is-cheapest : {t f : Forest} → Optimal A P t f → f ≡ cheapest A P t

@@ -3,7 +3,7 @@ use mathlib.Core.Path.{_≡_, refl, sym, ap, subst, _∙_}
 use mathlib.Core.List.{List}
 use Prim.Native.Nat.{ℕ, zero, suc, _*_, _≤_, _<_}
 use native.Mathlib.Nat.{mul-le-mul-left}
-use mathlib.Core.Bool.{false≢true}
+use mathlib.Core.Bool.{false, false≢true}
 use native.Mathlib.Omega.{arith}
 use lib.ListN.{length}
 use Rattle.format.specs.Limits.{limits, Prices, Tariff, priced, allowed}
@@ -15,10 +15,10 @@ use Rattle.format.specs.Shape.{Shaped, Reads, tally-of}
 use Rattle.format.specs.Tree.{tree-of}
 use Rattle.format.specs.declared.Tally.{Tally}
 use Rattle.format.proofs.Forests.{nodes-unroll, group-depth-join, coded-bytes}
-use Rattle.format.proofs.Bridge.{accepts, parses, bytes-injective, sound-widest, sound-within}
+use Rattle.format.proofs.Bridge.{accepts, parses, sound-widest, sound-within}
 use Rattle.format.proofs.Marks.{sound-plain}
 use Rattle.format.proofs.Depth.{depth-fits, siblings-nodes}
-use Rattle.format.proofs.Tree.{tree-of-bytes}
+use Rattle.format.proofs.Tree.{tree-of-bytes, bytes-injective}
 use Rattle.optimum.specs.Optimal.{FoldOf}
 use Rattle.optimum.specs.Cheapest.{Run}
 use Rattle.optimum.specs.Fewest.{repeats-in, ComesFirst, fewer, as-many, Leads, by-cost, by-repeats, itself, by-bytes, Preferred, preferred}
@@ -168,7 +168,7 @@ module _ (s : List ℕ) (small : Bytes s) (t : Tally) (x : List ℕ) (run : read
 
   -- Its preferred fold has at most four bytes for each node.
   pub cheapest-room : (A : Allowed) (P : Prices) → length (bytes (preferred A P (tree-of s))) ≤ 4 * t .nodes
-  cheapest-room A P = omega (arith, run-nodes, preferred-short A P (tree-of s) (shaped-run A (tree-of s) run-shape))
+  cheapest-room A P = omega (arith, run-nodes, preferred-short A P (tree-of s) (shaped-run A (tree-of s) run-shape) false)
 
   -- A run has few nodes.
   pub run-few : t .nodes ≤ limits .nodes

@@ -1,5 +1,6 @@
 -- The same optimum at other prices: with every price times N and 1 more for a repeat the cost is N × cost + repeats, and where N is
 -- above the repeats of every fold, the cheapest fold at these prices is the preferred one.
+use mathlib.Core.Bool.{Bool}
 use mathlib.Core.Path.{_≡_, sym, ap, _∙_}
 use mathlib.Core.Logic.{_↔_}
 use mathlib.Core.List.{List, [], _∷_, _++_, append-assoc, append-nil}
@@ -9,7 +10,7 @@ use native.Mathlib.Decide.{decLt}
 use native.Mathlib.Omega.{arith}
 use lib.ListN.{length}
 use Rattle.format.specs.Limits.{Prices, of-repeat}
-use Rattle.format.specs.Forest.{Forest, end, step, group, repeat, nodes, cost, bytes, Allowed, Sound}
+use Rattle.format.specs.Forest.{Forest, end, step, group, repeat, nodes, cost, form-in, bytes, Allowed, Sound}
 use Rattle.format.proofs.Forests.{nodes-unroll}
 use Rattle.format.proofs.Depth.{siblings-nodes}
 use Rattle.optimum.specs.Optimal.{FoldOf, NoWorse, cheaper, same, earlier, Optimal}
@@ -20,7 +21,7 @@ use Rattle.optimum.proofs.Cheapest.{cheapest-optimal, cheapest-short, i
 
 -- The `20` commands of a tree's bytes are its repeats.
 repeats-before : (f : Forest) (s : List ℕ) → repeats-from (bytes f ++ s) 0 ≡ repeats-of f + repeats-from s 0
-unfolding repeats-from repeats-of bytes
+unfolding repeats-from repeats-of form-in
 repeats-before end s = omega arith
 repeats-before (step l f) s = omega (arith, repeats-before f s)
 repeats-before (group l b f) s =
@@ -154,6 +155,6 @@ module _ (A : Allowed) (P : Prices) (t : Forest) (r : Run A t) where
   counted-few N enough = below A P t N enough (preferred-first .fold)
 
   -- It is a fold, and so it is short.
-  pub preferred-short : length (bytes (preferred A P t)) ≤ 4 * nodes t
+  pub preferred-short : (short : Bool) → length (form-in short (preferred A P t)) ≤ 4 * nodes t
   unfolding preferred
-  preferred-short = cheapest-short A (counting (suc (nodes t)) P) t r
+  preferred-short short = cheapest-short A (counting (suc (nodes t)) P) short t r

@@ -3,7 +3,7 @@ use mathlib.Core.Path.{_≡_, refl, sym, ap, _∙_}
 use Prim.Native.Nat.{ℕ, zero, suc, _*_, _<_}
 use native.Mathlib.Nat.{mul-le-mul}
 use native.Mathlib.Omega.{arith}
-use Rattle.format.specs.Forest.{Forest, end, step, group, repeat, join, copies, unroll, siblings, nodes, bytes, holds, Plain, Allowed, Repeats, Sound}
+use Rattle.format.specs.Forest.{Forest, end, step, group, repeat, join, copies, unroll, siblings, nodes, form-in, bytes, holds, Plain, Allowed, Repeats, Sound}
 use Rattle.format.specs.Order.{Before, here, there}
 use Rattle.format.proofs.Forests.{join-assoc, siblings-unroll, unroll-plain, plain-unroll, plain-copies, siblings-copies, sound-unroll}
 use Rattle.format.proofs.Marks.{holds-unroll}
@@ -34,7 +34,7 @@ not-sooner (narrower e k) = omega arith
 
 pub sooner-before : {A : Allowed} {t : Forest} (f g : Forest) → FoldOf A t f → FoldOf A t g
     → Sooner (count-of f) (width-of f) (count-of g) (width-of g) → Before (bytes f) (bytes g)
-unfolding count-of width-of bytes siblings
+unfolding count-of width-of form-in siblings
 sooner-before f end p q s = absurd (not-sooner s)
 sooner-before f (step m g) p q s = absurd (not-sooner s)
 sooner-before f (group m c g) p q s = absurd (not-sooner s)

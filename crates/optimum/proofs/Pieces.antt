@@ -7,7 +7,7 @@ use Prim.Native.Nat.{ℕ, _+_, _≤_, _<_}
 use native.Mathlib.Decide.{decLt}
 use native.Mathlib.Omega.{arith}
 use Rattle.format.specs.Limits.{Prices, of-repeat}
-use Rattle.format.specs.Forest.{Forest, end, step, group, repeat, join, unroll, cost, bytes, two-bytes, Allowed, Sound}
+use Rattle.format.specs.Forest.{Forest, end, step, group, repeat, join, unroll, cost, form-in, bytes, two-bytes, Allowed, Sound}
 use Rattle.format.specs.Order.{Before}
 use Rattle.format.proofs.Forests.{bytes-join, cost-join, unroll-join, sound-join, sound-parts}
 use Rattle.format.proofs.Order.{irreflexive, asymmetric, transitive, under, ignores, Ordered, compare}
@@ -100,7 +100,7 @@ last-of-join P x = record {
 }
 
 body-of-group : (P : Prices) (l : ℕ) (f : Forest) → Place P (λ b. group l b f)
-unfolding bytes cost
+unfolding form-in cost
 body-of-group P l f = record {
   ahead = 0x11 ∷ l ∷ [];
   behind = 0x12 ∷ bytes f;
@@ -110,7 +110,7 @@ body-of-group P l f = record {
 }
 
 body-of-repeat : (P : Prices) (h w : ℕ) (f : Forest) → Place P (λ b. repeat h w b f)
-unfolding bytes cost
+unfolding form-in cost
 body-of-repeat P h w f = record {
   ahead = 0x20 ∷ two-bytes h (two-bytes w []);
   behind = 0x21 ∷ bytes f;

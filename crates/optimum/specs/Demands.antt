@@ -8,6 +8,7 @@ use Rattle.format.specs.Order.{Bytes}
 use Rattle.format.specs.Forest.{widest-of}
 use Rattle.format.specs.Machine.{Rules}
 use Rattle.format.specs.Readings.{WellFormed}
+use Rattle.format.specs.Family.{short-form}
 use Rattle.format.specs.Tree.{tree-of}
 use Rattle.format.specs.Meaning.{Letter, NoneRepeated, Means, report-of, report-size}
 use Rattle.format.specs.Report.{RRT, Valid, WidthAtMost, Represents}
@@ -35,6 +36,13 @@ pub record CheapestOver (room : ℕ) (run : List ℕ) (limit : ℕ) (R : Rules) 
   pub cost : ℕ
   pub cheapest : CheapestWithin run limit R fold cost
   pub longer : room < length fold
+
+-- Its short form has none: what 14 says in the short family.
+pub record ShortOver (room : ℕ) (run : List ℕ) (limit : ℕ) (R : Rules) : Type 0 where
+  pub fold : List ℕ
+  pub cost : ℕ
+  pub cheapest : CheapestWithin run limit R fold cost
+  pub longer : room < length (short-form fold)
 
 -- The report's own problem (minimum width-k repetition representation tree) under the marks: the tree of f is of width k, repeats no
 -- marked letter and represents the tree of the run, and no such tree is smaller, the prices as weights.

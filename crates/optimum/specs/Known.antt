@@ -4,7 +4,7 @@ use mathlib.Core.Path.{_≡_}
 use mathlib.Core.List.{List, [], _∷_, _++_, map}
 use Prim.Native.Nat.{ℕ}
 use Rattle.format.specs.Limits.{Tariff, tariff, priced, allowed}
-use Rattle.format.specs.Forest.{bytes, cost}
+use Rattle.format.specs.Forest.{form-in, bytes, cost}
 use Rattle.format.specs.Machine.{Outcome, refused, accepted, read, times}
 use Rattle.format.specs.Readings.{run-rules, fold-rules}
 use Rattle.format.specs.Marks.{free-marks, mark-of, all-marks}
@@ -33,7 +33,7 @@ of-reading (accepted t x) = run-is x (t .cost)
 
 -- The answer of the definitions.
 unfoldable pub answer : Asked → Answer
-unfolding of-verdict of-reading read preferred cost bytes tree-of
+unfolding of-verdict of-reading read preferred cost form-in tree-of
 answer (run k T s) = of-verdict (verdict (allowed k (T .marks)) (priced T) s (read run-rules s))
 answer (fold k T s) = of-reading (read (fold-rules (allowed k (T .marks)) (priced T)) s)
 

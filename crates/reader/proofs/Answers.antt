@@ -6,18 +6,20 @@ use mathlib.Core.Logic.{_≢_}
 use Prim.Native.Nat.{ℕ}
 use lib.Dec.{eqb}
 use borrow.Author.Tests.{eqb-true, eqb-false}
-use Rattle.format.specs.Limits.{limits, Tariff, priced, at-most, allowed}
+use Rattle.format.specs.Limits.{limits, Tariff}
 use Rattle.format.specs.Machine.{Rules, none, read, first-of}
 use Rattle.format.specs.Head.{head-checks, full-head}
 use Rattle.format.specs.Order.{Bytes}
 use Rattle.format.specs.Meaning.{MeansAtCost}
-use Rattle.format.specs.Readings.{free, run-rules, run-numbers, fold-numbers, as-run-reading, run-outcome, run-reading, fold-rules, fold-outcome, greatest-operand, fold-alone, fold-reading, as-fold-reading}
+use Rattle.format.specs.Family.{long-form}
+use Rattle.format.specs.Readings.{run-rules, run-numbers, fold-numbers, as-run-reading, run-outcome, run-reading, rules-at, outcome-in, alone-rules, alone-in, fold-reading, short-reading, as-fold-reading}
 use Rattle.format.specs.declared.Head.{Head}
 use Rattle.format.specs.declared.RunReading.{RunReading}
 use Rattle.format.specs.declared.Tally.{Tally}
 use Rattle.format.specs.declared.FoldReading.{FoldReading}
 use Rattle.format.proofs.Heads.{headed-refused, headed-passed}
 use Rattle.format.proofs.Report.{reading-means}
+use Rattle.format.proofs.Family.{short-means}
 use Rattle.walk.specs.Walk.{Whole, outcome}
 use Rattle.walk.specs.declared.command.Walk.{Walk}
 
@@ -40,9 +42,9 @@ answered R s w walked = by-test (eqb (w .refusal) 0) refl
     by-test false e = rw (e, walked .refuses (eqb-false _ _ e))
 
 -- A fold by itself.
-pub alone-read : (s : List ℕ) (w : Walk) → Whole (fold-rules (at-most greatest-operand) free) s w → as-fold-reading (outcome w) ≡ as-fold-reading (fold-alone s)
-unfolding fold-alone
-alone-read s w walked = answered (fold-rules (at-most greatest-operand) free) s w walked
+pub alone-read : (short : Bool) (s : List ℕ) (w : Walk) → Whole (alone-rules short) s w → as-fold-reading (outcome w) ≡ as-fold-reading (alone-in short s)
+unfolding alone-in
+alone-read short s w walked = answered (alone-rules short) s w walked
 
 -- The answers at an entry point: by the head's refusal, or by what follows.
 module _ (h : Head) (n : ℕ) (checked : n ≡ first-of (head-checks limits h)) where
@@ -54,22 +56,28 @@ module _ (h : Head) (n : ℕ) (checked : n ≡ first-of (head-checks limits h)) 
   unfolding run-reading run-outcome
   admit-read s none r e = e ∙ rw (headed-passed limits h (read run-rules s) (sym none ∙ checked))
 
-  module _ (T : Tariff) (s : List ℕ) where
+  module _ (short : Bool) (T : Tariff) (s : List ℕ) where
     abbrev R : Rules
-    R = fold-rules (allowed (h .limit) (T .marks)) (priced T)
+    R = rules-at short h T
 
-    pub fold-refused : n ≢ 0 → (t : Tally) → t ≡ none → fold-numbers n 0 t ≡ as-fold-reading (fold-outcome h T s)
-    unfolding fold-outcome
+    pub fold-refused : n ≢ 0 → (t : Tally) → t ≡ none → fold-numbers n 0 t ≡ as-fold-reading (outcome-in short h T s)
+    unfolding outcome-in
     fold-refused some t f = rw (headed-refused limits h (read R s) n checked some, f)
 
-    pub fold-read : n ≡ 0 → (w : Walk) → Whole R s w → as-fold-reading (outcome w) ≡ as-fold-reading (fold-outcome h T s)
-    unfolding fold-outcome
+    pub fold-read : n ≡ 0 → (w : Walk) → Whole R s w → as-fold-reading (outcome w) ≡ as-fold-reading (outcome-in short h T s)
+    unfolding outcome-in
     fold-read none w walked =
         rw (headed-passed limits h (read R s) (sym none ∙ checked)) (answered R s w walked)
 
 -- The fold reader's answer: it is the reading, and on success means what the report says.
-pub with-meaning : (s : List ℕ) (k : ℕ) (T : Tariff) → Bytes s → (r : FoldReading)
-    → r ≡ as-fold-reading (fold-outcome (full-head T k) T s)
-    → (r ≡ fold-reading s k T) × (r .refusal ≡ 0 → MeansAtCost k T s (r .length) (r .cost))
-unfolding fold-reading
-with-meaning s k T small r e = (e, reading-means s k T small r e)
+module _ (s : List ℕ) (k : ℕ) (T : Tariff) (small : Bytes s) (r : FoldReading) where
+  pub with-meaning : r ≡ as-fold-reading (outcome-in false (full-head T k) T s)
+      → (r ≡ fold-reading s k T) × (r .refusal ≡ 0 → MeansAtCost k T s (r .length) (r .cost))
+  unfolding fold-reading
+  with-meaning e = (e, reading-means s k T small r e)
+
+  -- And the short reader's: its long form means that.
+  pub with-long-meaning : r ≡ as-fold-reading (outcome-in true (full-head T k) T s)
+      → (r ≡ short-reading s k T) × (r .refusal ≡ 0 → MeansAtCost k T (long-form s) (r .length) (r .cost))
+  unfolding short-reading
+  with-long-meaning e = (e, λ z. rw e (short-means s small k T (rw e at z)))

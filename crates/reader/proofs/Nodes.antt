@@ -15,17 +15,9 @@ use Rattle.format.specs.Machine.{is-node, operands}
 use Rattle.format.specs.Readings.{run-reading}
 use Rattle.format.specs.Parts.{starts, still-open, closing, node-size, node-part, part-of}
 use Rattle.format.specs.declared.RunReading.{RunReading}
+use Rattle.format.proofs.Machine.{operands-few}
 use Rattle.format.proofs.Parts.{closing-none}
 use Rattle.walk.proofs.Walking.{cut-one}
-
--- No command has more than four operand bytes.
-few-of : (a b : Bool) → cond a 1 (cond b 4 0) ≤ 4
-few-of true b = omega arith
-few-of false true = omega arith
-few-of false false = omega arith
-
-operands-few : (c : ℕ) → operands c ≤ 4
-operands-few c = few-of (is-node c) (eqb c 0x20)
 
 -- Operand bytes are passed over one at a time, and no node starts among them.
 starts-operand : (p k c : ℕ) (s : List ℕ) → k ≢ 0 → starts (suc p) k (c ∷ s) ≡ starts p (k - 1) s

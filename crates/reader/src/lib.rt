@@ -1,5 +1,5 @@
-// The readers: run reader, part of a node, fold reader with cost, and without limit and costs. One walk serves them all (crate walk). Each answers for every
-// input whatsoever, and none writes anywhere.
+// The readers: run reader, part of a node, fold reader with cost, the same of the short family, and without limit and costs. One walk
+// serves them all (crate walk). Each answers for every input whatsoever, and none writes anywhere.
 mod node;
 
 use format::FoldReading;
@@ -7,8 +7,8 @@ use format::Format;
 use format::Head;
 use format::RunReading;
 use format::Tally;
+use format::full_head;
 use format::head_refusal;
-use format::marks_in_order;
 use format::wide_cost;
 use node::node_end;
 use node::starts_at;
@@ -18,7 +18,8 @@ use walk::whole;
 ghost use mathlib.Core.Path.{_≡_};
 ghost use mathlib.Core.Bool.{true};
 ghost use Rattle.format.specs.Limits.{tariff};
-ghost use Rattle.format.specs.Readings.{run-numbers, fold-numbers, as-run-reading, run-outcome, run-reading, fold-outcome, measured, fold-alone, fold-reading, as-fold-reading};
+ghost use Rattle.format.specs.Readings.{run-numbers, fold-numbers, as-run-reading, run-outcome, run-reading, outcome-in, measured, alone-in, fold-reading, short-reading, as-fold-reading};
+ghost use Rattle.format.specs.Family.{long-form};
 ghost use Rattle.format.specs.Meaning.{MeansAtCost};
 ghost use Rattle.format.specs.Parts.{node-part, part-of};
 ghost use Rattle.walk.specs.Walk.{outcome};
@@ -59,6 +60,7 @@ pub fn read_run(run: &[u8]) -> RunReading
     let a = Terms {
         limits: Format::limits(),
         folds: false,
+        short: false,
         widest: 0,
         first: 0,
         each: 0,
@@ -129,10 +131,11 @@ fn answer(w: Walk) -> FoldReading
     as_fold(0, 0, w.tally)
 }
 
-// A fold at an entry point with this head: the checks of the head, then refusals 1, 3 to 10 and 19; or the nodes, bytes, steps and
-// depth of the run and the fold's cost.
+// A fold of a family at an entry point with this head: the checks of the head, then refusals 1, 3 to 10 and 19, in the short family
+// 20 as well; or the nodes, bytes, steps and depth of the run and the fold's cost.
 fn read_headed(
     fold: &[u8],
+    short: bool,
     head: Head,
     steps: &[u16],
     groups: &[u16],
@@ -140,7 +143,7 @@ fn read_headed(
     first: u16,
     each: u16,
 ) -> FoldReading
-    ensures { λ r. ⌜ r ≡ as-fold-reading (fold-outcome head (tariff (now (steps .entry)) (now (groups .entry)) (now (marks .entry)) first each) (now (fold .entry))) ⌝ }
+    ensures { λ r. ⌜ r ≡ as-fold-reading (outcome-in short head (tariff (now (steps .entry)) (now (groups .entry)) (now (marks .entry)) first each) (now (fold .entry))) ⌝ }
 {
     let bounds = Format::limits();
     let number = head_refusal(bounds, head);
@@ -150,6 +153,7 @@ fn read_headed(
     let a = Terms {
         limits: bounds,
         folds: true,
+        short,
         widest: head.limit,
         first: wide_cost(first),
         each: wide_cost(each),
@@ -169,19 +173,20 @@ pub fn measure(fold: &[u8], limit: usize) -> FoldReading
         limit,
         marks: true,
     };
-    read_headed(fold, head, &free, &free, &unmarked, 0, 0)
+    read_headed(fold, false, head, &free, &free, &unmarked, 0, 0)
 }
 
-// A fold by itself, without limit and costs: refusals 1, 3 to 6 and 8 to 10, or the nodes, bytes, steps and depth of the run at
-// cost 0. The walk gets a width limit that no operand passes.
-pub fn read_alone(fold: &[u8]) -> FoldReading
-    ensures { λ r. ⌜ r ≡ as-fold-reading (fold-alone (now (fold .entry))) ⌝ }
+// A fold of a family by itself, without limit and costs: refusals 1, 3 to 6 and 8 to 10, in the short family 20 as well, or the nodes,
+// bytes, steps and depth of the run at cost 0. The walk gets a width limit that no operand passes.
+pub fn read_alone(fold: &[u8], short: bool) -> FoldReading
+    ensures { λ r. ⌜ r ≡ as-fold-reading (alone-in short (now (fold .entry))) ⌝ }
 {
     let free: [u16; 0] = [0; 0];
     let unmarked: [u8; 0] = [0; 0];
     let a = Terms {
         limits: Format::limits(),
         folds: true,
+        short,
         widest: Format::GREATEST_OPERAND,
         first: 0,
         each: 0,
@@ -204,11 +209,24 @@ pub fn read_fold(
     ensures answered { λ r. ⌜ r ≡ fold-reading (now (fold .entry)) limit (tariff (now (steps .entry)) (now (groups .entry)) (now (marks .entry)) first each) ⌝ }
     ensures meant { λ r. ⌜ (r .refusal ≡ 0 → MeansAtCost limit (tariff (now (steps .entry)) (now (groups .entry)) (now (marks .entry)) first each) (now (fold .entry)) (r .length) (r .cost)) ⌝ }
 {
-    let head = Head {
-        steps: steps.len(),
-        groups: groups.len(),
-        limit,
-        marks: marks_in_order(marks),
-    };
-    read_headed(fold, head, steps, groups, marks, first, each)
+    let head = full_head(limit, steps, groups, marks);
+    read_headed(fold, false, head, steps, groups, marks, first, each)
+}
+
+// The short reader: the fold reader of the short family, which refuses with 20 as well. What it accepts means, in the report's words,
+// what its long form means.
+pub fn read_short(
+    fold: &[u8],
+    limit: usize,
+    steps: &[u16],
+    groups: &[u16],
+    marks: &[u8],
+    first: u16,
+    each: u16,
+) -> FoldReading
+    ensures answered { λ r. ⌜ r ≡ short-reading (now (fold .entry)) limit (tariff (now (steps .entry)) (now (groups .entry)) (now (marks .entry)) first each) ⌝ }
+    ensures meant { λ r. ⌜ (r .refusal ≡ 0 → MeansAtCost limit (tariff (now (steps .entry)) (now (groups .entry)) (now (marks .entry)) first each) (long-form (now (fold .entry))) (r .length) (r .cost)) ⌝ }
+{
+    let head = full_head(limit, steps, groups, marks);
+    read_headed(fold, true, head, steps, groups, marks, first, each)
 }

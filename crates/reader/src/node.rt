@@ -1,36 +1,12 @@
 // The part of a node: where a node starts, and where it ends.
 use format::Format;
+use format::opens_node;
+use format::operand_bytes;
 ghost use mathlib.Core.Path.{_≡_};
 ghost use Prim.Native.Nat.{_+_, _≤_, _<_};
 ghost use lib.ListN.{length, drop};
-ghost use Rattle.format.specs.Machine.{is-node, operands};
+ghost use Rattle.format.specs.Machine.{operands};
 ghost use Rattle.format.specs.Parts.{starts, still-open, node-size};
-
-// The operand bytes of a command.
-fn operand_bytes(c: u8) -> usize
-    ensures { λ r. ⌜ r ≡ operands c ⌝ }
-{
-    if c == Format::STEP {
-        return 1;
-    }
-    if c == Format::GROUP {
-        return 1;
-    }
-    if c == Format::REPEAT {
-        return 4;
-    }
-    0
-}
-
-// Whether a command is a step or opens a group.
-pub fn opens_node(c: u8) -> bool
-    ensures { λ r. ⌜ r ≡ is-node c ⌝ }
-{
-    if c == Format::STEP {
-        return true;
-    }
-    c == Format::GROUP
-}
 
 // The groups that are open after a command.
 fn open_after(d: usize, c: u8) -> usize

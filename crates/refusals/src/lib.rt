@@ -1,5 +1,6 @@
-// The refusals: the example of every refusal in docs/REFUSALS.md but 18 and 19, by every entry point that it concerns. What is
-// printed calls each a row: a row of the table there. Those of marks are the crate marked's, which uses what is public here.
+// The refusals: the example of every refusal in docs/REFUSALS.md but 18, 19 and 20, by every entry point that it concerns. What is
+// printed calls each a row: a row of the table there. Those of marks and of the short family are the crates marked and short, which
+// use what is public here.
 mod finding;
 
 pub use finding::FILLED;

@@ -4,7 +4,7 @@ use mathlib.Core.List.{List, _∷_}
 use Prim.Native.Nat.{ℕ, _+_, _-_, _<_, _≤_}
 use native.Mathlib.Omega.{arith}
 use lib.ListN.{length, getD, length-append}
-use Rattle.format.specs.Forest.{Forest, end, step, group, repeat, Plain, join, siblings, nodes, bytes, Allowed}
+use Rattle.format.specs.Forest.{Forest, end, step, group, repeat, Plain, join, siblings, nodes, form-in, bytes, Allowed}
 use Rattle.format.proofs.Forests.{nodes-join}
 use Rattle.optimum.specs.Cheapest.{Run, front, back}
 use Rattle.optimum.proofs.Cut.{join-cut, siblings-back, run-front, run-back, run-body}
@@ -25,7 +25,7 @@ module _ (places nexts : List ℕ) where
   -- A sequence is listed part by part.
   pub listed-parts : (x y : Forest) (at b : ℕ) → Plain x → NodesListed places nexts at b (join x y)
       → NodesListed places nexts at (b + nodes y) x × NodesListed places nexts (at + length (bytes x)) b y
-  unfolding join nodes bytes
+  unfolding join nodes form-in
   listed-parts end y at b p h = (tt, listed-same y at (at + 0) b b (omega arith) refl h)
   listed-parts (step l f) y at b p h =
       let r = listed-parts f y (at + 2) b p (h .1) in (
@@ -45,7 +45,7 @@ module _ (places nexts : List ℕ) where
 
   pub listed-join : (x y : Forest) (at b : ℕ) → Plain x → NodesListed places nexts at (b + nodes y) x
       → NodesListed places nexts (at + length (bytes x)) b y → NodesListed places nexts at b (join x y)
-  unfolding join nodes bytes
+  unfolding join nodes form-in
   listed-join end y at b p h k = listed-same y _ at b b (omega arith) refl k
   listed-join (step l f) y at b p h k = (
     listed-at _ _ at _ _ (omega (arith, nodes-join f y)) (omega (arith, nodes-join f y)) (h .0),
@@ -91,7 +91,7 @@ module _ (places nexts : List ℕ) where
 module _ (places nexts : List ℕ) (A : Allowed) (at b : ℕ) (t : Forest) (r : Run A t) (h : NodesListed places nexts at b t) (i k : ℕ) (g f : Forest)
     (e : back i t ≡ group k g f) where
   listed-inside : getD places (number b t i - 1) 0 ≡ at + place i t + 2
-  unfolding front bytes
+  unfolding front form-in
   listed-inside =
       let u = rw e at (run-back i r) in
       let c = number b t (i + 1) in

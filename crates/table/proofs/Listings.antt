@@ -7,11 +7,11 @@ use native.Mathlib.Decide.{decLt, ℕ-discrete}
 use native.Mathlib.Omega.{arith}
 use lib.ListN.{length, getD, set, take, drop, length-append}
 use lib.Seq.{take-at, drop-at, getD-drop, getD-set-same, getD-set-other}
-use Rattle.format.specs.Forest.{at-most, Forest, end, step, group, repeat, Plain, siblings, bytes, holds}
+use Rattle.format.specs.Forest.{at-most, Forest, end, step, group, repeat, Plain, siblings, form-in, bytes, holds}
 use Rattle.format.specs.Tree.{tree-of}
 use Rattle.format.proofs.Forests.{bytes-join}
 use Rattle.format.proofs.Marks.{one}
-use Rattle.format.proofs.Bridge.{bytes-injective}
+use Rattle.format.proofs.Tree.{bytes-injective}
 use Rattle.optimum.specs.Cheapest.{Run, front, back, node, FreeCopy}
 use Rattle.optimum.proofs.Cut.{join-cut, front-add, back-back, siblings-back, run-back}
 use Rattle.table.specs.Listing.{Spelled, FirstEqual, marked-from, ClassOf, free, alone, Classed}
@@ -51,7 +51,7 @@ place-next i t =
 
 -- Each sibling of a run has two bytes at least.
 first-long : (t : Forest) → Plain t → 0 < siblings t → 2 ≤ length (bytes (front 1 t))
-unfolding front siblings bytes
+unfolding front siblings form-in
 first-long end p h = absurd (omega arith)
 first-long (step l f) p h = omega arith
 first-long (group l b f) p h = omega arith
@@ -88,7 +88,7 @@ module _ (s : List ℕ) (z : Spelled s) where
         omega (arith, place-next i (tree-of s), first-long (back i (tree-of s)) (run-back i run-any .plain) left)
 
     pub sibling-first : (at : ℕ) → at ≡ place i (tree-of s) → Sibling (tree-of s) i (getD s at 0) (getD s (at + 1) 0)
-    unfolding siblings bytes
+    unfolding siblings form-in
     sibling-first at e = by-form (back i (tree-of s)) refl
       where
         byte : (f : Forest) → back i (tree-of s) ≡ f → (k j : ℕ) → at + k ≡ j → getD s j 0 ≡ getD (bytes f) k 0
@@ -118,7 +118,7 @@ marked-hold = refl
 
 -- The marked labels of a run in its bytes.
 pub marked-bytes : (m : ℕ → Bool) (t : Forest) (s : List ℕ) → Plain t → marked-from m false (bytes t ++ s) ≡ (holds m t || marked-from m false s)
-unfolding bytes holds marked-from
+unfolding form-in holds marked-from
 marked-bytes m end s p = refl
 marked-bytes m (step l f) s p = rw (marked-bytes m f s p, or-assoc)
 marked-bytes m (group l b f) s p =

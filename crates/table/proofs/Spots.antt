@@ -6,7 +6,7 @@ use Prim.Native.Nat.{ℕ, _+_, _-_, _<_, _≤_}
 use native.Mathlib.Omega.{arith}
 use lib.ListN.{length, getD, set, drop, length-append, length-drop, length-set}
 use lib.Seq.{getD-drop, drop-drop, drop-append-add, getD-set-same, getD-set-other}
-use Rattle.format.specs.Forest.{Forest, end, step, group, repeat, Plain, join, nodes, bytes, at-most}
+use Rattle.format.specs.Forest.{Forest, end, step, group, repeat, Plain, join, nodes, form-in, bytes, at-most}
 use Rattle.format.specs.Tree.{tree-of}
 use Rattle.format.proofs.Forests.{join-end, join-assoc, bytes-join, nodes-join, plain-join}
 use Rattle.table.specs.Listing.{Spelled}
@@ -51,20 +51,20 @@ module _ (run : List ℕ) (w : Spot) (t : Forest) (rest : List ℕ) (form : drop
 module _ (run : List ℕ) (w : Spot) (b : ℕ) where
   -- Where bytes are left and none of them closes the sequence, a node is.
   not-end : (rest : List ℕ) → Closed rest → drop (w .at) run ≡ bytes end ++ rest → w .at < length run → getD run (w .at) 0 ≡ 0x12
-  unfolding bytes
+  unfolding form-in
   not-end [] k form h = absurd (omega (arith, remain run w end [] form))
   not-end (c ∷ s) k form h = first-byte run w end (c ∷ s) form ∙ k
 
   pub node-there : (t : Forest) → SequenceAt run w b t → w .at < length run → getD run (w .at) 0 ≢ 0x12
       → (w .at + 2 ≤ length run) × (1 ≤ w .number)
-  unfolding bytes nodes
+  unfolding form-in nodes
   node-there end z h k = absurd (k (not-end (z .rest) (z .closed) (z .form) h))
   node-there (step l f) z h k = (omega (arith, remain run w (step l f) (z .rest) (z .form)), omega (arith, z .numbered))
   node-there (group l g f) z h k = (omega (arith, remain run w (group l g f) (z .rest) (z .form)), omega (arith, z .numbered))
   node-there (repeat m v g f) z h k = absurd (z .plain)
 
   pub step-at : (t : Forest) → SequenceAt run w b t → w .at < length run → getD run (w .at) 0 ≡ 0x10 → StepAt run w b t
-  unfolding bytes nodes
+  unfolding form-in nodes
   step-at end z h k = absurd (omega (arith, not-end (z .rest) (z .closed) (z .form) h))
   step-at (step l f) z h k =
       record {
@@ -84,7 +84,7 @@ module _ (run : List ℕ) (w : Spot) (b : ℕ) where
 
   pub group-at : (t : Forest) → SequenceAt run w b t → w .at < length run → getD run (w .at) 0 ≢ 0x12 → getD run (w .at) 0 ≢ 0x10
       → GroupAt run w b t
-  unfolding bytes nodes
+  unfolding form-in nodes
   group-at end z h k e = absurd (k (not-end (z .rest) (z .closed) (z .form) h))
   group-at (step l f) z h k e = absurd (e (first-byte run w (step l f) (z .rest) (z .form)))
   group-at (group l g f) z h k e =
@@ -117,7 +117,7 @@ module _ (run : List ℕ) (w : Spot) (b : ℕ) where
 
   -- Elsewhere the sequence is over.
   pub ended-at : (t : Forest) → SequenceAt run w b t → (w .at < length run → getD run (w .at) 0 ≡ 0x12) → t ≡ end
-  unfolding bytes
+  unfolding form-in
   ended-at end z e = refl
   ended-at (step l f) z e =
       absurd
@@ -170,7 +170,7 @@ module _ (places nexts places′ nexts′ : List ℕ) where
 -- One node, and one sequence behind another.
 over-step : (places nexts : List ℕ) (w : Spot) (l b : ℕ) → w .number ≡ b + 1 → w .number < length places → w .number < length nexts
     → ListedOver places nexts (set places (w .number) (w .at)) (set nexts (w .number) (w .number - 1)) w b (step l end) (behind-label w)
-unfolding nodes bytes
+unfolding nodes form-in
 over-step places nexts w l b e p n =
     record {
       passed = refl;
@@ -190,7 +190,7 @@ over-step places nexts w l b e p n =
 over-group : (places nexts places′ nexts′ : List ℕ) (w r : Spot) (l b : ℕ) (g : Forest) → w .number ≡ b + (1 + nodes g) → w .number < length places
     → w .number < length nexts → ListedOver (set places (w .number) (w .at)) nexts places′ nexts′ (behind-label w) b g r
     → ListedOver places nexts places′ (set nexts′ (w .number) (r .number)) w b (group l g end) (behind-close r)
-unfolding nodes bytes
+unfolding nodes form-in
 over-group places nexts places′ nexts′ w r l b g e p n o =
     let q : b + (1 + nodes g + 0) ≡ w .number = omega arith in
     let z : b + 0 ≡ b = omega arith in
@@ -251,7 +251,7 @@ pub record Along (run places₀ nexts₀ places nexts : List ℕ) (w p : Spot) (
   pub ahead : SequenceAt run p b left
 
 pub along-none : (run places nexts : List ℕ) (w : Spot) (b : ℕ) (t : Forest) → SequenceAt run w b t → Along run places nexts places nexts w w b t
-unfolding join bytes
+unfolding join form-in
 along-none run places nexts w b t z =
     record {
       done = end;

@@ -19,39 +19,39 @@ use Rattle.format.specs.Shape.{Reads}
 use Rattle.format.specs.Meaning.{Means}
 use Rattle.format.specs.declared.FoldReading.{FoldReading}
 use Rattle.format.specs.declared.Tally.{Tally}
-use Rattle.format.specs.declared.Unrolled.{Unrolled}
+use Rattle.format.specs.declared.Written.{Written}
 use Rattle.format.proofs.Answered.{answered-refused, answered-accepted}
 use Rattle.format.proofs.Bridge.{parses}
 use Rattle.format.proofs.Standing.{whole-form}
 use Rattle.format.proofs.Report.{accepted-means, accepted-length, outcome-read, outcome-some}
-use Rattle.unroller.specs.Unrolling.{unroll-answer, unroll-output}
+use Rattle.format.specs.Output.{written-answer, written-output}
 use Rattle.unroller.specs.inner.Writing.{SequenceFrom, PassedOver}
 use Rattle.unroller.specs.declared.write.Place.{Place}
 
 -- What the contract promises of the answer and of the output.
 module _ (s : List ℕ) (k : ℕ) where
-  abbrev pub Promised : (before after : List ℕ) → Unrolled → Type 0
+  abbrev pub Promised : (before after : List ℕ) → Written → Type 0
   Promised before after r =
-      (r ≡ unroll-answer (measured s k) (length before))
-      × ((after ≡ unroll-output (measured s k) before) × (r .refusal ≡ 0 → Means (at-most k) s (take (r .length) after)))
+      (r ≡ written-answer (measured s k) (length before))
+      × ((after ≡ written-output (measured s k) before) × (r .refusal ≡ 0 → Means (at-most k) s (take (r .length) after)))
 
   -- The third follows from the other two.
-  pub promised : Bytes s → (before after : List ℕ) (r : Unrolled) → r ≡ unroll-answer (measured s k) (length before)
-      → after ≡ unroll-output (measured s k) before → Promised before after r
+  pub promised : Bytes s → (before after : List ℕ) (r : Written) → r ≡ written-answer (measured s k) (length before)
+      → after ≡ written-output (measured s k) before → Promised before after r
   promised small before after r e f = (e, (f, by-outcome (measured s k) refl e f))
     where
       by-room : (t : Tally) (x : List ℕ) → measured s k ≡ accepted t x → (b : Bool) → ltb (length before) (length x) ≡ b
-          → r ≡ unroll-answer (accepted t x) (length before) → after ≡ unroll-output (accepted t x) before → r .refusal ≡ 0
+          → r ≡ written-answer (accepted t x) (length before) → after ≡ written-output (accepted t x) before → r .refusal ≡ 0
           → Means (at-most k) s (take (r .length) after)
-      by-room t x m true b e f z = absurd (omega (arith, ap (λ (u : Unrolled). u .refusal) (rw b at e)))
+      by-room t x m true b e f z = absurd (omega (arith, ap (λ (u : Written). u .refusal) (rw b at e)))
       by-room t x m false b e f z =
-          let long : r .length ≡ length x = ap (λ (u : Unrolled). u .length) (rw b at e) in
+          let long : r .length ≡ length x = ap (λ (u : Written). u .length) (rw b at e) in
           rw (long, rw b at f, take-at x (drop (length x) before) (length x) refl)
           (accepted-means (at-most k) free s small t x (outcome-read (limit-head k) no-costs s t x m))
 
-      by-outcome : (o : Outcome) → measured s k ≡ o → r ≡ unroll-answer o (length before) → after ≡ unroll-output o before
+      by-outcome : (o : Outcome) → measured s k ≡ o → r ≡ written-answer o (length before) → after ≡ written-output o before
           → r .refusal ≡ 0 → Means (at-most k) s (take (r .length) after)
-      by-outcome (refused n p) m e f z = absurd (outcome-some (limit-head k) no-costs s n p m (sym (ap (λ (u : Unrolled). u .refusal) e) ∙ z))
+      by-outcome (refused n p) m e f z = absurd (outcome-some (limit-head k) no-costs s n p m (sym (ap (λ (u : Written). u .refusal) e) ∙ z))
       by-outcome (accepted t x) m e f z = by-room t x m (ltb (length before) (length x)) refl e f z
 
 -- A fold that was measured and not refused: it is the byte form of a tree, and n is the length of its run.

@@ -5,7 +5,7 @@ use mathlib.Core.Logic.{_≢_}
 use Prim.Native.Nat.{ℕ, _+_, _*_, _-_, _≤_}
 use native.Mathlib.Omega.{arith}
 use lib.ListN.{length, length-append, getD}
-use Rattle.format.specs.Forest.{Forest, end, step, group, repeat, join, copies, unroll, bytes}
+use Rattle.format.specs.Forest.{Forest, end, step, group, repeat, join, copies, unroll, form-in, bytes}
 use Rattle.format.specs.Machine.{times}
 use Rattle.format.specs.inner.Standing.{One, one-step, one-group, one-repeat, FormAt}
 use Rattle.format.proofs.Bridge.{length-times, times-more}
@@ -16,11 +16,11 @@ use Rattle.unroller.specs.declared.write.Place.{Place}
 
 -- The bytes, and how many there are.
 pub unrolled-step : (l : ℕ) → bytes (unroll (step l end)) ≡ 0x10 ∷ l ∷ []
-unfolding unroll bytes
+unfolding unroll form-in
 unrolled-step l = refl
 
 pub unrolled-group : (l : ℕ) (b : Forest) → bytes (unroll (group l b end)) ≡ 0x11 ∷ l ∷ bytes (unroll b) ++ 0x12 ∷ []
-unfolding unroll bytes
+unfolding unroll form-in
 unrolled-group l b = refl
 
 pub unrolled-repeat : (h w : ℕ) (b : Forest) → 1 ≤ h
@@ -49,7 +49,7 @@ abbrev pub unrolled-size : Forest → ℕ
 unrolled-size f = length (bytes (unroll f))
 
 pub unrolled-adds : Adds unrolled-size
-unfolding unroll bytes
+unfolding unroll form-in
 unrolled-adds = record { none = refl; joined = size-join }
 
 -- Of a node, its command and its label.

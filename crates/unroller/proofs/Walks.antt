@@ -6,7 +6,7 @@ use Prim.Native.Nat.{ℕ, suc, _+_, _*_, _-_, _≤_, _<_}
 use native.Mathlib.Omega.{arith}
 use lib.ListN.{length, length-append, getD, set, length-set, take, drop}
 use lib.Seq.{sets, length-sets}
-use Rattle.format.specs.Forest.{Forest, end, step, group, repeat, join, unroll, bytes}
+use Rattle.format.specs.Forest.{Forest, end, step, group, repeat, join, unroll, form-in, bytes}
 use Rattle.format.specs.Machine.{times}
 use Rattle.format.proofs.Forests.{bytes-join, unroll-join}
 use Rattle.format.proofs.Lists.{sets-append}
@@ -29,7 +29,7 @@ opened-length s out w = simp length-set
 
 -- A step is its command and its label.
 put-step : (out : List ℕ) (w : Place) (c l : ℕ) → c ≡ 0x10 → PassedOver out (set (set out (w .to) c) (w .to + 1) l) w (step l end) (behind w)
-unfolding bytes
+unfolding form-in
 put-step out w c l e =
     record {
       passed = refl;
@@ -45,7 +45,7 @@ step-put {s} out {w} i e = rw (item-step (i .stands) e) (put-step out w _ (getD 
 put-group : (out : List ℕ) (w : Place) (c l : ℕ) (b : Forest) (r : Place) (after : List ℕ) → c ≡ 0x11
     → PassedOver (set (set out (w .to) c) (w .to + 1) l) after (behind w) b r
     → PassedOver out (set after (r .to) 0x12) w (group l b end) (record { at = r .at + 1; to = r .to + 1 })
-unfolding bytes
+unfolding form-in
 put-group out w c l b r after e y =
     record {
       passed = omega (arith, y .passed, length-append (bytes b) (0x12 ∷ []));
@@ -85,7 +85,7 @@ put-repeat : (out : List ℕ) (w : Place) (h k : ℕ) (b : Forest) (r : Place) (
     → to ≡ r .to + (h - 1) * (r .to - w .to)
     → last ≡ sets after (r .to) (times (h - 1) (drop (w .to) (take (r .to) after)))
     → PassedOver out last w (repeat h k b end) (record { at = r .at + 1; to = to })
-unfolding bytes
+unfolding form-in
 put-repeat out w h k b r after last to some fits y there copied =
     let x = bytes (unroll b) in
     record {
@@ -144,7 +144,7 @@ pub record Writing (s before now : List ℕ) (w p : Place) (f : Forest) (rest : 
   pub fits : w .to + length (bytes (unroll f)) ≤ length before
 
 none-put : (out : List ℕ) (w : Place) → PassedOver out out w end w
-unfolding unroll bytes
+unfolding unroll form-in
 none-put out w = record { passed = omega arith; reached = omega arith; output = refl }
 
 pub writing-none : {s : List ℕ} (out : List ℕ) {w : Place} {f : Forest} (z : SequenceFrom s (length out) w f)

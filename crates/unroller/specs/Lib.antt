@@ -1,3 +1,2 @@
--- What the contracts of the unroller cite.
-pub mod Unrolling
+-- What the unroller's functions promise one another: its contract cites the format's definitions alone.
 pub mod inner

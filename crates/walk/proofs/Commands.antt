@@ -1,6 +1,6 @@
 -- Each command of the table, passed or refused, as the contracts of the command functions have it.
 use mathlib.Core.Path.{_≡_, refl, _∙_}
-use mathlib.Core.Bool.{true, false}
+use mathlib.Core.Bool.{Bool, true, false, false≢true, or-true, _&&_, _||_}
 use mathlib.Core.List.{List, [], _∷_, _++_}
 use mathlib.Core.Logic.{_≢_}
 use Prim.Native.Nat.{ℕ, suc, _+_, _-_, _*_, _<_, _≤_}
@@ -8,16 +8,17 @@ use native.Mathlib.Nat.{mul-le-mul, mul-le-mul-left, mul-le-mul-right, mul-left-
 use native.Mathlib.Omega.{arith}
 use lib.Dec.{eqb}
 use lib.ListN.{length, getD, drop, length-drop}
-use lib.Seq.{getD-drop}
+use lib.Seq.{getD-drop, drop-drop}
 use borrow.Author.Tests.{lt-ltb, le-ltb, eq-eqb, ne-eqb, le-leb, lt-leb}
-use Rattle.format.specs.Machine.{Rules, Open, a-group, a-repeat, refusal, place-of, put-step, enter-group, leave-group, enter-repeat, leave-repeat, with-step, group-entered, repeat-entered, after-group, after-repeat, label-operand, count-operand, width-operand, times}
+use Rattle.format.specs.Machine.{Rules, Open, a-group, a-repeat, first-of, refusal, place-of, operands, is-node, is-close, is-known, put-step, enter-group, leave-group, enter-repeat, leave-repeat, with-step, group-entered, repeat-entered, after-group, after-repeat, label-operand, times}
+use Rattle.format.specs.Limits.{in-one-byte}
 use Rattle.format.specs.declared.Limits.{Limits}
 use Rattle.format.specs.declared.Tally.{Tally}
-use Rattle.format.proofs.Machine.{refusal-step, refusal-group, refusal-group-end, refusal-repeat, refusal-repeat-end, repeat-passes, group-end-passes, repeat-end-passes, scan-step, scan-group, scan-group-end, scan-repeat, scan-repeat-end}
-use Rattle.walk.specs.Walk.{rules-of, At, Halted, Room, Grown, OpenAt, ItemRead, OpenRead, CloseRead, in-group-of, in-repeat-of, word-at, repeat-at, barred}
+use Rattle.format.proofs.Machine.{Opens, opens, opens-advance, repeat-checks, refusal-step, refusal-group, refusal-group-end, refusal-repeat, refusal-repeat-end, repeat-passes, group-end-passes, repeat-end-passes, scan-step, scan-group, scan-group-end, scan-past, scan-repeat-end}
+use Rattle.walk.specs.Walk.{rules-of, At, OpensAt, Halted, Room, Grown, OpenAt, ItemRead, OpenRead, CloseRead, in-group-of, in-repeat-of, count-at, width-at, repeat-at, barred}
 use Rattle.walk.specs.declared.command.Terms.{Terms}
 use Rattle.walk.specs.declared.command.Depth.{Depth}
-use Rattle.walk.proofs.Walking.{at, cut-one, cut-two, cut-five, stop, stop-end, item-refused, open-refused, close-refused}
+use Rattle.walk.proofs.Walking.{at, cut-one, cut-two, stop, stop-end, item-refused, open-refused, close-refused}
 
 -- The label behind a `10` or `11`.
 label-at : (s : List ℕ) (p : ℕ) → label-operand (drop (p + 1) s) ≡ getD s (p + 1) 0
@@ -105,74 +106,87 @@ module _ (a : Terms) (steps groups marks s : List ℕ) (d : Depth) (p : ℕ) (t 
         steps-inside = λ z. refl;
       }
 
--- The count and the width behind a `20`.
-count-at : (s : List ℕ) (p : ℕ) → count-operand (drop (p + 1) s) ≡ word-at s (p + 1)
-count-at s p =
-    let e : p + 1 + 0 ≡ p + 1 = omega arith in
-    simp (getD-drop, e)
+-- The open of a repeat, by `20` or by `22`.
+module _ (a : Terms) (steps groups marks s : List ℕ) (d : Depth) (p : ℕ) (t : Tally) (h : OpensAt s p (a .short)) (room : Room (a .limits) d t) where
+  abbrev Q : Rules
+  Q = rules-of a steps groups marks
 
-width-at : (s : List ℕ) (p : ℕ) → width-operand (drop (p + 1) s) ≡ word-at s (p + 3)
-width-at s p =
-    let e : p + 1 + 2 ≡ p + 3 = omega arith in
-    let f : p + 1 + 3 ≡ p + 3 + 1 = omega arith in
-    simp (getD-drop, e, f)
+  abbrev c : ℕ
+  c = getD s p 0
 
-module _ (a : Terms) (steps groups marks s : List ℕ) (d : Depth) (p : ℕ) (t : Tally) (h : At s p 0x20) (room : Room (a .limits) d t) where
-  refused-repeat : (n : ℕ) → n ≢ 0 → ((os : List Open) → OpenAt d os → (x : List ℕ) → refusal (rules-of a steps groups marks) (at os t x) 0x20 (drop (p + 1) s) ≡ n) → (o : Open) (u : Tally) → OpenRead (rules-of a steps groups marks) s d (in-repeat-of d) p t o 0 0 4294967295 (record { refusal = n; at = place-of n p (length s); tally = u })
+  abbrev rest : List ℕ
+  rest = drop (p + 1) s
+
+  command : Opens c
+  command = opens c (either (a .short) (eqb c 0x20) (eqb c 0x22) (h .byte))
+    where
+      either : (short x y : Bool) → (x || (short && y)) ≡ true → (x || y) ≡ true
+      either short true y e = refl
+      either true false y e = e
+      either false false y e = absurd (false≢true e)
+
+  known : is-known (a .short) c ≡ true
+  known = rw (h .byte) (or-true (is-node c || is-close c))
+
+  -- What the table says of it, in its own order.
+  refused-repeat : (n : ℕ) → n ≢ 0 → ((os : List Open) → OpenAt d os → (x : List ℕ) → first-of (repeat-checks Q (at os t x) rest c) ≡ n) → (o : Open) (u : Tally) → OpenRead Q s d (in-repeat-of d) p t o 0 0 4294967295 (record { refusal = n; at = place-of n p (length s); tally = u })
   refused-repeat n z e o u =
-      open-refused (rules-of a steps groups marks) s d p t _ z (in-repeat-of d) o 0 0 4294967295
-      (λ os m x. stop (rules-of a steps groups marks) s p os t x n (h .below) z (rw (h .byte) (e os m x)))
+      open-refused Q s d p t _ z (in-repeat-of d) o 0 0 4294967295
+      (λ os m x. stop Q s p os t x n (h .below) z (refusal-repeat Q (at os t x) rest command (room .nodes) ∙ e os m x))
 
-  -- `20`
-  pub repeat-in-run : a .folds ≡ false → (o : Open) (u : Tally) → OpenRead (rules-of a steps groups marks) s d (in-repeat-of d) p t o 0 0 4294967295 (record { refusal = 2; at = p; tally = u })
-  repeat-in-run f =
-      refused-repeat 2 (omega arith) (λ os m x. rw (refusal-repeat (rules-of a steps groups marks) (at os t x) (drop (p + 1) s) (room .nodes), f))
+  pub repeat-in-run : a .folds ≡ false → (o : Open) (u : Tally) → OpenRead Q s d (in-repeat-of d) p t o 0 0 4294967295 (record { refusal = 2; at = p; tally = u })
+  repeat-in-run f = refused-repeat 2 (omega arith) (λ os m x. rw (known, f))
 
   module _ (folds : a .folds ≡ true) where
-    pub repeat-short : length s < p + 5 → (o : Open) (u : Tally) → OpenRead (rules-of a steps groups marks) s d (in-repeat-of d) p t o 0 0 4294967295 (record { refusal = 3; at = length s; tally = u })
-    repeat-short e =
-        refused-repeat 3 (omega arith) (λ os m x. rw (refusal-repeat (rules-of a steps groups marks) (at os t x) (drop (p + 1) s) (room .nodes), folds, lt-ltb _ _ (rest-short s p 4 (h .below) e)))
+    pub repeat-short : length s ≤ p + operands c → (o : Open) (u : Tally) → OpenRead Q s d (in-repeat-of d) p t o 0 0 4294967295 (record { refusal = 3; at = length s; tally = u })
+    repeat-short e = refused-repeat 3 (omega arith) (λ os m x. rw (known, folds, lt-ltb _ _ (rest-short s p (operands c) (h .below) (omega arith))))
 
-    module _ (long : p + 5 ≤ length s) where
-      pub repeat-few : word-at s (p + 1) < 2 → (o : Open) (u : Tally) → OpenRead (rules-of a steps groups marks) s d (in-repeat-of d) p t o 0 0 4294967295 (record { refusal = 6; at = p; tally = u })
-      repeat-few e =
-          refused-repeat 6 (omega arith) (λ os m x. rw (refusal-repeat (rules-of a steps groups marks) (at os t x) (drop (p + 1) s) (room .nodes), folds, le-ltb _ _ (rest-long s p 4 long), count-at s p, lt-ltb _ _ e))
+    module _ (long : p + operands c < length s) where
+      there : operands c ≤ length rest
+      there = rest-long s p (operands c) (omega arith)
 
-      module _ (twice : 2 ≤ word-at s (p + 1)) where
-        pub repeat-wide : a .widest < word-at s (p + 3) → (o : Open) (u : Tally) → OpenRead (rules-of a steps groups marks) s d (in-repeat-of d) p t o 0 0 4294967295 (record { refusal = 7; at = p; tally = u })
-        repeat-wide e =
-            refused-repeat 7 (omega arith) (λ os m x. rw (refusal-repeat (rules-of a steps groups marks) (at os t x) (drop (p + 1) s) (room .nodes), folds, le-ltb _ _ (rest-long s p 4 long), count-at s p, width-at s p, le-ltb _ _ twice, lt-ltb _ _ e))
+      pub repeat-few : count-at s p < 2 → (o : Open) (u : Tally) → OpenRead Q s d (in-repeat-of d) p t o 0 0 4294967295 (record { refusal = 6; at = p; tally = u })
+      repeat-few e = refused-repeat 6 (omega arith) (λ os m x. rw (known, folds, le-ltb _ _ there, lt-ltb _ _ e))
 
-        module _ (narrow : word-at s (p + 3) ≤ a .widest) where
-          pub repeat-deep : a .limits .repeats ≤ d .repeats → (o : Open) (u : Tally) → OpenRead (rules-of a steps groups marks) s d (in-repeat-of d) p t o 0 0 4294967295 (record { refusal = 8; at = p; tally = u })
-          repeat-deep e =
-              refused-repeat 8 (omega arith) (λ os m x. rw (refusal-repeat (rules-of a steps groups marks) (at os t x) (drop (p + 1) s) (room .nodes), folds, le-ltb _ _ (rest-long s p 4 long), count-at s p, width-at s p, le-ltb _ _ twice, le-ltb _ _ narrow, m .repeats, le-leb (a .limits .repeats) (d .repeats) e))
+      module _ (twice : 2 ≤ count-at s p) where
+        pub repeat-wide : a .widest < width-at s p → (o : Open) (u : Tally) → OpenRead Q s d (in-repeat-of d) p t o 0 0 4294967295 (record { refusal = 7; at = p; tally = u })
+        repeat-wide e = refused-repeat 7 (omega arith) (λ os m x. rw (known, folds, le-ltb _ _ there, le-ltb _ _ twice, lt-ltb _ _ e))
 
-          pub repeat-on : d .repeats < a .limits .repeats → (k : ℕ) → k ≡ a .first + a .each * (word-at s (p + 1) - 2) → k ≤ 4294967295 → OpenRead (rules-of a steps groups marks) s d (in-repeat-of d) p t (repeat-at s p t) 0 0 4294967295 (record { refusal = 0; at = p + 5; tally = repeat-entered t k })
-          unfolding enter-repeat
-          repeat-on e k q j =
-              record {
-                moves = record {
-                  goes = λ z os o x.
-                      let m : p + 1 + 1 ≡ p + 2 = omega arith in
-                      let n : p + 3 + 1 ≡ p + 4 = omega arith in (
-                        x,
-                        rw (cut-five s p long, h .byte, q, m, n)
-                            (scan-repeat (rules-of a steps groups marks) p (at os t x) (drop (p + 5) s) (getD s (p + 1) 0) (getD s (p + 2) 0) (getD s (p + 3) 0) (getD s (p + 4) 0)
-                            (repeat-passes (rules-of a steps groups marks) (at os t x) _ (room .nodes)
-                            (record { folds = folds; operand = omega arith; twice = rw m at twice; narrow = rw n at narrow; room = omega (arith, o .repeats) }))),
-                      );
-                  stops = λ z. absurd (z refl);
-                };
-                ahead = λ z. omega arith;
-                within = λ z. long;
-                siblings = λ z. refl;
-                nodes-inside = λ z. omega arith;
-                room = λ z. omega arith;
-                size-inside = λ z. omega arith;
-                cost-inside = λ z. omega arith;
-                steps-inside = λ z. refl;
-              }
+        module _ (narrow : width-at s p ≤ a .widest) where
+          pub repeat-long : (eqb c 0x20 && (a .short && in-one-byte (count-at s p) (width-at s p))) ≡ true → (o : Open) (u : Tally) → OpenRead Q s d (in-repeat-of d) p t o 0 0 4294967295 (record { refusal = 20; at = p; tally = u })
+          repeat-long e = refused-repeat 20 (omega arith) (λ os m x. rw (known, folds, le-ltb _ _ there, le-ltb _ _ twice, le-ltb _ _ narrow, e))
+
+          module _ (fitting : (eqb c 0x20 && (a .short && in-one-byte (count-at s p) (width-at s p))) ≡ false) where
+            pub repeat-deep : a .limits .repeats ≤ d .repeats → (o : Open) (u : Tally) → OpenRead Q s d (in-repeat-of d) p t o 0 0 4294967295 (record { refusal = 8; at = p; tally = u })
+            repeat-deep e =
+                refused-repeat 8 (omega arith)
+                (λ os m x. rw (known, folds, le-ltb _ _ there, le-ltb _ _ twice, le-ltb _ _ narrow, fitting, m .repeats, le-leb (a .limits .repeats) (d .repeats) e))
+
+            pub repeat-on : d .repeats < a .limits .repeats → (k : ℕ) → k ≡ a .first + a .each * (count-at s p - 2) → k ≤ 4294967295 → OpenRead Q s d (in-repeat-of d) p t (repeat-at s p t) 0 0 4294967295 (record { refusal = 0; at = p + 1 + operands c; tally = repeat-entered t k })
+            unfolding enter-repeat
+            repeat-on e k q j =
+                record {
+                  moves = record {
+                    goes = λ z os o x.
+                        let pass : refusal Q (at os t x) c rest ≡ 0 = repeat-passes Q (at os t x) rest (room .nodes) command
+                        (record { known = known; folds = folds; operand = there; twice = twice; narrow = narrow; fitting = fitting; room = omega (arith, o .repeats) }) in
+                        let next : suc p + operands c ≡ p + 1 + operands c = omega arith in (
+                          x,
+                          rw (cut-one s p (h .below), q)
+                              (scan-past Q p (at os t x) c rest pass
+                              ∙ rw (opens-advance command (Q .prices) rest (at os t x), drop-drop (operands c) (p + 1) s, next)),
+                        );
+                    stops = λ z. absurd (z refl);
+                  };
+                  ahead = λ z. omega arith;
+                  within = λ z. omega arith;
+                  siblings = λ z. refl;
+                  nodes-inside = λ z. omega arith;
+                  room = λ z. omega arith;
+                  size-inside = λ z. omega arith;
+                  cost-inside = λ z. omega arith;
+                  steps-inside = λ z. refl;
+                }
 
 -- `12` and `21`, where a sequence has come to its end inside an open group or repeat.
 module _ (a : Terms) (steps groups marks s : List ℕ) (d : Depth) (p : ℕ) (t i : Tally) (h : Halted s p) (within : i .nodes ≤ a .limits .nodes) where

@@ -1,5 +1,6 @@
 -- Laws of reading on from an offset: one passed or refused command as the walk's records have it, and walks one after another.
 use mathlib.Core.Path.{_≡_, refl, ap, _∙_}
+use mathlib.Core.Bool.{false}
 use mathlib.Core.List.{List, [], _∷_}
 use mathlib.Core.Logic.{_≢_}
 use Prim.Native.Nat.{ℕ, suc, _+_, _<_, _≤_}
@@ -8,7 +9,7 @@ use native.Mathlib.Omega.{arith}
 use lib.ListN.{length, getD, drop, length-drop}
 use lib.Seq.{drop-cons, drop-length}
 use borrow.Author.Tests.{ne-eqb}
-use Rattle.format.specs.Machine.{Rules, Open, a-group, a-repeat, State, refused, accepted, refusal, place-of}
+use Rattle.format.specs.Machine.{Rules, Open, a-group, a-repeat, State, refused, accepted, refusal, place-of, opens-in}
 use Rattle.format.specs.declared.Limits.{Limits}
 use Rattle.format.specs.declared.Tally.{Tally}
 use Rattle.format.proofs.Machine.{scan-refuse, scan-end, refusal-unknown}
@@ -16,7 +17,7 @@ use Rattle.walk.specs.Walk.{from, GoesOn, Stops, OpenAt, Halted, Room, G
 use Rattle.walk.specs.declared.command.Depth.{Depth}
 use Rattle.walk.specs.declared.command.Walk.{Walk}
 
--- The bytes from an offset on, taken apart one, two and five at a time.
+-- The bytes from an offset on, taken apart one and two at a time.
 pub cut-one : (s : List ℕ) (p : ℕ) → p < length s → drop p s ≡ getD s p 0 ∷ drop (p + 1) s
 cut-one s p h = rw add-one (drop-cons s p 0 h)
 
@@ -24,15 +25,6 @@ pub cut-two : (s : List ℕ) (p : ℕ) → p + 2 ≤ length s → drop p s ≡ g
 cut-two s p h =
     let e : p + 1 + 1 ≡ p + 2 = omega arith in
     cut-one s p (omega arith) ∙ ap (λ (x : List ℕ). getD s p 0 ∷ x) (rw e at (cut-one s (p + 1) (omega arith)))
-
-pub cut-five : (s : List ℕ) (p : ℕ) → p + 5 ≤ length s → drop p s ≡ getD s p 0 ∷ getD s (p + 1) 0 ∷ getD s (p + 2) 0 ∷ getD s (p + 3) 0 ∷ getD s (p + 4) 0 ∷ drop (p + 5) s
-cut-five s p h =
-    let a : p + 2 + 1 ≡ p + 3 = omega arith in
-    let b : p + 2 + 2 ≡ p + 4 = omega arith in
-    let d : p + 4 + 1 ≡ p + 5 = omega arith in
-    let two : drop (p + 2) s ≡ getD s (p + 2) 0 ∷ getD s (p + 3) 0 ∷ drop (p + 4) s = rw (a, b) at (cut-two s (p + 2) (omega arith)) in
-    let one : drop (p + 4) s ≡ getD s (p + 4) 0 ∷ drop (p + 5) s = rw d at (cut-one s (p + 4) (omega arith)) in
-    cc (cut-two s p (omega arith), two, one)
 
 -- The state at an offset.
 abbrev pub at : List Open → Tally → List ℕ → State
@@ -183,10 +175,10 @@ pub closed-as : {R : Rules} {s : List ℕ} {d : Depth} {p : ℕ} {t i : Tally} {
 closed-as e f h = rw (e, f) at h
 
 -- A byte that is no command.
-pub item-unknown : (R : Rules) (s : List ℕ) (d : Depth) (p : ℕ) (t u : Tally) → NoClose s p → (getD s p 0 ≡ 0x10 → ⊥) → (getD s p 0 ≡ 0x11 → ⊥) → (getD s p 0 ≡ 0x20 → ⊥) → ItemRead R s d p t (record { refusal = 1; at = p; tally = u })
+pub item-unknown : (R : Rules) (s : List ℕ) (d : Depth) (p : ℕ) (t u : Tally) → NoClose s p → (getD s p 0 ≡ 0x10 → ⊥) → (getD s p 0 ≡ 0x11 → ⊥) → opens-in (R .short) (getD s p 0) ≡ false → ItemRead R s d p t (record { refusal = 1; at = p; tally = u })
 item-unknown R s d p t u n a b c =
     item-refused R s d p t _ (λ z. omega arith)
     (λ os m x.
     stop R s p os t x 1 (n .below) (omega arith)
     (refusal-unknown R (at os t x) (drop (p + 1) s) (getD s p 0)
-    (rw (ne-eqb _ _ a, ne-eqb _ _ b, ne-eqb _ _ (n .no-group-end), ne-eqb _ _ (n .no-repeat-end), ne-eqb _ _ c))))
+    (rw (ne-eqb _ _ a, ne-eqb _ _ b, ne-eqb _ _ (n .no-group-end), ne-eqb _ _ (n .no-repeat-end), c))))

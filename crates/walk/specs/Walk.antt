@@ -1,13 +1,13 @@
 -- What the functions of the walk promise: reading on from here is reading on from there, or refusing.
 use mathlib.Core.Path.{_≡_}
-use mathlib.Core.Bool.{Bool, cond, _&&_}
+use mathlib.Core.Bool.{Bool, true, cond, _&&_}
 use mathlib.Core.List.{List, [], _∷_}
 use Prim.Native.Nat.{ℕ, _+_, _*_, _<_, _≤_}
 use lib.Dec.{eqb, ltb}
 use lib.ListN.{length, getD, drop}
 use Rattle.format.specs.Limits.{tariff, priced, marked-in, allowed}
 use Rattle.format.specs.declared.Limits.{Limits}
-use Rattle.format.specs.Machine.{Rules, Open, a-repeat, Outcome, refused, accepted, scan, read, open-groups, open-repeats}
+use Rattle.format.specs.Machine.{Rules, Open, a-repeat, Outcome, refused, accepted, scan, read, open-groups, open-repeats, opens-in, count-operand, width-operand}
 use Rattle.format.specs.declared.Tally.{Tally}
 use Rattle.walk.specs.declared.command.Terms.{Terms}
 use Rattle.walk.specs.declared.command.Depth.{Depth}
@@ -19,6 +19,7 @@ rules-of a steps groups marks =
     record {
       limits = a .limits;
       folds = a .folds;
+      short = a .short;
       allowed = allowed (a .widest) marks;
       prices = priced (tariff steps groups marks (a .first) (a .each));
     }
@@ -53,6 +54,11 @@ pub record Moves (R : Rules) (s : List ℕ) (d : Depth) (p : ℕ) (t : Tally) (p
 pub record At (s : List ℕ) (p c : ℕ) : Type 0 where
   pub below : p < length s
   pub byte : getD s p 0 ≡ c
+
+-- A command stands at p that opens a repeat in a family.
+pub record OpensAt (s : List ℕ) (p : ℕ) (short : Bool) : Type 0 where
+  pub below : p < length s
+  pub byte : opens-in short (getD s p 0) ≡ true
 
 -- A command stands at p that is no close.
 pub record NoClose (s : List ℕ) (p : ℕ) : Type 0 where
@@ -111,9 +117,16 @@ pub record Grown (L : Limits) (t r : Tally) : Type 0 where
 abbrev pub word-at : List ℕ → ℕ → ℕ
 word-at s i = getD s i 0 * 256 + getD s (i + 1) 0
 
+-- The count and the width that the command at p says.
+abbrev pub count-at : List ℕ → ℕ → ℕ
+count-at s p = count-operand (getD s p 0) (drop (p + 1) s)
+
+abbrev pub width-at : List ℕ → ℕ → ℕ
+width-at s p = width-operand (getD s p 0) (drop (p + 1) s)
+
 -- What is open inside the repeat whose command stands at p.
 abbrev pub repeat-at : List ℕ → ℕ → Tally → Open
-repeat-at s p t = a-repeat (word-at s (p + 1)) (word-at s (p + 3)) t
+repeat-at s p t = a-repeat (count-at s p) (width-at s p) t
 
 -- An item was read from p on.
 pub record ItemRead (R : Rules) (s : List ℕ) (d : Depth) (p : ℕ) (t : Tally) (w : Walk) : Type 0 where

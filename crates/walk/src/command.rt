@@ -6,10 +6,14 @@ use crate::counts::after_repeat;
 use crate::counts::after_step;
 use crate::counts::inside_group;
 use crate::counts::inside_repeat;
+use crate::operands::Operands;
+use crate::operands::has_shorter;
+use crate::operands::operands_at;
 use format::Format;
 use format::Limits;
 use format::Tally;
 use format::is_marked;
+use format::operand_bytes;
 use format::wide;
 use format::wide_cost;
 ghost use mathlib.Core.Path.{_≡_};
@@ -17,13 +21,15 @@ ghost use mathlib.Core.Bool.{true};
 ghost use mathlib.Core.List.{List};
 ghost use Prim.Native.Nat.{ℕ, _+_, _*_, _<_, _≤_};
 ghost use lib.ListN.{length, getD};
-ghost use Rattle.format.specs.Machine.{a-group, a-repeat};
-ghost use Rattle.walk.specs.Walk.{At, Room, RoomSomewhere, Halted, Sane, ItemRead, OpenRead, CloseRead, in-group-of, in-repeat-of, rules-of, word-at, repeat-at, barred};
+ghost use Rattle.format.specs.Machine.{a-group, a-repeat, operands};
+ghost use Rattle.walk.specs.Walk.{At, OpensAt, Room, RoomSomewhere, Halted, Sane, ItemRead, OpenRead, CloseRead, in-group-of, in-repeat-of, rules-of, count-at, repeat-at, barred};
 
-// What a reader was asked: the limits, whether repeats may stand in the input, the width limit, and the repeat prices.
+// What a reader was asked: the limits, whether repeats may stand in the input, whether it is of the short family, the width limit,
+// and the repeat prices.
 pub struct Terms {
     pub limits: Limits,
     pub folds: bool,
+    pub short: bool,
     pub widest: usize,
     pub first: u64,
     pub each: u64,
@@ -33,12 +39,6 @@ pub struct Terms {
 pub struct Depth {
     pub groups: usize,
     pub repeats: usize,
-}
-
-// What a repeat's command says of it: the copies of its body, and the body's width.
-pub struct Operands {
-    pub count: usize,
-    pub width: usize,
 }
 
 // Where a walk has come to: at the offset `at` with these counts, or refused with this number at the place `at`.
@@ -55,26 +55,6 @@ pub fn price(table: &[u16], label: u8) -> u64
     let at = wide(label);
     if at < table.len() {
         return wide_cost(table[at]);
-    }
-    0
-}
-
-// The byte at an offset as a number; 0 past the end.
-fn byte_at(s: &[u8], at: usize) -> usize
-    ensures { λ r. ⌜ (r ≡ getD (now (s .entry)) at 0) × (r < 256) ⌝ }
-{
-    if at < s.len() {
-        return wide(s[at]);
-    }
-    0
-}
-
-// The operand of two bytes at an offset, the high byte first; bytes past the end count as 0.
-pub fn operand(s: &[u8], at: usize) -> usize
-    ensures { λ r. ⌜ (r ≡ word-at (now (s .entry)) at) × (r < 65536) ⌝ }
-{
-    if at < s.len() {
-        return wide(s[at]) * 256 + byte_at(s, at + 1);
     }
     0
 }
@@ -191,27 +171,34 @@ pub fn leave_group(s: &[u8], a: Terms, at: usize, t: Tally, i: Tally) -> Walk
     refused(2, at, t)
 }
 
-// The open of a repeat: refusals 2, 3, 6, 7 and 8.
+// The open of a repeat: refusals 2, 3, 6, 7, 20 and 8.
 pub fn enter_repeat(s: &[u8], a: Terms, at: usize, d: Depth, t: Tally) -> Walk
-    requires { ⌜ At (now s) at 0x20 ⌝ }
+    requires { ⌜ OpensAt (now s) at (a .short) ⌝ }
     requires { ⌜ Room (a .limits) d t ⌝ }
     requires { ⌜ Sane a ⌝ }
     ensures { λ r. ⌜ ((steps groups marks : List ℕ) → OpenRead (rules-of a steps groups marks) (now (s .entry)) d (in-repeat-of d) at t (repeat-at (now (s .entry)) at t) 0 0 4294967295 r) ⌝ }
-    ensures { λ r. ⌜ (r .refusal ≡ 0 → (a .folds ≡ true) × (2 ≤ word-at (now (s .entry)) (at + 1)) × (at + 5 ≤ length (now (s .entry)))) ⌝ }
+    ensures { λ r. ⌜ (r .refusal ≡ 0 → (a .folds ≡ true) × (2 ≤ count-at (now (s .entry)) at) × (at + operands (getD (now (s .entry)) at 0) < length (now (s .entry)))) ⌝ }
 {
     if !a.folds {
         return refused(2, at, t);
     }
-    if s.len() - at < 5 {
+    let c = s[at];
+    let size = operand_bytes(c);
+    if s.len() - at <= size {
         return refused(3, s.len(), t);
     }
-    let count = operand(s, at + 1);
+    let o = operands_at(s, at);
+    let long = has_shorter(a.short, c, o);
+    let count = o.count;
     if count < 2 {
         return refused(6, at, t);
     }
-    let width = operand(s, at + 3);
+    let width = o.width;
     if a.widest < width {
         return refused(7, at, t);
+    }
+    if long {
+        return refused(20, at, t);
     }
     let bounds = a.limits;
     if bounds.repeats <= d.repeats {
@@ -220,7 +207,7 @@ pub fn enter_repeat(s: &[u8], a: Terms, at: usize, d: Depth, t: Tally) -> Walk
     let p = a.first + a.each * ((count - 2) as u64);
     Walk {
         refusal: 0,
-        at: at + 5,
+        at: at + 1 + size,
         tally: inside_repeat(t, p),
     }
 }

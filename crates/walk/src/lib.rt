@@ -2,16 +2,18 @@
 // stand over it and turn what it came to into their answers.
 mod command;
 mod counts;
+mod operands;
 mod walk;
 
 use command::Depth;
 pub use command::Terms;
 pub use command::Walk;
-pub use command::operand;
 pub use command::price;
 use command::refused;
 use format::Format;
 use format::Tally;
+pub use operands::operand;
+pub use operands::operands_at;
 use walk::sequence;
 ghost use Rattle.walk.specs.Walk.{Sane, Whole, rules-of};
 

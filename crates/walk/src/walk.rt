@@ -2,21 +2,21 @@
 // each other, remaining bytes falling; every test stands in command.rt. `steps` and `groups` are the cost
 // tables, `marks` the marks of the labels.
 use crate::command::Depth;
-use crate::command::Operands;
 use crate::command::Terms;
 use crate::command::Walk;
 use crate::command::enter_group;
 use crate::command::enter_repeat;
 use crate::command::leave_group;
 use crate::command::leave_repeat;
-use crate::command::operand;
 use crate::command::refused;
 use crate::command::step;
+use crate::operands::operands_at;
 use format::Format;
 use format::Tally;
+use format::opens_repeat;
 ghost use Prim.Native.Nat.{_≤_, _<_};
 ghost use lib.ListN.{length};
-ghost use Rattle.walk.specs.Walk.{At, NoClose, Room, Sane, ItemRead, SequenceRead, rules-of};
+ghost use Rattle.walk.specs.Walk.{At, OpensAt, NoClose, Room, Sane, ItemRead, SequenceRead, rules-of};
 
 // The items from `at` on, up to the end of the input or to a close.
 pub fn sequence(
@@ -89,7 +89,7 @@ fn item(
     if c == Format::GROUP {
         return group(s, steps, groups, marks, a, at, d, t);
     }
-    if c == Format::REPEAT {
+    if opens_repeat(a.short, c) {
         return repeat(s, steps, groups, marks, a, at, d, t);
     }
     refused(1, at, t)
@@ -141,7 +141,7 @@ fn repeat(
     d: Depth,
     t: Tally,
 ) -> Walk
-    requires { ⌜ At (now s) at 0x20 ⌝ }
+    requires { ⌜ OpensAt (now s) at (a .short) ⌝ }
     requires { ⌜ Room (a .limits) d t ⌝ }
     requires { ⌜ Sane a ⌝ }
     ensures { λ r. ⌜ ItemRead (rules-of a (now (steps .entry)) (now (groups .entry)) (now (marks .entry))) (now (s .entry)) d at t r ⌝ }
@@ -150,10 +150,7 @@ fn repeat(
     if e.refusal != 0 {
         return e;
     }
-    let said = Operands {
-        count: operand(s, at + 1),
-        width: operand(s, at + 3),
-    };
+    let said = operands_at(s, at);
     let from = e.at;
     let inner = e.tally;
     let deeper = Depth {

@@ -9,7 +9,7 @@ use native.Mathlib.Omega.{arith}
 use lib.ListN.{length, getD, drop}
 use lib.Seq.{drop-at, drop-drop}
 use Rattle.format.specs.Limits.{Prices}
-use Rattle.format.specs.Forest.{Forest, end, group, join, siblings, nodes, bytes, Allowed}
+use Rattle.format.specs.Forest.{Forest, end, group, join, siblings, nodes, form-in, bytes, Allowed}
 use Rattle.optimum.specs.Cheapest.{front, back, cheapest}
 use Rattle.optimum.proofs.Cut.{join-cut, front-front, front-whole, back-front, back-back, back-piece, siblings-back, siblings-piece, nodes-cut, run-front, run-back}
 use Rattle.table.specs.Table.{Entry, cell, number, stretch}
@@ -101,14 +101,14 @@ stands-part run rest place i d t e =
     sym (drop-drop (length x) place run) ∙ ap (drop (length x)) (e ∙ cut) ∙ drop-at x y (length x) refl
 
 -- The sequence u, a stretch of that of z, by its numbers.
-pub record Part {run places nexts choices : List ℕ} {first behind : ℕ} (z : WriteReady run places nexts choices first behind) (u : Forest) (from to : ℕ) : Type 0 where
-  pub ready : WriteReady run places nexts choices from to
-  pub same : fold-bytes ready ≡ bytes (cheapest (z .allowed) (z .prices-are) u)
+pub record Part {short : Bool} {run places nexts choices : List ℕ} {first behind : ℕ} (z : WriteReady short run places nexts choices first behind) (u : Forest) (from to : ℕ) : Type 0 where
+  pub ready : WriteReady short run places nexts choices from to
+  pub same : fold-bytes ready ≡ form-in short (cheapest (z .allowed) (z .prices-are) u)
 
-module _ {run places nexts choices : List ℕ} {first behind : ℕ} (z : WriteReady run places nexts choices first behind) where
+module _ {short : Bool} {run places nexts choices : List ℕ} {first behind : ℕ} (z : WriteReady short run places nexts choices first behind) where
   module _ (i d from to : ℕ) (fits : i + d ≤ siblings (z .tree)) (u : Used (z .allowed .marked) (z .tree) i d)
       (e : from ≡ number behind (z .tree) i) (e′ : to ≡ number behind (z .tree) (i + d)) where
-    part-ready : WriteReady run places nexts choices from to
+    part-ready : WriteReady short run places nexts choices from to
     part-ready =
         let t = z .tree in
         let r = z .is-run (z .allowed) in

@@ -1,5 +1,6 @@
 -- The cheapest fold of a sequence as bytes: by the table's choice, what stands first and what follows it; of a node alone, by its
 -- bytes in the run.
+use mathlib.Core.Bool.{Bool}
 use mathlib.Core.Path.{_≡_, refl, sym, ap, _∙_}
 use mathlib.Core.List.{List, [], _∷_, _++_, append-assoc}
 use Prim.Native.Nat.{ℕ, zero, suc, _+_, _-_, _*_, _<_, _≤_}
@@ -7,8 +8,8 @@ use native.Mathlib.Omega.{arith}
 use lib.ListN.{length, length-drop, getD, drop}
 use lib.Seq.{drop-drop, getD-drop}
 use Rattle.format.specs.Limits.{Prices}
-use Rattle.format.specs.Forest.{Forest, end, step, group, repeat, join, siblings, nodes, bytes, two-bytes, Allowed, Plain}
-use Rattle.format.proofs.Forests.{bytes-join}
+use Rattle.format.specs.Forest.{Forest, end, step, group, repeat, join, siblings, nodes, opening, form-in, bytes, Allowed, Plain}
+use Rattle.format.proofs.Forests.{form-join}
 use Rattle.optimum.specs.Cheapest.{Run, front, back, Power, Candidate, plain, power, build, usual, Least, cheapest, best-cost}
 use Rattle.optimum.proofs.Cut.{front-whole, siblings-le-nodes, run-front, run-body}
 use Rattle.optimum.proofs.Powers.{reach, spans-usual}
@@ -21,7 +22,8 @@ use Rattle.table.proofs.Digits.{pair-is}
 use Rattle.table.proofs.Cells.{cell-in, cells-mono}
 use Rattle.table.proofs.Tables.{number-last, number-fall}
 use Rattle.table.proofs.Uses.{used-body, used-group}
-use Rattle.writer.specs.Writing.{WriteReady, NodeReady, fold-bytes, node-bytes, most-bytes, Follows, follow}
+use Rattle.writer.specs.Writing.{WriteReady, NodeReady, fold-bytes, node-bytes, Follows, follow}
+use Rattle.put.specs.Bounds.{most-bytes}
 use Rattle.writer.proofs.Laws.{listed-follow, listed-follows}
 use Rattle.writer.proofs.Parts.{body-part, rest-part}
 
@@ -90,13 +92,13 @@ no-nodes (step l f) p e = absurd (omega arith)
 no-nodes (group l g f) p e = absurd (omega arith)
 no-nodes (repeat k w g f) p e = absurd p
 
-module _ {run places nexts choices : List ℕ} {first behind : ℕ} (z : WriteReady run places nexts choices first behind) where
+module _ {short : Bool} {run places nexts choices : List ℕ} {first behind : ℕ} (z : WriteReady short run places nexts choices first behind) where
   pub fold-small : length (fold-bytes z) ≤ most-bytes
   fold-small =
-      omega (arith, cheapest-short (z .allowed) (z .prices-are) (z .tree) (z .is-run (z .allowed)), z .counted, z .total)
+      omega (arith, cheapest-short (z .allowed) (z .prices-are) short (z .tree) (z .is-run (z .allowed)), z .counted, z .total)
 
   pub fold-none : first ≤ behind → fold-bytes z ≡ []
-  unfolding bytes
+  unfolding form-in
   fold-none h =
       rw (no-nodes (z .tree) (z .is-run (z .allowed) .plain) (omega (arith, z .counted)), cheapest-end (z .allowed) (z .prices-are))
 
@@ -104,22 +106,22 @@ module _ {run places nexts choices : List ℕ} {first behind : ℕ} (z : WriteRe
   few = omega (arith, siblings-le-nodes (z .tree) (z .is-run (z .allowed) .plain), z .counted, z .total)
 
 -- The plain node first, and what follows it.
-pub record Plainly {run places nexts choices : List ℕ} {q : ℕ} (n : NodeReady run places nexts choices q) : Type 0 where
-  pub rest : WriteReady run places nexts choices (getD nexts q 0) (n .behind)
+pub record Plainly {short : Bool} {run places nexts choices : List ℕ} {q : ℕ} (n : NodeReady short run places nexts choices q) : Type 0 where
+  pub rest : WriteReady short run places nexts choices (getD nexts q 0) (n .behind)
   pub falls : getD nexts q 0 < q
   pub spelled : fold-bytes (n .ready) ≡ node-bytes n ++ fold-bytes rest
 
 -- A repeat first: its body, which ends at the number `stop`, and what follows it.
-pub record Repeated {run places nexts choices : List ℕ} {q : ℕ} (n : NodeReady run places nexts choices q) (h w stop : ℕ) : Type 0 where
+pub record Repeated {short : Bool} {run places nexts choices : List ℕ} {q : ℕ} (n : NodeReady short run places nexts choices q) (h w stop : ℕ) : Type 0 where
   pub wide : w ≤ h * w
-  pub body : WriteReady run places nexts choices q stop
+  pub body : WriteReady short run places nexts choices q stop
   pub ahead : n .behind < stop
   pub to-rest : Follows nexts stop (h * w - w)
-  pub rest : WriteReady run places nexts choices (follow nexts stop (h * w - w)) (n .behind)
+  pub rest : WriteReady short run places nexts choices (follow nexts stop (h * w - w)) (n .behind)
   pub falls : follow nexts stop (h * w - w) < q
-  pub spelled : fold-bytes (n .ready) ≡ 0x20 ∷ two-bytes h (two-bytes w (fold-bytes body ++ 0x21 ∷ fold-bytes rest))
+  pub spelled : fold-bytes (n .ready) ≡ opening short h w (fold-bytes body ++ 0x21 ∷ fold-bytes rest)
 
-module _ {run places nexts choices : List ℕ} {q : ℕ} (n : NodeReady run places nexts choices q) where
+module _ {short : Bool} {run places nexts choices : List ℕ} {q : ℕ} (n : NodeReady short run places nexts choices q) where
   abbrev A : Allowed
   A = n .ready .allowed
 
@@ -162,10 +164,10 @@ module _ {run places nexts choices : List ℕ} {q : ℕ} (n : NodeReady run plac
         rw zero-w at (followed 0 w q (omega (arith, reach p)) first-number .0)
 
     spelled-power : Least A P usual (best-cost A P) tree h w
-        → (x y : List ℕ) → x ≡ bytes (cheapest A P (front w tree)) → y ≡ bytes (cheapest A P (back (h * w) tree))
-        → fold-bytes (n .ready) ≡ 0x20 ∷ two-bytes h (two-bytes w (x ++ 0x21 ∷ y))
-    unfolding bytes
-    spelled-power l x y e f = ap bytes (cheapest-power A P tree h w is-run (few (n .ready)) (p .repeats .twice) l) ∙ rw (e, f)
+        → (x y : List ℕ) → x ≡ form-in short (cheapest A P (front w tree)) → y ≡ form-in short (cheapest A P (back (h * w) tree))
+        → fold-bytes (n .ready) ≡ opening short h w (x ++ 0x21 ∷ y)
+    unfolding form-in
+    spelled-power l x y e f = ap (form-in short) (cheapest-power A P tree h w is-run (few (n .ready)) (p .repeats .twice) l) ∙ rw (e, f)
 
     powered : (stop : ℕ) → stop ≡ follow nexts q w → Least A P usual (best-cost A P) tree h w → Repeated n h w stop
     unfolding back
@@ -215,8 +217,8 @@ module _ {run places nexts choices : List ℕ} {q : ℕ} (n : NodeReady run plac
           rest = rest .ready;
           falls = omega (arith, number-fall A b 0 1 tree is-run (omega arith) (omega (arith, some)), first-number);
           spelled =
-              ap bytes (cheapest-plain A P tree is-run (few (n .ready)) (least-plain A P tree (x .count) (x .width) (omega (arith, is-pair)) (x .least)))
-              ∙ bytes-join (cheapest A P (front 1 tree)) (cheapest A P (back 1 tree))
+              ap (form-in short) (cheapest-plain A P tree is-run (few (n .ready)) (least-plain A P tree (x .count) (x .width) (omega (arith, is-pair)) (x .least)))
+              ∙ form-join short (cheapest A P (front 1 tree)) (cheapest A P (back 1 tree))
               ∙ rw (rest .same);
         }
 
@@ -269,12 +271,12 @@ form-of (group l g f) p h = a-group l g f refl
 form-of (repeat k w g f) p h = absurd p
 
 -- A group alone: what it holds is a sequence with the numbers between its own and the next one's.
-pub record Grouped {run places nexts choices : List ℕ} {q : ℕ} (n : NodeReady run places nexts choices q) : Type 0 where
-  pub inside : WriteReady run places nexts choices (q - 1) (getD nexts q 0)
+pub record Grouped {short : Bool} {run places nexts choices : List ℕ} {q : ℕ} (n : NodeReady short run places nexts choices q) : Type 0 where
+  pub inside : WriteReady short run places nexts choices (q - 1) (getD nexts q 0)
   pub spelled : node-bytes n ≡ getD run (getD places q 0) 0 ∷ getD run (getD places q 0 + 1) 0 ∷ fold-bytes inside ++ 0x12 ∷ []
   pub falls : getD nexts q 0 < q
 
-module _ {run places nexts choices : List ℕ} {q : ℕ} (n : NodeReady run places nexts choices q) where
+module _ {short : Bool} {run places nexts choices : List ℕ} {q : ℕ} (n : NodeReady short run places nexts choices q) where
   abbrev at : ℕ
   at = getD places q 0
 
@@ -283,14 +285,14 @@ module _ {run places nexts choices : List ℕ} {q : ℕ} (n : NodeReady run plac
 
   module _ (l : ℕ) (f : Forest) (e : n .ready .tree ≡ step l f) where
     at-step : Two run at 0x10 l (bytes f ++ n .ready .rest)
-    unfolding bytes nodes
+    unfolding form-in nodes
     at-step =
         let here : q ≡ n .behind + (1 + nodes f) = n .ready .counted ∙ ap (λ (t : Forest). n .behind + nodes t) e in
         let placed : at ≡ n .ready .place = rw (← here) at ((rw e at (n .ready .listed)) .0 .0) in
         two-at run at 0x10 l (bytes f ++ n .ready .rest) (rw placed (n .ready .stands ∙ rw e))
 
     spelled-step : node-bytes n ≡ 0x10 ∷ l ∷ []
-    unfolding front bytes
+    unfolding front form-in
     spelled-step = rw (e, cheapest-step (n .ready .allowed) (n .ready .prices-are) l)
 
   module _ (l : ℕ) (g f : Forest) (e : n .ready .tree ≡ group l g f) where
@@ -305,15 +307,15 @@ module _ {run places nexts choices : List ℕ} {q : ℕ} (n : NodeReady run plac
     placed = rw (← here) at ((rw e at (n .ready .listed)) .0 .0)
 
     at-group : Two run at 0x11 l ((bytes g ++ 0x12 ∷ bytes f) ++ n .ready .rest)
-    unfolding bytes
+    unfolding form-in
     at-group = two-at run at 0x11 l ((bytes g ++ 0x12 ∷ bytes f) ++ n .ready .rest) (rw placed (n .ready .stands ∙ rw e))
 
-    spelled-group : node-bytes n ≡ 0x11 ∷ l ∷ bytes (cheapest (n .ready .allowed) (n .ready .prices-are) g) ++ 0x12 ∷ []
-    unfolding front bytes
+    spelled-group : node-bytes n ≡ 0x11 ∷ l ∷ form-in short (cheapest (n .ready .allowed) (n .ready .prices-are) g) ++ 0x12 ∷ []
+    unfolding front form-in
     spelled-group =
         rw (e, cheapest-group (n .ready .allowed) (n .ready .prices-are) l g (run-front 1 (rw e at (n .ready .is-run (n .ready .allowed)))))
 
-    inside-ready : WriteReady run places nexts choices (q - 1) (getD nexts q 0)
+    inside-ready : WriteReady short run places nexts choices (q - 1) (getD nexts q 0)
     unfolding back
     inside-ready =
         let after : number (n .behind) (n .ready .tree) 1 ≡ getD nexts q 0 = ap (λ (t : Forest). number (n .behind) t 1) e ∙ sym next in

@@ -1,4 +1,5 @@
--- Writing bytes behind each other from a place on, as far as there is room, and a cheapest fold by such writes.
+-- A cheapest fold by writes behind each other.
+use mathlib.Core.Bool.{Bool}
 use mathlib.Core.Path.{_≡_, refl, sym, ap, _∙_}
 use mathlib.Core.List.{List, [], _∷_, _++_, append-assoc, append-nil}
 use Prim.Native.Nat.{ℕ, zero, suc, _+_, _-_, _*_, _<_, _≤_}
@@ -7,81 +8,20 @@ use native.Mathlib.Omega.{arith}
 use lib.ListN.{length, length-append, length-set, length-drop, getD, set, take, drop, drop-of-length-le}
 use lib.Seq.{sets, length-sets, set-out, take-all}
 use borrow.Rule.Slice.PartMut.{putMid}
-use Rattle.format.proofs.Lists.{sets-append}
+use Rattle.put.specs.Bounds.{most-bytes}
+use Rattle.put.proofs.Along.{lent-back, Along, along-none, along-end, along-more, along-byte, along-whole}
+use Rattle.format.specs.Forest.{opening, opening-size}
+use Rattle.format.proofs.Forests.{opening-append}
+use Rattle.format.proofs.Bridge.{opening-length}
 use Rattle.table.specs.Keys.{pair-digits, count-digit, width-digit, covered}
 use Rattle.table.specs.Table.{cell}
-use Rattle.writer.specs.Writing.{WriteReady, NodeReady, SpanFits, NodeFits, FoldWritten, SpanWritten, NodeWritten, Written, fold-bytes, node-bytes, most-bytes, open-bytes, Follows, follow}
+use Rattle.writer.specs.Writing.{WriteReady, NodeReady, SpanFits, NodeFits, FoldWritten, SpanWritten, NodeWritten, Written, fold-bytes, node-bytes, Follows, follow}
 use Rattle.writer.proofs.Spans.{Plainly, Repeated, fold-small, fold-none, node-cell, node-plain, node-body, node-power, node-start, node-two, node-step, node-group}
-
--- Nothing is stored past the end, and what is stored from a place on is stored in the part that begins there.
-sets-out : (vs l : List ℕ) (i : ℕ) → length l ≤ i → sets l i vs ≡ l
-sets-out [] l i h = refl
-sets-out (v ∷ vs) l i h =
-    sets-out vs (set l i v) (suc i) (rw length-set (omega arith)) ∙ set-out l i v h
-
-sets-behind : (vs l : List ℕ) (x i : ℕ) → sets (x ∷ l) (suc i) vs ≡ x ∷ sets l i vs
-sets-behind [] l x i = refl
-sets-behind (v ∷ vs) l x i = sets-behind vs (set l i v) x (suc i)
-
-sets-rest : (vs l : List ℕ) (i : ℕ) → sets l i vs ≡ take i l ++ sets (drop i l) 0 vs
-sets-rest vs l zero = refl
-sets-rest vs [] (suc i) = sets-out vs [] (suc i) (omega arith) ∙ sym (sets-out vs [] 0 (omega arith))
-sets-rest vs (x ∷ l) (suc i) = sets-behind vs l x i ∙ ap (λ (r : List ℕ). x ∷ r) (sets-rest vs l i)
-
--- So a part that is lent from a place on, or the empty one where the list ends ahead of it, comes back as if it were stored there.
-lent-back : (vs now after : List ℕ) (at start : ℕ) → (at ≤ length now → start ≡ at) → (length now ≤ at → start ≡ length now)
-    → after ≡ sets (take (length now - start) (drop start now)) 0 vs
-    → putMid start (length now - start) now after ≡ sets now at vs
-lent-back vs now after at start inside past e = by-place (decLe at (length now))
-  where
-    whole : putMid start (length now - start) now after ≡ sets now start vs
-    whole =
-        let size : length (drop start now) ≤ length now - start = omega (arith, length-drop start now) in
-        let none : drop (length now - start) (drop start now) ≡ [] = drop-of-length-le (drop start now) {i = length now - start} size in
-        rw (none, e, take-all (length now - start) (drop start now) size, append-nil (sets (drop start now) 0 vs))
-        (sym (sets-rest vs now start))
-
-    by-place : Dec (at ≤ length now) → putMid start (length now - start) now after ≡ sets now at vs
-    by-place (yes h) = whole ∙ rw (inside h)
-    by-place (no h) =
-        whole ∙ sets-out vs now start (omega (arith, past (omega arith))) ∙ sym (sets-out vs now at (omega arith))
-
--- The bytes `whole` are being written into `before` from the place `to` on: `at` is the place behind those that are done, and
--- `left` is still to come.
-pub record Along (whole left : List ℕ) (to : ℕ) (before : List ℕ) (at : ℕ) (now : List ℕ) : Type 0 where
-  pub done : List ℕ
-  pub splits : done ++ left ≡ whole
-  pub place : at ≡ to + length done
-  pub list : now ≡ sets before to done
-
-along-none : (whole : List ℕ) (to : ℕ) (before : List ℕ) → Along whole whole to before to before
-along-none whole to before = record { done = []; splits = refl; place = omega arith; list = refl }
-
-module _ {whole left : List ℕ} {to : ℕ} {before : List ℕ} {at : ℕ} {now : List ℕ} (z : Along whole left to before at now) where
-  -- What is left ends where the whole does.
-  along-end : at + length left ≡ to + length whole
-  along-end = omega (arith, z .place, ap length (z .splits), length-append (z .done) left)
-
-  -- More is written behind: bytes, and one byte by a store.
-  along-more : (x rest : List ℕ) (at′ : ℕ) (now′ : List ℕ) → left ≡ x ++ rest → at′ ≡ at + length x → now′ ≡ sets now at x
-      → Along whole rest to before at′ now′
-  along-more x rest at′ now′ e f g =
-      record {
-        done = z .done ++ x;
-        splits = append-assoc (z .done) x rest ∙ rw (← e) (z .splits);
-        place = omega (arith, z .place, length-append (z .done) x);
-        list = g ∙ rw (z .list) (sym (sets-append (z .done) x before to at (sym (z .place))));
-      }
-
-  along-byte : (v : ℕ) (rest : List ℕ) (now′ : List ℕ) → left ≡ v ∷ rest → now′ ≡ set now at v → Along whole rest to before (at + 1) now′
-  along-byte v rest now′ e g = along-more (v ∷ []) rest (at + 1) now′ e refl g
 
 -- Bytes are written when nothing of them is left.
 all-written : {X : Type 0} {of-each : X → List ℕ} {to : ℕ} {before : List ℕ} {p : ℕ} {now : List ℕ}
     → ((x : X) → Along (of-each x) [] to before p now) → Written of-each to before now p
-all-written {X} {of-each} f =
-    let all : (x : X) → f x .done ≡ of-each x = λ x. sym (append-nil (f x .done)) ∙ f x .splits in
-    record { is-end = λ x. rw (← (all x)) (f x .place); written = λ x. rw (← (all x)) (f x .list) }
+all-written f = record { is-end = λ x. along-whole (f x) .0; written = λ x. along-whole (f x) .1 }
 
 -- The output is as long as it was.
 pub written-kept : {X : Type 0} {of-each : X → List ℕ} {to : ℕ} {before after : List ℕ} {r : ℕ} → X → Written of-each to before after r
@@ -89,21 +29,21 @@ pub written-kept : {X : Type 0} {of-each : X → List ℕ} {to : ℕ} {before af
 written-kept {of-each = of-each} {to} {before} x w = ap length (w .written x) ∙ length-sets before to (of-each x)
 
 -- What is left of a sequence begins at the number q, and its fold is to be written from the place p on.
-pub record Left {run places nexts choices : List ℕ} {first behind : ℕ} (z : WriteReady run places nexts choices first behind) (to : ℕ) (before : List ℕ) (q p : ℕ) (now : List ℕ) : Type 0 where
-  pub rest : WriteReady run places nexts choices q behind
+pub record Left {short : Bool} {run places nexts choices : List ℕ} {first behind : ℕ} (z : WriteReady short run places nexts choices first behind) (to : ℕ) (before : List ℕ) (q p : ℕ) (now : List ℕ) : Type 0 where
+  pub rest : WriteReady short run places nexts choices q behind
   pub along : Along (fold-bytes z) (fold-bytes rest) to before p now
 
-pub record Putting (run places nexts choices : List ℕ) (first behind to : ℕ) (before : List ℕ) (q p : ℕ) (now : List ℕ) : Type 0 where
+pub record Putting (short : Bool) (run places nexts choices : List ℕ) (first behind to : ℕ) (before : List ℕ) (q p : ℕ) (now : List ℕ) : Type 0 where
   pub ahead : q ≤ first
-  pub left : (z : WriteReady run places nexts choices first behind) → Left z to before q p now
+  pub left : (z : WriteReady short run places nexts choices first behind) → Left z to before q p now
 
-module _ {run places nexts choices : List ℕ} {first behind to : ℕ} (before : List ℕ) (m : SpanFits run places nexts choices first behind to) where
-  pub putting-none : Putting run places nexts choices first behind to before first to before
+module _ {short : Bool} {run places nexts choices : List ℕ} {first behind to : ℕ} (before : List ℕ) (m : SpanFits short run places nexts choices first behind to) where
+  pub putting-none : Putting short run places nexts choices first behind to before first to before
   putting-none =
       record { ahead = omega arith; left = λ z. record { rest = z; along = along-none (fold-bytes z) to before } }
 
-  module _ {q p : ℕ} {now : List ℕ} (x : Putting run places nexts choices first behind to before q p now) where
-    pub putting-all : q ≤ behind → SpanWritten run places nexts choices first behind to before now p
+  module _ {q p : ℕ} {now : List ℕ} (x : Putting short run places nexts choices first behind to before q p now) where
+    pub putting-all : q ≤ behind → SpanWritten short run places nexts choices first behind to before now p
     putting-all h = all-written (λ z. let l = x .left z in rw (fold-none (l .rest) h) at (l .along))
 
     -- The next node has an entry in the table.
@@ -113,18 +53,18 @@ module _ {run places nexts choices : List ℕ} {first behind to : ℕ} (before :
         (h, z .total, node-cell (record { behind = behind; ready = z; some = h }))
 
 -- The node of number q is next, and c is the table's pair.
-pub record Turn (run places nexts choices : List ℕ) (first behind to : ℕ) (before : List ℕ) (q p : ℕ) (now : List ℕ) (c : ℕ) : Type 0 where
-  pub fits : SpanFits run places nexts choices first behind to
-  pub putting : Putting run places nexts choices first behind to before q p now
+pub record Turn (short : Bool) (run places nexts choices : List ℕ) (first behind to : ℕ) (before : List ℕ) (q p : ℕ) (now : List ℕ) (c : ℕ) : Type 0 where
+  pub fits : SpanFits short run places nexts choices first behind to
+  pub putting : Putting short run places nexts choices first behind to before q p now
   pub more : behind < q
   pub looked : c ≡ pair-digits (getD choices (cell behind q) 0)
 
-module _ {run places nexts choices : List ℕ} {first behind to : ℕ} {before : List ℕ} {q p : ℕ} {now : List ℕ} {c : ℕ}
-    (x : Turn run places nexts choices first behind to before q p now c) where
-  abbrev pub next : WriteReady run places nexts choices q behind → NodeReady run places nexts choices q
+module _ {short : Bool} {run places nexts choices : List ℕ} {first behind to : ℕ} {before : List ℕ} {q p : ℕ} {now : List ℕ} {c : ℕ}
+    (x : Turn short run places nexts choices first behind to before q p now c) where
+  abbrev pub next : WriteReady short run places nexts choices q behind → NodeReady short run places nexts choices q
   next z = record { behind = behind; ready = z; some = x .more }
 
-  abbrev pub ready : WriteReady run places nexts choices q behind
+  abbrev pub ready : WriteReady short run places nexts choices q behind
   ready = x .putting .left (x .fits .ready) .rest
 
   ready-fits : p + length (fold-bytes ready) ≤ most-bytes
@@ -132,13 +72,13 @@ module _ {run places nexts choices : List ℕ} {first behind to : ℕ} {before :
 
   -- The plain node.
   module _ (f : c ≡ 0) where
-    split : (z : WriteReady run places nexts choices q behind) → Plainly (next z)
+    split : (z : WriteReady short run places nexts choices q behind) → Plainly (next z)
     split z = node-plain (next z) c (x .looked) f
 
     pub plainly : Plainly (next ready)
     plainly = split ready
 
-    pub plain-fits : NodeFits run places nexts choices q p
+    pub plain-fits : NodeFits short run places nexts choices q p
     plain-fits =
         let y = plainly in
         record {
@@ -146,8 +86,8 @@ module _ {run places nexts choices : List ℕ} {first behind to : ℕ} {before :
           fits = omega (arith, ready-fits, ap length (y .spelled), length-append (node-bytes (next ready)) (fold-bytes (y .rest)));
         }
 
-    pub putting-plain : (r : ℕ) (now′ : List ℕ) → NodeWritten run places nexts choices q p now now′ r
-        → Putting run places nexts choices first behind to before (getD nexts q 0) r now′
+    pub putting-plain : (r : ℕ) (now′ : List ℕ) → NodeWritten short run places nexts choices q p now now′ r
+        → Putting short run places nexts choices first behind to before (getD nexts q 0) r now′
     putting-plain r now′ l =
         record {
           ahead = omega (arith, x .putting .ahead, plainly .falls);
@@ -163,17 +103,17 @@ module _ {run places nexts choices : List ℕ} {first behind to : ℕ} {before :
   power-body f w e = node-body (next ready) c (x .looked) f w e
 
 -- A repeat is next, by its count and width, and its body ends at the number `stop`.
-pub record Power (run places nexts choices : List ℕ) (first behind to : ℕ) (before : List ℕ) (q p : ℕ) (now : List ℕ) (c h w stop : ℕ) : Type 0 where
-  pub turn : Turn run places nexts choices first behind to before q p now c
+pub record Power (short : Bool) (run places nexts choices : List ℕ) (first behind to : ℕ) (before : List ℕ) (q p : ℕ) (now : List ℕ) (c h w stop : ℕ) : Type 0 where
+  pub turn : Turn short run places nexts choices first behind to before q p now c
   pub other : c ≡ 0 → ⊥
   pub count : h ≡ count-digit c
   pub width : w ≡ width-digit c
   pub ended : stop ≡ follow nexts q w
 
 -- Its open, what it holds, its close.
-module _ {run places nexts choices : List ℕ} {first behind to : ℕ} {before : List ℕ} {q p : ℕ} {now : List ℕ} {c h w stop : ℕ}
-    (x : Power run places nexts choices first behind to before q p now c h w stop) where
-  repeated : (z : WriteReady run places nexts choices q behind) → Repeated (next (x .turn) z) h w stop
+module _ {short : Bool} {run places nexts choices : List ℕ} {first behind to : ℕ} {before : List ℕ} {q p : ℕ} {now : List ℕ} {c h w stop : ℕ}
+    (x : Power short run places nexts choices first behind to before q p now c h w stop) where
+  repeated : (z : WriteReady short run places nexts choices q behind) → Repeated (next (x .turn) z) h w stop
   repeated z = node-power (next (x .turn) z) c (x .turn .looked) (x .other) h w stop (x .count) (x .width) (x .ended)
 
   pub power-next : Repeated (next (x .turn) (ready (x .turn))) h w stop
@@ -193,15 +133,21 @@ module _ {run places nexts choices : List ℕ} {first behind to : ℕ} {before :
     pub power-falls : (q′ : ℕ) → q′ ≡ follow nexts stop (k - w) → q′ < q
     power-falls q′ f = rw (f, whole k e) (power-next .falls)
 
-  pub body-fits : SpanFits run places nexts choices q stop (p + 5)
-  body-fits =
+  pub open-fits : p + opening-size short h w ≤ most-bytes
+  open-fits =
+      let y = power-next in
+      omega (arith, ready-fits (x .turn), ap length (y .spelled), opening-length short h w (fold-bytes (y .body) ++ 0x21 ∷ fold-bytes (y .rest)))
+
+  pub body-fits : (p₁ : ℕ) → p₁ ≡ p + opening-size short h w → SpanFits short run places nexts choices q stop p₁
+  body-fits p₁ e =
       let y = power-next in
       record {
         ready = y .body;
-        fits = omega (arith, ready-fits (x .turn), ap length (y .spelled), length-append (fold-bytes (y .body)) (0x21 ∷ fold-bytes (y .rest)));
+        fits = omega (arith, ready-fits (x .turn), ap length (y .spelled), opening-length short h w (fold-bytes (y .body) ++ 0x21 ∷ fold-bytes (y .rest)), length-append (fold-bytes (y .body)) (0x21 ∷ fold-bytes (y .rest)));
       }
 
-  module _ (now₁ : List ℕ) (r : ℕ) (now₂ : List ℕ) (l : SpanWritten run places nexts choices q stop (p + 5) now₁ now₂ r) where
+  module _ (p₁ : ℕ) (behind-open : p₁ ≡ p + opening-size short h w) (now₁ : List ℕ) (r : ℕ) (now₂ : List ℕ)
+      (l : SpanWritten short run places nexts choices q stop p₁ now₁ now₂ r) where
     pub power-close : r < most-bytes
     power-close =
         let y = power-next in
@@ -210,32 +156,33 @@ module _ {run places nexts choices : List ℕ} {first behind to : ℕ} {before :
           l .is-end (y .body),
           ready-fits (x .turn),
           ap length (y .spelled),
+          opening-length short h w (fold-bytes (y .body) ++ 0x21 ∷ fold-bytes (y .rest)),
           length-append (fold-bytes (y .body)) (0x21 ∷ fold-bytes (y .rest)),
         )
 
-    pub putting-power : now₁ ≡ sets now p (open-bytes h w) → (now₃ : List ℕ) → now₃ ≡ set now₂ r 0x21
+    pub putting-power : now₁ ≡ sets now p (opening short h w []) → (now₃ : List ℕ) → now₃ ≡ set now₂ r 0x21
         → (k q′ : ℕ) → k ≡ covered c → q′ ≡ follow nexts stop (k - w)
-        → Putting run places nexts choices first behind to before q′ (r + 1) now₃
+        → Putting short run places nexts choices first behind to before q′ (r + 1) now₃
     putting-power opens now₃ closes k q′ e f =
         rw (f, whole k e) (record { ahead = omega (arith, x .turn .putting .ahead, power-next .falls); left = left })
       where
-        left : (z : WriteReady run places nexts choices first behind) → Left z to before (follow nexts stop (h * w - w)) (r + 1) now₃
+        left : (z : WriteReady short run places nexts choices first behind) → Left z to before (follow nexts stop (h * w - w)) (r + 1) now₃
         left z =
             let t = x .turn .putting .left z in
             let y = repeated (t .rest) in
             let body = fold-bytes (y .body) in
             let rest = fold-bytes (y .rest) in
-            let opened = along-more (t .along) (open-bytes h w) (body ++ 0x21 ∷ rest) (p + 5) now₁ (y .spelled) refl opens in
+            let opened = along-more (t .along) (opening short h w []) (body ++ 0x21 ∷ rest) p₁ now₁ (y .spelled ∙ sym (opening-append short h w [] (body ++ 0x21 ∷ rest))) (omega (arith, opening-length short h w [])) opens in
             let held = along-more opened body (0x21 ∷ rest) r now₂ refl (l .is-end (y .body)) (l .written (y .body)) in
             record { rest = y .rest; along = along-byte held 0x21 rest now₃ refl closes }
 
 -- A sequence from its first place on.
-pub fold-fits : {run places nexts choices : List ℕ} {first behind : ℕ} → WriteReady run places nexts choices first behind
-    → SpanFits run places nexts choices first behind 0
+pub fold-fits : {short : Bool} {run places nexts choices : List ℕ} {first behind : ℕ} → WriteReady short run places nexts choices first behind
+    → SpanFits short run places nexts choices first behind 0
 fold-fits z = record { ready = z; fits = omega (arith, fold-small z) }
 
-pub fold-written : {run places nexts choices : List ℕ} {first behind : ℕ} {before after : List ℕ} {r : ℕ}
-    → SpanWritten run places nexts choices first behind 0 before after r → FoldWritten run places nexts choices first behind before after r
+pub fold-written : {short : Bool} {run places nexts choices : List ℕ} {first behind : ℕ} {before after : List ℕ} {r : ℕ}
+    → SpanWritten short run places nexts choices first behind 0 before after r → FoldWritten short run places nexts choices first behind before after r
 fold-written w = record { is-length = λ z. omega (arith, w .is-end z); written = w .written }
 
 -- Where a node stands: in the lists, in the run, and in the output.
@@ -247,11 +194,11 @@ pub record NodeBounds (run places nexts : List ℕ) (q to : ℕ) : Type 0 where
   pub long-nexts : length nexts ≡ 1025
 
 -- All of a group is written but its close, at whose place the writer is.
-pub record Unclosed (run places nexts choices : List ℕ) (q to : ℕ) (before : List ℕ) (at : ℕ) (now : List ℕ) : Type 0 where
-  pub along : (n : NodeReady run places nexts choices q) → Along (node-bytes n) (0x12 ∷ []) to before at now
+pub record Unclosed (short : Bool) (run places nexts choices : List ℕ) (q to : ℕ) (before : List ℕ) (at : ℕ) (now : List ℕ) : Type 0 where
+  pub along : (n : NodeReady short run places nexts choices q) → Along (node-bytes n) (0x12 ∷ []) to before at now
 
 -- A node alone: its two first bytes, and for a group what it holds and the close.
-module _ {run places nexts choices : List ℕ} {q to : ℕ} (m : NodeFits run places nexts choices q to) where
+module _ {short : Bool} {run places nexts choices : List ℕ} {q to : ℕ} (m : NodeFits short run places nexts choices q to) where
   pub node-bounds : NodeBounds run places nexts q to
   node-bounds =
       record {
@@ -273,17 +220,17 @@ module _ {run places nexts choices : List ℕ} {q to : ℕ} (m : NodeFits run pl
         let two : to + 1 + 1 ≡ to + 2 = omega arith in
         rw two at (along-byte (along-byte (along-none whole to before) a (b ∷ rest) now₁ e first) b rest now refl second)
 
-    pub step-written : getD run (getD places q 0) 0 ≡ 0x10 → NodeWritten run places nexts choices q to before now (to + 2)
+    pub step-written : getD run (getD places q 0) 0 ≡ 0x10 → NodeWritten short run places nexts choices q to before now (to + 2)
     step-written h = all-written (λ n. head-written (node-bytes n) [] (node-step n h))
 
     pub inside-written : (getD run (getD places q 0) 0 ≡ 0x10 → ⊥)
         → (lent : ℕ) → (to + 2 ≤ length now → lent ≡ to + 2) → (length now ≤ to + 2 → lent ≡ length now)
         → (n : ℕ) (after : List ℕ)
-        → FoldWritten run places nexts choices (q - 1) (getD nexts q 0) (take (length now - lent) (drop lent now)) after n
-        → Unclosed run places nexts choices q to before (to + 2 + n) (putMid lent (length now - lent) now after)
+        → FoldWritten short run places nexts choices (q - 1) (getD nexts q 0) (take (length now - lent) (drop lent now)) after n
+        → Unclosed short run places nexts choices q to before (to + 2 + n) (putMid lent (length now - lent) now after)
     inside-written h lent inside past n after w = record { along = along }
       where
-        along : (x : NodeReady run places nexts choices q)
+        along : (x : NodeReady short run places nexts choices q)
             → Along (node-bytes x) (0x12 ∷ []) to before (to + 2 + n) (putMid lent (length now - lent) now after)
         along x =
             let g = node-group x h in
@@ -291,10 +238,10 @@ module _ {run places nexts choices : List ℕ} {q to : ℕ} (m : NodeFits run pl
             along-more (head-written (node-bytes x) (y ++ 0x12 ∷ []) (g .spelled)) y (0x12 ∷ []) (to + 2 + n) (putMid lent (length now - lent) now after)
             refl (omega (arith, w .is-length (g .inside))) (lent-back y now after (to + 2) lent inside past (w .written (g .inside)))
 
-  pub close-fits : {before : List ℕ} {at : ℕ} {now : List ℕ} → Unclosed run places nexts choices q to before at now → at < most-bytes
+  pub close-fits : {before : List ℕ} {at : ℕ} {now : List ℕ} → Unclosed short run places nexts choices q to before at now → at < most-bytes
   close-fits u = omega (arith, along-end (u .along (m .ready)), m .fits)
 
-pub closed : {run places nexts choices : List ℕ} {q to : ℕ} {before : List ℕ} {at : ℕ} {now : List ℕ}
-    → Unclosed run places nexts choices q to before at now → (now′ : List ℕ) → now′ ≡ set now at 0x12
-    → NodeWritten run places nexts choices q to before now′ (at + 1)
+pub closed : {short : Bool} {run places nexts choices : List ℕ} {q to : ℕ} {before : List ℕ} {at : ℕ} {now : List ℕ}
+    → Unclosed short run places nexts choices q to before at now → (now′ : List ℕ) → now′ ≡ set now at 0x12
+    → NodeWritten short run places nexts choices q to before now′ (at + 1)
 closed u now′ e = all-written (λ n. along-byte (u .along n) 0x12 [] now′ refl e)

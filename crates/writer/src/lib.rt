@@ -1,7 +1,9 @@
-// Writing the cheapest fold by the choices in the table. What has no room is left out and the place behind the fold is answered all
+// Writing the cheapest fold by the choices in the table, in either family of commands. What has no room is left out and the place behind the fold is answered all
 // the same, so over an empty output the writer only measures. A sequence goes by the numbers of its nodes: from that of its first one
 // down to the one that it ends at.
 use format::Format;
+use put::put_byte;
+use put::put_open;
 use table::count_digit;
 use table::covered;
 use table::entry;
@@ -10,14 +12,11 @@ use table::smaller;
 use table::widen;
 use table::width_digit;
 ghost use mathlib.Core.Path.{_≡_};
-ghost use mathlib.Core.List.{[]};
-ghost use Prim.Native.Nat.{_+_, _<_, _≤_};
-ghost use lib.ListN.{length, getD, set};
-ghost use lib.Seq.{sets};
-ghost use Rattle.format.specs.Forest.{two-bytes};
+ghost use Prim.Native.Nat.{_<_, _≤_};
+ghost use lib.ListN.{length, getD};
 ghost use Rattle.table.specs.Keys.{pair-digits};
 ghost use Rattle.table.specs.Table.{cell};
-ghost use Rattle.writer.specs.Writing.{WriteReady, SpanFits, NodeFits, FoldLength, FoldWritten, SpanWritten, NodeWritten, Follows, follow, most-bytes, open-bytes};
+ghost use Rattle.writer.specs.Writing.{WriteReady, SpanFits, NodeFits, FoldLength, FoldWritten, SpanWritten, NodeWritten, Follows, follow};
 
 // The length of the cheapest fold of a sequence of the run, whose nodes are listed.
 pub fn fold_length(
@@ -25,14 +24,15 @@ pub fn fold_length(
     places: &[usize],
     nexts: &[usize],
     choices: &[u32],
+    short: bool,
     first: usize,
     behind: usize,
 ) -> usize
-    requires { ⌜ WriteReady (now run) (now places) (now nexts) (now choices) first behind ⌝ }
-    ensures { λ r. ⌜ FoldLength (now (run .entry)) (now (places .entry)) (now (nexts .entry)) (now (choices .entry)) first behind r ⌝ }
+    requires { ⌜ WriteReady short (now run) (now places) (now nexts) (now choices) first behind ⌝ }
+    ensures { λ r. ⌜ FoldLength short (now (run .entry)) (now (places .entry)) (now (nexts .entry)) (now (choices .entry)) first behind r ⌝ }
 {
     let mut none: [u8; 0] = [0; 0];
-    put_fold(run, places, nexts, choices, first, behind, &mut none)
+    put_fold(run, places, nexts, choices, short, first, behind, &mut none)
 }
 
 // Writes the cheapest fold of a sequence at the front of the output, and answers its length.
@@ -41,14 +41,15 @@ pub fn put_fold(
     places: &[usize],
     nexts: &[usize],
     choices: &[u32],
+    short: bool,
     first: usize,
     behind: usize,
     out: &mut [u8],
 ) -> usize
-    requires { ⌜ WriteReady (now run) (now places) (now nexts) (now choices) first behind ⌝ }
-    ensures { λ r. ⌜ FoldWritten (now (run .entry)) (now (places .entry)) (now (nexts .entry)) (now (choices .entry)) first behind (now (out .entry)) (now (out .exit)) r ⌝ }
+    requires { ⌜ WriteReady short (now run) (now places) (now nexts) (now choices) first behind ⌝ }
+    ensures { λ r. ⌜ FoldWritten short (now (run .entry)) (now (places .entry)) (now (nexts .entry)) (now (choices .entry)) first behind (now (out .entry)) (now (out .exit)) r ⌝ }
 {
-    put_span(run, places, nexts, choices, first, behind, out, 0)
+    put_span(run, places, nexts, choices, short, first, behind, out, 0)
 }
 
 // Writes the cheapest fold of a sequence from the place `to` on, and answers the place behind it. What follows an item is a sequence
@@ -58,26 +59,27 @@ fn put_span(
     places: &[usize],
     nexts: &[usize],
     choices: &[u32],
+    short: bool,
     first: usize,
     behind: usize,
     out: &mut [u8],
     to: usize,
 ) -> usize
-    requires { ⌜ SpanFits (now run) (now places) (now nexts) (now choices) first behind to ⌝ }
-    ensures { λ r. ⌜ SpanWritten (now (run .entry)) (now (places .entry)) (now (nexts .entry)) (now (choices .entry)) first behind to (now (out .entry)) (now (out .exit)) r ⌝ }
+    requires { ⌜ SpanFits short (now run) (now places) (now nexts) (now choices) first behind to ⌝ }
+    ensures { λ r. ⌜ SpanWritten short (now (run .entry)) (now (places .entry)) (now (nexts .entry)) (now (choices .entry)) first behind to (now (out .entry)) (now (out .exit)) r ⌝ }
 {
     let mut q = first;
     let mut p = to;
     while behind < q {
         let pair = pair_at(choices, behind, q);
         if pair == 0 {
-            p = put_node(run, places, nexts, choices, q, out, p);
+            p = put_node(run, places, nexts, choices, short, q, out, p);
             q = nexts[q];
         } else {
             let w = width_digit(pair);
             let end = skip(nexts, q, w);
-            put_open(out, p, count_digit(pair), w);
-            p = put_span(run, places, nexts, choices, q, end, out, p + 5);
+            p = put_open(out, p, short, count_digit(pair), w);
+            p = put_span(run, places, nexts, choices, short, q, end, out, p);
             put_byte(out, p, Format::REPEAT_END);
             p += 1;
             q = skip(nexts, end, covered(pair) - w);
@@ -93,12 +95,13 @@ fn put_node(
     places: &[usize],
     nexts: &[usize],
     choices: &[u32],
+    short: bool,
     q: usize,
     out: &mut [u8],
     to: usize,
 ) -> usize
-    requires { ⌜ NodeFits (now run) (now places) (now nexts) (now choices) q to ⌝ }
-    ensures { λ r. ⌜ NodeWritten (now (run .entry)) (now (places .entry)) (now (nexts .entry)) (now (choices .entry)) q to (now (out .entry)) (now (out .exit)) r ⌝ }
+    requires { ⌜ NodeFits short (now run) (now places) (now nexts) (now choices) q to ⌝ }
+    ensures { λ r. ⌜ NodeWritten short (now (run .entry)) (now (places .entry)) (now (nexts .entry)) (now (choices .entry)) q to (now (out .entry)) (now (out .exit)) r ⌝ }
 {
     let at = places[q];
     put_byte(out, to, run[at]);
@@ -113,6 +116,7 @@ fn put_node(
         places,
         nexts,
         choices,
+        short,
         q - 1,
         nexts[q],
         &mut out[lent..],
@@ -141,32 +145,4 @@ fn skip(nexts: &[usize], q: usize, k: usize) -> usize
         left -= 1;
     }
     at
-}
-
-// Writes the open of a repeat: count and width follow it.
-fn put_open(out: &mut [u8], to: usize, h: usize, w: usize)
-    requires { ⌜ (to + 5 ≤ most-bytes) × (h < 65536) × (w < 65536) ⌝ }
-    ensures { λ _. ⌜ now (out .exit) ≡ sets (now (out .entry)) to (open-bytes h w) ⌝ }
-{
-    put_byte(out, to, Format::REPEAT);
-    put_two(out, to + 1, h);
-    put_two(out, to + 3, w);
-}
-
-// Writes a number as two bytes, the high one first.
-fn put_two(out: &mut [u8], at: usize, n: usize)
-    requires { ⌜ (at + 2 ≤ most-bytes) × (n < 65536) ⌝ }
-    ensures { λ _. ⌜ now (out .exit) ≡ sets (now (out .entry)) at (two-bytes n []) ⌝ }
-{
-    put_byte(out, at, (n / 256) as u8);
-    put_byte(out, at + 1, (n % 256) as u8);
-}
-
-// Writes one byte where the output has that place, and nothing past its end.
-fn put_byte(out: &mut [u8], at: usize, b: u8)
-    ensures { λ _. ⌜ now (out .exit) ≡ set (now (out .entry)) at b ⌝ }
-{
-    if at < out.len() {
-        out[at] = b;
-    }
 }

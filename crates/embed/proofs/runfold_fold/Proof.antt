@@ -36,8 +36,8 @@ returns c =
 fold-requires : tie.Need-fold-requires
 fold-requires c κs = search needs
 
-store-requires : tie.Need-store-requires
-store-requires c κs = search needs
+store-folded-requires : tie.Need-store-folded-requires
+store-folded-requires c κs = search needs
 
 same-length : tie.Need-same-length
 same-length c = search needs
@@ -60,7 +60,7 @@ returns-2 c =
     let a = args .answer .now in
     let long = entry .if1 .left in
     let said = done .fold .ensures in
-    let put = after .store .ensures in
+    let put = after .store-folded .ensures in
     let answer = of-folded (done .fold .result) in
     let numbers = stored a long _ answer _ (ap of-folded (said .0)) put in
     let T : Tariff = tariff (args .steps .now) (args .groups .now) (args .marks .now) (args .first) (args .each) in
@@ -93,7 +93,7 @@ runfold-fold-spec =
     (tie.spec
     returns
     fold-requires
-    store-requires
+    store-folded-requires
     same-length
     same-length-2
     same-length-3

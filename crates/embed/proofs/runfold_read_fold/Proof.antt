@@ -17,8 +17,8 @@ returns c =
 read-fold-requires : tie.Need-read-fold-requires
 read-fold-requires c κs = search needs
 
-store-requires : tie.Need-store-requires
-store-requires c κs = search needs
+store-reading-requires : tie.Need-store-reading-requires
+store-reading-requires c κs = search needs
 
 same-length : tie.Need-same-length
 same-length c = search needs
@@ -28,11 +28,11 @@ returns-2 c =
     let done = c .before .before .before .before in
     let a = done .before .before .before .before .before .before .before .args in
     let said = done .read-fold .ensures in
-    let put = c .before .before .store .ensures in
+    let put = c .before .before .store-reading .ensures in
     let numbers = stored (a .answer .now) (done .before .if1 .left) _ (of-fold (done .read-fold .result)) _ (ap of-fold (said .0)) put in
     let Q = MeansAtCost (a .limit) (tariff (a .steps .now) (a .groups .now) (a .marks .now) (a .first) (a .each)) (a .fold .now) in
     (numbers .0, (numbers .1, λ z. of-stored Q _ (of-fold (done .read-fold .result)) _ put (said .1 z)))
 
 pub runfold-read-fold-spec : {M : Type 1} → statement M
 runfold-read-fold-spec =
-    tie.close (tie.spec returns read-fold-requires store-requires same-length returns-2)
+    tie.close (tie.spec returns read-fold-requires store-reading-requires same-length returns-2)

@@ -1,4 +1,5 @@
 -- `index::build_index` meets its contract: a refusal leaves both slices as they were, and else they hold the index.
+use mathlib.Core.Bool.{false}
 use native.Mathlib.Omega.{arith}
 use borrow.Author.Needs.{needs}
 use Rattle.format.specs.Order.{Bytes}
@@ -33,7 +34,7 @@ was-read : (c : tie.Else1) → WasRead (start (c .before .before) .args .fold .n
 was-read c =
     let m = c .before .before in
     let s = start m .args .fold .now in
-    let a = answered-accepted (fold-alone s) (m .read-alone .result) (m .read-alone .ensures) (alone-some s) (c .if1 .left) in
+    let a = answered-accepted (fold-alone s) (m .read-alone .result) (m .read-alone .ensures) (alone-some false s) (c .if1 .left) in
     accepted-fold s (small m) (a .tally) (a .text) (a .reading) .was-read
 
 count-entries-requires : tie.Need-count-entries-requires
@@ -45,7 +46,7 @@ returns-2 c =
     let m = n .before .before .before in
     let a = start m .args in
     let s = a .fold .now in
-    let y = answered-accepted (fold-alone s) (m .read-alone .result) (m .read-alone .ensures) (alone-some s) (n .before .if1 .left) in
+    let y = answered-accepted (fold-alone s) (m .read-alone .result) (m .read-alone .ensures) (alone-some false s) (n .before .if1 .left) in
     offsets-too-short s (a .offsets .now) (a .before .now) (y .tally) (y .text) (y .reading) (omega (arith, c .if2 .taken, n .count-entries .ensures))
 
 returns-3 : tie.Need-returns-3
@@ -54,7 +55,7 @@ returns-3 c =
     let m = n .before .before .before in
     let a = start m .args in
     let s = a .fold .now in
-    let y = answered-accepted (fold-alone s) (m .read-alone .result) (m .read-alone .ensures) (alone-some s) (n .before .if1 .left) in
+    let y = answered-accepted (fold-alone s) (m .read-alone .result) (m .read-alone .ensures) (alone-some false s) (n .before .if1 .left) in
     before-too-short s (a .offsets .now) (a .before .now) (y .tally) (y .text) (y .reading)
     (omega (arith, c .before .if2 .left, n .count-entries .ensures)) (omega (arith, c .if3 .taken, n .count-entries .ensures))
 
@@ -78,7 +79,7 @@ returns-4 c =
     let m = n .before .before .before in
     let a = start m .args in
     let s = a .fold .now in
-    let y = answered-accepted (fold-alone s) (m .read-alone .result) (m .read-alone .ensures) (alone-some s) (n .before .if1 .left) in
+    let y = answered-accepted (fold-alone s) (m .read-alone .result) (m .read-alone .ensures) (alone-some false s) (n .before .if1 .left) in
     rw (n .count-entries .ensures)
     (index-written s (a .offsets .now) (a .before .now) (y .tally) (y .text) (y .reading) (omega (arith, e .before .if2 .left, n .count-entries .ensures)) (omega (arith, e .if3 .left, n .count-entries .ensures)) (w .write-entries .ensures .0) (w .write-entries .ensures .1))
 

@@ -1,6 +1,6 @@
 -- `index::find` meets its contract: the fold's refusal, 17, 16, or the node that the way down from the index comes to.
 use mathlib.Core.Path.{_≡_, sym, ap, _∙_}
-use mathlib.Core.Bool.{true}
+use mathlib.Core.Bool.{true, false}
 use native.Mathlib.Omega.{arith}
 use borrow.Author.Needs.{needs}
 use borrow.Author.Tests.{not-true, not-false}
@@ -52,7 +52,7 @@ module _ (c : tie.Else1) where
 
   accepted-as : AnsweredAccepted (fold-alone (given .args .fold .now)) (read-it .read-alone .result)
   accepted-as =
-      answered-accepted (fold-alone (given .args .fold .now)) (read-it .read-alone .result) (read-it .read-alone .ensures) (alone-some (given .args .fold .now)) (c .if1 .left)
+      answered-accepted (fold-alone (given .args .fold .now)) (read-it .read-alone .result) (read-it .read-alone .ensures) (alone-some false (given .args .fold .now)) (c .if1 .left)
 
   -- The reader's number of nodes is that of the reading.
   its-nodes : read-it .read-alone .result .nodes ≡ accepted-as .tally .nodes

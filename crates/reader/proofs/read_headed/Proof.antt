@@ -23,7 +23,7 @@ returns c =
     let checked = no .before in
     let a = checked .before .before .before .before .before .before .args in
     c .as-fold .ensures
-    ∙ fold-refused (a .head) (checked .head-refusal .result) (rw (checked .before .limits .ensures) at (checked .head-refusal .ensures)) _ (a .fold .now) (no .if1 .taken)
+    ∙ fold-refused (a .head) (checked .head-refusal .result) (rw (checked .before .limits .ensures) at (checked .head-refusal .ensures)) (a .short) _ (a .fold .now) (no .if1 .taken)
     (c .before .none .result) (c .before .none .ensures)
 
 wide-cost-requires : tie.Need-wide-cost-requires
@@ -44,7 +44,7 @@ returns-2 c =
     let checked = first .before .before in
     let a = checked .before .before .before .before .before .before .args in
     c .answer .ensures
-    ∙ fold-read (a .head) (checked .head-refusal .result) (rw (checked .before .limits .ensures) at (checked .head-refusal .ensures)) _ (a .fold .now) (first .before .if1 .left)
+    ∙ fold-read (a .head) (checked .head-refusal .result) (rw (checked .before .limits .ensures) at (checked .head-refusal .ensures)) (a .short) _ (a .fold .now) (first .before .if1 .left)
     (c .before .whole .result)
     (rw (checked .before .limits .ensures, first .wide-cost .ensures .0, c .before .before .wide-cost2 .ensures .0) at (c .before .whole .ensures))
 

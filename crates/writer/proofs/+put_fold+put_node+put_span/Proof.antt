@@ -8,9 +8,9 @@ use borrow.Author.Needs.{needs}
 use borrow.Rule.Slice.PartMut.{putMid}
 use borrow.Fn.Kinds.{PK, In, Out}
 use borrow.Fn.PlainCycle.{Measures, is, falls, and}
-use Rattle.writer.specs.Writing.{most-bytes}
+use Rattle.put.specs.Bounds.{most-bytes}
 use Rattle.writer.proofs.Spans.{Grouped, node-group}
-use Rattle.writer.proofs.Writings.{Putting, Turn, written-kept, putting-none, putting-all, left-held, plainly, plain-fits, putting-plain, power-body, Power, power-next, power-wide, power-rest, power-falls, body-fits, power-close, putting-power, fold-fits, fold-written, node-bounds, step-written, Unclosed, inside-written, close-fits, closed}
+use Rattle.writer.proofs.Writings.{Putting, Turn, written-kept, putting-none, putting-all, left-held, plainly, plain-fits, putting-plain, power-body, Power, power-next, power-wide, power-rest, power-falls, open-fits, body-fits, power-close, putting-power, fold-fits, fold-written, node-bounds, step-written, Unclosed, inside-written, close-fits, closed}
 use Rattle.writer.proofs.put_fold.Reads as put-fold
 use Rattle.writer.proofs.put_fold.Kinds as put-fold-kinds
 use Rattle.writer.proofs.+put_fold+put_node+put_span.Lts-put_fold as fold
@@ -25,8 +25,8 @@ use Rattle.table.proofs.covered.Reads as covered
 use Rattle.table.proofs.width_digit.Reads as width-digit-of
 use Rattle.table.proofs.smaller.Reads as smaller
 use Rattle.writer.proofs.pair_at.Reads as pair-at
-use Rattle.writer.proofs.put_byte.Reads as put-byte
-use Rattle.writer.proofs.put_open.Reads as put-open
+use Rattle.put.proofs.put_byte.Reads as put-byte
+use Rattle.put.proofs.put_open.Reads as put-open
 use Rattle.writer.proofs.skip.Reads as skip
 use Rattle.writer.proofs.+put_fold+put_node+put_span.{statement}
 use Rattle.writer.proofs.+put_fold+put_node+put_span.Tie.{close}
@@ -36,13 +36,13 @@ abbrev rank : (nodes high : ℕ) → ℕ
 rank n high = 3 * n + high
 
 abbrev μ-fold : Measures 5 put-fold-kinds.ps ℕ
-μ-fold κs a = rank (a .1 .1 .1 .1 .0 - a .1 .1 .1 .1 .1 .0) 2
+μ-fold κs a = rank (a .1 .1 .1 .1 .1 .0 - a .1 .1 .1 .1 .1 .1 .0) 2
 
 abbrev μ-node : Measures 5 put-node-kinds.ps ℕ
-μ-node κs a = rank (a .1 .1 .1 .1 .0 - getD (a .1 .1 .0 .now) (a .1 .1 .1 .1 .0) 0) 0
+μ-node κs a = rank (a .1 .1 .1 .1 .1 .0 - getD (a .1 .1 .0 .now) (a .1 .1 .1 .1 .1 .0) 0) 0
 
 abbrev μ-span : Measures 5 put-span-kinds.ps ℕ
-μ-span κs a = rank (a .1 .1 .1 .1 .0 - a .1 .1 .1 .1 .1 .0) 1
+μ-span κs a = rank (a .1 .1 .1 .1 .1 .0 - a .1 .1 .1 .1 .1 .1 .0) 1
 
 -- A member is proved at a rank, and calls members below it.
 abbrev ranked : (ps : List (PK 5)) → Measures 5 ps ℕ → In 5 ps → ℕ → In 5 ps
@@ -52,10 +52,10 @@ abbrev below : (ps : List (PK 5)) → Measures 5 ps ℕ → In 5 ps → ℕ → 
 below ps μ pre t = and 5 ps (falls 5 ps _<_ μ t) pre
 
 abbrev Inv : span.InvT-loop
-Inv run places nexts choices first behind out₀ to q₀ p₀ out q p = Putting run places nexts choices first behind to out₀ q p out
+Inv run places nexts choices short first behind out₀ to q₀ p₀ out q p = Putting short run places nexts choices first behind to out₀ q p out
 
 abbrev μ-loop : span.MeasureT-loop
-μ-loop run places nexts choices first behind out₀ to q₀ p₀ out q p = q
+μ-loop run places nexts choices short first behind out₀ to q₀ p₀ out q p = q
 
 module _ (t : ℕ) where
   -- What each member calls, and its places and needs over these.
@@ -196,8 +196,8 @@ module _ (t : ℕ) where
       let a = node-headed (c₁ .before) .args in
       let now = c₁ .before .before .before .before .put-byte2 .last .0 in
       let lent = c .before .before .before .smaller .result in
-      Unclosed (a .run .now) (a .places .now) (a .nexts .now) (a .choices .now) (a .q) (a .to) (a .out .now)
-      (a .to + 2 + c .put-fold .result) (putMid lent (length now - lent) now (c .put-fold .last .1 .1 .1 .1 .1 .1 .0)))
+      Unclosed (a .short) (a .run .now) (a .places .now) (a .nexts .now) (a .choices .now) (a .q) (a .to) (a .out .now)
+      (a .to + 2 + c .put-fold .result) (putMid lent (length now - lent) now (c .put-fold .last .1 .1 .1 .1 .1 .1 .1 .0)))
   unclosed c =
       let c₁ = node-inside (c .before) in
       let S = node-headed (c₁ .before) in
@@ -206,7 +206,7 @@ module _ (t : ℕ) where
       let lent = c .before .before .before .smaller in
       inside-written (S .pre .1) (S .args .out .now) (first .last .0) (second .last .0) (first .ensures) (second .ensures) (c₁ .if1 .left)
       (lent .result) (λ h. omega (arith, lent .ensures .0, lent .ensures .2 _ (omega arith) h)) (λ h. omega (arith, lent .ensures .1, lent .ensures .2 _ h (omega arith)))
-      (c .put-fold .result) (c .put-fold .last .1 .1 .1 .1 .1 .1 .0) (c .put-fold .ensures)
+      (c .put-fold .result) (c .put-fold .last .1 .1 .1 .1 .1 .1 .1 .0) (c .put-fold .ensures)
 
   close-place : (c : Node node.After-put-fold) → node-headed (node-inside (c .before) .before) .args .to + 2 + c .put-fold .result < most-bytes
   close-place c = close-fits (node-headed (node-inside (c .before) .before) .pre .1) (unclosed c)
@@ -251,7 +251,7 @@ module _ (t : ℕ) where
   turn : (c : Span span.After-pair-at)
       → (let a = span-start (c .before .before) .args in
       let l = c .before .before .loop in
-      Turn (a .run .now) (a .places .now) (a .nexts .now) (a .choices .now) (a .first) (a .behind) (a .to) (a .out .now) (l .q) (l .p) (l .out) (c .pair-at .result))
+      Turn (a .short) (a .run .now) (a .places .now) (a .nexts .now) (a .choices .now) (a .first) (a .behind) (a .to) (a .out .now) (l .q) (l .p) (l .out) (c .pair-at .result))
   turn c =
       record {
         fits = span-start (c .before .before) .pre .1;
@@ -293,14 +293,14 @@ module _ (t : ℕ) where
   span-loop-again c =
       let node = c .before .before .before .put-node in
       let c₁ = span-plain (c .before) in
-      putting-plain (turn (c₁ .before)) (c₁ .if1 .taken) (node .result) (node .last .1 .1 .1 .1 .1 .0) (node .ensures)
+      putting-plain (turn (c₁ .before)) (c₁ .if1 .taken) (node .result) (node .last .1 .1 .1 .1 .1 .1 .0) (node .ensures)
 
   -- A repeat: its count and width, and the number at which its body ends.
   power : (c : Span span.After-count-digit)
       → (let c₁ = c .before .before .before .before in
       let a = span-start (c₁ .before .before .before) .args in
       let l = c₁ .before .before .before .loop in
-      Power (a .run .now) (a .places .now) (a .nexts .now) (a .choices .now) (a .first) (a .behind) (a .to) (a .out .now) (l .q) (l .p) (l .out) (c₁ .before .pair-at .result)
+      Power (a .short) (a .run .now) (a .places .now) (a .nexts .now) (a .choices .now) (a .first) (a .behind) (a .to) (a .out .now) (l .q) (l .p) (l .out) (c₁ .before .pair-at .result)
       (c .count-digit .result) (c .before .before .before .width-digit .result) (c .before .before .skip .result))
   power c =
       let c₁ = c .before .before .before .before in
@@ -325,16 +325,13 @@ module _ (t : ℕ) where
   span-put-open-requires : Span span.Need-put-open-requires
   span-put-open-requires c κs =
       let width = c .before .before .before .width-digit in
-      (omega (arith, body-fits (power c) .fits), omega (arith, c .count-digit .ensures .1), omega (arith, width .ensures .1))
-
-  span-add-put-span : Span span.Need-add-put-span
-  span-add-put-span c = omega (arith, body-fits (power (span-opened c)) .fits)
+      (open-fits (power c), omega (arith, c .count-digit .ensures .1), omega (arith, width .ensures .1))
 
   span-put-span-requires : Span span.Need-put-span-requires
   span-put-span-requires c κs =
       let x = power (span-opened c) in
       let S = span-start (span-opened c .before .before .before .before .before .before .before) in
-      (omega (arith, S .pre .0, x .turn .more, x .turn .putting .ahead, power-next x .ahead), body-fits x)
+      (omega (arith, S .pre .0, x .turn .more, x .turn .putting .ahead, power-next x .ahead), body-fits x (c .before .before .before .put-open .result) (c .before .before .before .put-open .ensures .0))
 
   span-put-byte-requires : Span span.Need-put-byte-requires
   span-put-byte-requires c κs = search needs
@@ -343,7 +340,8 @@ module _ (t : ℕ) where
   span-add-p c =
       let call = span-closed (c .before .before) in
       let span = c .before .before .before .before .before .before .put-span in
-      omega (arith, power-close (power (span-opened call)) (call .before .before .before .put-open .last .0) (span .result) (span .last .1 .1 .1 .1 .1 .1 .0) (span .ensures))
+      let opens = call .before .before .before .put-open in
+      omega (arith, power-close (power (span-opened call)) (opens .result) (opens .ensures .0) (opens .last .0) (span .result) (span .last .1 .1 .1 .1 .1 .1 .1 .0) (span .ensures))
 
   span-covered-requires : Span span.Need-covered-requires
   span-covered-requires c κs = search needs
@@ -365,8 +363,8 @@ module _ (t : ℕ) where
       let call = span-closed close in
       let span = close .before .before .before .before .put-span in
       let opens = call .before .before .before .put-open in
-      putting-power (power (span-opened call)) (opens .last .0) (span .result) (span .last .1 .1 .1 .1 .1 .1 .0) (span .ensures)
-      (opens .ensures) (close .put-byte .last .0) (close .put-byte .ensures) (C .covered .result) (c .skip2 .result) (C .covered .ensures) (c .skip2 .ensures)
+      putting-power (power (span-opened call)) (opens .result) (opens .ensures .0) (opens .last .0) (span .result) (span .last .1 .1 .1 .1 .1 .1 .1 .0) (span .ensures)
+      (opens .ensures .1) (close .put-byte .last .0) (close .put-byte .ensures) (C .covered .result) (c .skip2 .result) (C .covered .ensures) (c .skip2 .ensures)
 
   span-returns : Span span.Need-returns
   span-returns c =
@@ -421,7 +419,6 @@ pub +put-fold+put-node+put-span-spec : {M : Type 1} → statement M
     (span-skip-requires t)
     (span-count-digit-requires t)
     (span-put-open-requires t)
-    (span-add-put-span t)
     (span-put-span-requires t)
     (span-put-byte-requires t)
     (span-add-p t)

@@ -1,5 +1,6 @@
 -- The proof of the walk's cycle of calls. Each member falls by the bytes that are left; between calls at one offset a sequence
 -- stands above an item, and an item above a group or a repeat.
+use mathlib.Core.Path.{sym, _∙_}
 use Prim.Native.Nat.{ℕ, _+_, _-_, _*_, _<_}
 use native.Mathlib.Omega.{arith}
 use lib.ListN.{length}
@@ -21,13 +22,14 @@ use Rattle.walk.proofs.command.enter_group.Reads as enter-group-reads
 use Rattle.walk.proofs.command.enter_repeat.Reads as enter-repeat-reads
 use Rattle.walk.proofs.command.leave_group.Reads as leave-group-reads
 use Rattle.walk.proofs.command.leave_repeat.Reads as leave-repeat-reads
-use Rattle.walk.proofs.command.operand.Reads as operand-reads
 use Rattle.walk.proofs.command.refused.Reads as refused-reads
 use Rattle.walk.proofs.command.step.Reads as step-reads
+use Rattle.walk.proofs.operands.operands_at.Reads as operands-at-reads
+use Rattle.format.proofs.opens_repeat.Reads as opens-repeat-reads
 use Rattle.walk.proofs.walk.+group+item+repeat+sequence.{statement}
 use Rattle.walk.proofs.walk.+group+item+repeat+sequence.Tie.{close}
 use Rattle.format.specs.Machine.{a-group}
-use Rattle.walk.specs.Walk.{OpenRead, rules-of, in-group-of, in-repeat-of, word-at, repeat-at}
+use Rattle.walk.specs.Walk.{OpenRead, rules-of, in-group-of, in-repeat-of, count-at, width-at, repeat-at}
 use Rattle.walk.proofs.Walking.{Along, along-none, along-ends, along-refused, along-more, room-grown, entry-refused, inside-refused, through, group-deeper, repeat-deeper, closed-as, item-unknown}
 
 abbrev μ-group : Measures 4 group-kinds.ps ℕ
@@ -70,10 +72,10 @@ abbrev group-calls : ℕ → group-lts.Claims
 group-calls t = (enter-group-reads.Asked, enter-group-reads.Learnt, sequence-below t, sequence.Post, leave-group-reads.Asked, leave-group-reads.Learnt)
 
 abbrev item-calls : ℕ → item-lts.Claims
-item-calls t = (step-reads.Asked, step-reads.Learnt, group-below t, group.Post, repeat-below t, repeat.Post, refused-reads.Asked, refused-reads.Learnt)
+item-calls t = (step-reads.Asked, step-reads.Learnt, group-below t, group.Post, opens-repeat-reads.Asked, opens-repeat-reads.Learnt, repeat-below t, repeat.Post, refused-reads.Asked, refused-reads.Learnt)
 
 abbrev repeat-calls : ℕ → repeat-lts.Claims
-repeat-calls t = (enter-repeat-reads.Asked, enter-repeat-reads.Learnt, operand-reads.Asked, operand-reads.Learnt, sequence-below t, sequence.Post, leave-repeat-reads.Asked, leave-repeat-reads.Learnt)
+repeat-calls t = (enter-repeat-reads.Asked, enter-repeat-reads.Learnt, operands-at-reads.Asked, operands-at-reads.Learnt, sequence-below t, sequence.Post, leave-repeat-reads.Asked, leave-repeat-reads.Learnt)
 
 abbrev sequence-calls : ℕ → sequence-lts.Claims
 sequence-calls t = (item-below t, item.Post)
@@ -171,10 +173,14 @@ module _ (t : ℕ) where
   item-returns-2 : item-lts.Need-returns-2 (item-calls t) (item-start t) item.Post
   item-returns-2 c = c .group .ensures
 
+  item-opens-repeat-requires : item-lts.Need-opens-repeat-requires (item-calls t) (item-start t) item.Post
+  item-opens-repeat-requires c κs = tt
+
   item-repeat-requires : item-lts.Need-repeat-requires (item-calls t) (item-start t) item.Post
   item-repeat-requires c κs =
-      let S = item-from (c .before .before) in
-      (omega (arith, S .pre .0), (record { below = S .pre .1 .0 .below; byte = c .if3 .taken }, S .pre .1 .1))
+      let looked = c .before in
+      let S = item-from (looked .before .before) in
+      (omega (arith, S .pre .0), (record { below = S .pre .1 .0 .below; byte = sym (looked .opens-repeat .ensures) ∙ c .if3 .taken }, S .pre .1 .1))
 
   item-returns-3 : item-lts.Need-returns-3 (item-calls t) (item-start t) item.Post
   item-returns-3 c = c .repeat .ensures
@@ -185,11 +191,12 @@ module _ (t : ℕ) where
   item-returns-4 : item-lts.Need-returns-4 (item-calls t) (item-start t) item.Post
   item-returns-4 c =
       let no-repeat = c .before in
-      let no-group = no-repeat .before in
+      let looked = no-repeat .before in
+      let no-group = looked .before in
       let no-step = no-group .before in
       let S = item-from no-step in
       let a = S .args in
-      rw (c .refused .ensures) (item-unknown (rules-of (a .a) (a .steps .now) (a .groups .now) (a .marks .now)) (a .s .now) (a .d) (a .at) (a .t) _ (S .pre .1 .0) (no-step .if1 .left) (no-group .if2 .left) (no-repeat .if3 .left))
+      rw (c .refused .ensures) (item-unknown (rules-of (a .a) (a .steps .now) (a .groups .now) (a .marks .now)) (a .s .now) (a .d) (a .at) (a .t) _ (S .pre .1 .0) (no-step .if1 .left) (no-group .if2 .left) (sym (looked .opens-repeat .ensures) ∙ no-repeat .if3 .left))
 
 module _ (t : ℕ) where
   abbrev repeat-from : repeat-lts.After-enter-repeat (repeat-calls t) (repeat-start t) repeat.Post → repeat-lts.Start (repeat-calls t) (repeat-start t) repeat.Post
@@ -198,7 +205,7 @@ module _ (t : ℕ) where
   abbrev repeat-opened : repeat-lts.Else1 (repeat-calls t) (repeat-start t) repeat.Post → repeat-lts.After-enter-repeat (repeat-calls t) (repeat-start t) repeat.Post
   repeat-opened c = c .before .before
 
-  abbrev repeat-said : repeat-lts.After-sequence (repeat-calls t) (repeat-start t) repeat.Post → repeat-lts.After-operand2 (repeat-calls t) (repeat-start t) repeat.Post
+  abbrev repeat-said : repeat-lts.After-sequence (repeat-calls t) (repeat-start t) repeat.Post → repeat-lts.After-operands-at (repeat-calls t) (repeat-start t) repeat.Post
   repeat-said c = c .before .before .before
 
   -- What the open of the repeat says, for the prices at hand.
@@ -215,26 +222,17 @@ module _ (t : ℕ) where
       let e = c .before .before in
       let a = repeat-from e .args in
       let s = a .s .now in
-      entry-refused (rules-of (a .a) (a .steps .now) (a .groups .now) (a .marks .now)) s (a .d) (in-repeat-of (a .d)) (a .at) (a .t) (repeat-at s (a .at) (a .t)) (repeat-deeper (a .d) (word-at s (a .at + 1)) (word-at s (a .at + 3)) (a .t)) 0 0 4294967295 (e .enter-repeat .result) (repeat-entered e) (c .if1 .taken)
+      entry-refused (rules-of (a .a) (a .steps .now) (a .groups .now) (a .marks .now)) s (a .d) (in-repeat-of (a .d)) (a .at) (a .t) (repeat-at s (a .at) (a .t)) (repeat-deeper (a .d) (count-at s (a .at)) (width-at s (a .at)) (a .t)) 0 0 4294967295 (e .enter-repeat .result) (repeat-entered e) (c .if1 .taken)
 
-  repeat-add-operand : repeat-lts.Need-add-operand (repeat-calls t) (repeat-start t) repeat.Post
-  repeat-add-operand c = omega (arith, repeat-opened c .enter-repeat .ensures .1 (c .if1 .left))
-
-  repeat-operand-requires : repeat-lts.Need-operand-requires (repeat-calls t) (repeat-start t) repeat.Post
-  repeat-operand-requires c κs = tt
-
-  repeat-add-operand-2 : repeat-lts.Need-add-operand-2 (repeat-calls t) (repeat-start t) repeat.Post
-  repeat-add-operand-2 c = omega (arith, repeat-opened (c .before) .enter-repeat .ensures .1 (c .before .if1 .left))
-
-  repeat-operand-requires-2 : repeat-lts.Need-operand-requires-2 (repeat-calls t) (repeat-start t) repeat.Post
-  repeat-operand-requires-2 c κs = tt
+  repeat-operands-at-requires : repeat-lts.Need-operands-at-requires (repeat-calls t) (repeat-start t) repeat.Post
+  repeat-operands-at-requires c κs = repeat-from (repeat-opened c) .pre .1 .0 .below
 
   repeat-add-t18 : repeat-lts.Need-add-t18 (repeat-calls t) (repeat-start t) repeat.Post
-  repeat-add-t18 c = omega (arith, repeat-from (repeat-opened (c .before .before .before .before)) .pre .1 .1 .0 .repeats)
+  repeat-add-t18 c = omega (arith, repeat-from (repeat-opened (c .before .before .before)) .pre .1 .1 .0 .repeats)
 
   repeat-sequence-requires : repeat-lts.Need-sequence-requires (repeat-calls t) (repeat-start t) repeat.Post
   repeat-sequence-requires c κs =
-      let n = c .before .before .before .before in
+      let n = c .before .before .before in
       let e = repeat-entered (repeat-opened n) in
       let z = n .if1 .left in
       let S = repeat-from (repeat-opened n) in
@@ -244,18 +242,18 @@ module _ (t : ℕ) where
   repeat-returns-2 : repeat-lts.Need-returns-2 (repeat-calls t) (repeat-start t) repeat.Post
   repeat-returns-2 c =
       let q = c .before .before in
-      let n = repeat-said q .before .before in
+      let n = repeat-said q .before in
       let e = repeat-opened n in
       let a = repeat-from e .args in
       let s = a .s .now in
-      inside-refused (rules-of (a .a) (a .steps .now) (a .groups .now) (a .marks .now)) s (a .d) (in-repeat-of (a .d)) (a .at) (a .t) (repeat-at s (a .at) (a .t)) (repeat-deeper (a .d) (word-at s (a .at + 1)) (word-at s (a .at + 3)) (a .t)) 0 0 4294967295 (e .enter-repeat .result) (repeat-entered e) (n .if1 .left) (q .sequence .result) (q .sequence .ensures) (c .if2 .taken)
+      inside-refused (rules-of (a .a) (a .steps .now) (a .groups .now) (a .marks .now)) s (a .d) (in-repeat-of (a .d)) (a .at) (a .t) (repeat-at s (a .at) (a .t)) (repeat-deeper (a .d) (count-at s (a .at)) (width-at s (a .at)) (a .t)) 0 0 4294967295 (e .enter-repeat .result) (repeat-entered e) (n .if1 .left) (q .sequence .result) (q .sequence .ensures) (c .if2 .taken)
 
   repeat-leave-repeat-requires : repeat-lts.Need-leave-repeat-requires (repeat-calls t) (repeat-start t) repeat.Post
   repeat-leave-repeat-requires c κs =
       let m = c .before in
       let q = m .before .before in
-      let count = repeat-said q .before in
-      let n = count .before in
+      let said = repeat-said q in
+      let n = said .before in
       let e = repeat-entered (repeat-opened n) in
       let S = repeat-from (repeat-opened n) in
       let z = n .if1 .left in
@@ -268,19 +266,18 @@ module _ (t : ℕ) where
       let steps = e .steps-inside z in
       let siblings = e .siblings z in
       let room = S .pre .1 .1 .0 in
-      (q .sequence .ensures .halted y, ((S .args .d, room), (S .pre .1 .1 .1, ((k .0, omega (arith, k .1, count .operand .ensures .0), count .operand .ensures .1), ((omega arith, omega arith), ((omega arith, omega arith, omega arith), (omega arith, omega arith)))))))
+      (q .sequence .ensures .halted y, ((S .args .d, room), (S .pre .1 .1 .1, ((k .0, omega (arith, k .1, said .operands-at .ensures .0 .0), said .operands-at .ensures .0 .1), ((omega arith, omega arith), ((omega arith, omega arith, omega arith), (omega arith, omega arith)))))))
 
   repeat-returns-3 : repeat-lts.Need-returns-3 (repeat-calls t) (repeat-start t) repeat.Post
   repeat-returns-3 c =
       let m = c .before .before in
       let q = m .before .before in
-      let width = repeat-said q in
-      let count = width .before in
-      let n = count .before in
+      let said = repeat-said q in
+      let n = said .before in
       let e = repeat-opened n in
       let a = repeat-from e .args in
       let s = a .s .now in
-      through (rules-of (a .a) (a .steps .now) (a .groups .now) (a .marks .now)) s (a .d) (in-repeat-of (a .d)) (a .at) (a .t) (repeat-at s (a .at) (a .t)) (repeat-deeper (a .d) (word-at s (a .at + 1)) (word-at s (a .at + 3)) (a .t)) 0 0 4294967295 (e .enter-repeat .result) (repeat-entered e) (n .if1 .left) (q .sequence .result) (q .sequence .ensures) (m .if2 .left) (c .leave-repeat .result) (closed-as (count .operand .ensures .0) (width .operand2 .ensures .0) (c .leave-repeat .ensures (a .steps .now) (a .groups .now) (a .marks .now) (a .d)))
+      through (rules-of (a .a) (a .steps .now) (a .groups .now) (a .marks .now)) s (a .d) (in-repeat-of (a .d)) (a .at) (a .t) (repeat-at s (a .at) (a .t)) (repeat-deeper (a .d) (count-at s (a .at)) (width-at s (a .at)) (a .t)) 0 0 4294967295 (e .enter-repeat .result) (repeat-entered e) (n .if1 .left) (q .sequence .result) (q .sequence .ensures) (m .if2 .left) (c .leave-repeat .result) (closed-as (said .operands-at .ensures .0 .0) (said .operands-at .ensures .1 .0) (c .leave-repeat .ensures (a .steps .now) (a .groups .now) (a .marks .now) (a .d)))
 
 abbrev sequence-Inv : sequence-lts.InvT-loop
 sequence-Inv s steps groups marks a at d p₀ now₀ p now = Along (rules-of a steps groups marks) s d at now₀ p now
@@ -358,6 +355,6 @@ pub +group+item+repeat+sequence-spec : {M : Type 1} → statement M
 +group+item+repeat+sequence-spec =
     close μ-group μ-item μ-repeat μ-sequence
     (λ t. group-lts.spec (group-calls t) (group-start t) group.Post (group-enter-group-requires t) (group-returns t) (group-add-t17 t) (group-sequence-requires t) (group-returns-2 t) (group-leave-group-requires t) (group-returns-3 t))
-    (λ t. item-lts.spec (item-calls t) (item-start t) item.Post (item-shared-slice-read-c t) (item-step-requires t) (item-returns t) (item-group-requires t) (item-returns-2 t) (item-repeat-requires t) (item-returns-3 t) (item-refused-requires t) (item-returns-4 t))
-    (λ t. repeat-lts.spec (repeat-calls t) (repeat-start t) repeat.Post (repeat-enter-repeat-requires t) (repeat-returns t) (repeat-add-operand t) (repeat-operand-requires t) (repeat-add-operand-2 t) (repeat-operand-requires-2 t) (repeat-add-t18 t) (repeat-sequence-requires t) (repeat-returns-2 t) (repeat-leave-repeat-requires t) (repeat-returns-3 t))
+    (λ t. item-lts.spec (item-calls t) (item-start t) item.Post (item-shared-slice-read-c t) (item-step-requires t) (item-returns t) (item-group-requires t) (item-returns-2 t) (item-opens-repeat-requires t) (item-repeat-requires t) (item-returns-3 t) (item-refused-requires t) (item-returns-4 t))
+    (λ t. repeat-lts.spec (repeat-calls t) (repeat-start t) repeat.Post (repeat-enter-repeat-requires t) (repeat-returns t) (repeat-operands-at-requires t) (repeat-add-t18 t) (repeat-sequence-requires t) (repeat-returns-2 t) (repeat-leave-repeat-requires t) (repeat-returns-3 t))
     (λ t. sequence-lts.spec (sequence-calls t) (sequence-start t) sequence.Post sequence-Inv sequence-μ (sequence-loop-holds t) (sequence-shared-slice-read-c t) (sequence-returns t) (sequence-returns-2 t) (sequence-item-requires t) (sequence-returns-3 t) (sequence-loop-less t) (sequence-loop-again t) (sequence-returns-4 t))

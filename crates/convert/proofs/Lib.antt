@@ -1,0 +1,3 @@
+-- What the proofs of the conversions share.
+pub mod Forms
+pub mod Conversions

@@ -1,0 +1,2 @@
+-- Steps of the proof, and no promise to a caller.
+pub mod Passing

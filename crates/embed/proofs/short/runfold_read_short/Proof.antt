@@ -1,0 +1,39 @@
+-- `embed::short::runfold_read_short` meets its contract: the short reader's answer, stored as numbers.
+use borrow.Author.Needs.{needs}
+use mathlib.Core.Path.{ap}
+use native.Mathlib.Omega.{arith}
+use Rattle.format.specs.Limits.{tariff}
+use Rattle.format.specs.Family.{long-form}
+use Rattle.format.specs.Meaning.{MeansAtCost}
+use Rattle.embed.specs.Answers.{of-fold}
+use Rattle.embed.proofs.Entries.{short-status, short-entries, stored, of-stored}
+use Rattle.embed.proofs.short.runfold_read_short.Statement.{statement}
+use Rattle.embed.proofs.short.runfold_read_short.Tie as tie
+
+returns : tie.Need-returns
+returns c =
+    let a = c .before .before .before .before .before .before .args .answer .now in
+    (short-status a (c .if1 .taken) _, (short-entries a (c .if1 .taken) _, λ z. absurd (omega (arith, z))))
+
+read-short-requires : tie.Need-read-short-requires
+read-short-requires c κs = search needs
+
+store-reading-requires : tie.Need-store-reading-requires
+store-reading-requires c κs = search needs
+
+same-length : tie.Need-same-length
+same-length c = search needs
+
+returns-2 : tie.Need-returns-2
+returns-2 c =
+    let done = c .before .before .before .before in
+    let a = done .before .before .before .before .before .before .before .args in
+    let said = done .read-short .ensures in
+    let put = c .before .before .store-reading .ensures in
+    let numbers = stored (a .answer .now) (done .before .if1 .left) _ (of-fold (done .read-short .result)) _ (ap of-fold (said .0)) put in
+    let Q = MeansAtCost (a .limit) (tariff (a .steps .now) (a .groups .now) (a .marks .now) (a .first) (a .each)) (long-form (a .fold .now)) in
+    (numbers .0, (numbers .1, λ z. of-stored Q _ (of-fold (done .read-short .result)) _ put (said .1 z)))
+
+pub runfold-read-short-spec : {M : Type 1} → statement M
+runfold-read-short-spec =
+    tie.close (tie.spec returns read-short-requires store-reading-requires same-length returns-2)

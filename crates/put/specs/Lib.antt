@@ -1,0 +1,2 @@
+-- What the functions that put bytes rest on.
+pub mod Bounds
