@@ -1,15 +1,14 @@
 -- The answers of the conversions, as their contracts have them: a refusal by the first check that applies, or the form written.
-use mathlib.Core.Path.{_≡_, refl, ap, _∙_}
+use mathlib.Core.Path.{_≡_, _∙_}
 use mathlib.Core.Bool.{Bool}
-use mathlib.Core.List.{List, _++_}
+use mathlib.Core.List.{List}
 use mathlib.Core.Logic.{_≢_}
 use Prim.Native.Nat.{ℕ, _≤_, _<_}
 use native.Mathlib.Nat.{zero-add}
 use native.Mathlib.Omega.{arith}
-use lib.ListN.{length, drop}
+use lib.ListN.{length}
 use lib.Seq.{sets, sets-eq}
 use borrow.Author.Tests.{lt-ltb, le-ltb}
-use Rattle.format.specs.Machine.{refused, accepted}
 use Rattle.format.specs.Order.{Bytes}
 use Rattle.format.specs.Readings.{alone-rules, alone-in, as-fold-reading}
 use Rattle.format.specs.Family.{converted, conversion}

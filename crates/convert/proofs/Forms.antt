@@ -1,14 +1,13 @@
 -- Bytes put into a family, cut at an offset: the command there, and what follows it.
 use mathlib.Core.Path.{_≡_, refl, sym, ap, _∙_}
-use mathlib.Core.Bool.{Bool, true, false, cond, or-false, true≢false}
+use mathlib.Core.Bool.{Bool, true, false, cond}
 use mathlib.Core.List.{List, [], _∷_, _++_}
 use Prim.Native.Nat.{ℕ, zero, suc, _+_, _<_, _≤_}
 use native.Mathlib.Numerals.{add-one}
 use native.Mathlib.Omega.{arith}
-use lib.Dec.{eqb}
 use lib.ListN.{length, getD, set, drop, length-append, drop-of-length-le}
 use lib.Seq.{sets, drop-drop}
-use Rattle.format.specs.Forest.{opening, opening-size}
+use Rattle.format.specs.Forest.{opening}
 use Rattle.format.specs.Machine.{is-node, opens-repeat, operands, label-operand, count-operand, width-operand}
 use Rattle.format.specs.Family.{command-in, converted-from, converted}
 use Rattle.format.proofs.Forests.{opening-append}

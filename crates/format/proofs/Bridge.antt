@@ -7,7 +7,7 @@ use mathlib.Core.Logic.{_≢_, _↔_}
 use Prim.Native.Nat.{ℕ, zero, suc, _+_, _-_, _*_, _/_, _%_, _≤_, _<_, max}
 use native.Mathlib.Nat.{zero-add}
 use native.Mathlib.Omega.{arith}
-use lib.ListN.{length, length-append, getD, drop}
+use lib.ListN.{length, length-append}
 use lib.Seq.{drop-at, getD-append-add}
 use borrow.Author.Tests.{lt-ltb}
 use Rattle.format.specs.Limits.{Prices, in-one-byte}

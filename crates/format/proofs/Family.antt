@@ -7,7 +7,7 @@ use mathlib.Core.Logic.{_↔_}
 use Prim.Native.Nat.{ℕ, suc, _*_, _≤_}
 use native.Mathlib.Nat.{zero-add}
 use native.Mathlib.Omega.{arith}
-use lib.ListN.{length}
+use lib.ListN.{length, length-append}
 use borrow.Author.Tests.{le-ltb}
 use Rattle.format.specs.Limits.{limits, Tariff, in-one-byte}
 use Rattle.format.specs.Order.{Bytes}
@@ -15,16 +15,18 @@ use Rattle.format.specs.Forest.{Forest, end, step, group, repeat, openin
 use Rattle.format.specs.Machine.{Rules, State, refusal, read, accepted}
 use Rattle.format.specs.Head.{Head, headed, full-head}
 use Rattle.format.specs.Readings.{in-family, rules-at, WellFormed, as-fold-reading, outcome-in, fold-reading, short-reading}
+use Rattle.format.specs.Tree.{tree-of}
 use Rattle.format.specs.Meaning.{MeansAtCost}
 use Rattle.format.specs.Shape.{Shaped, tally-of, Reads}
 use Rattle.format.specs.Family.{converted-from, converted, short-form, long-form}
 use Rattle.format.specs.declared.Tally.{Tally}
 use Rattle.format.proofs.Forests.{opening-append, form-bytes}
-use Rattle.format.proofs.Bridge.{word-again, parses, reads-accepted}
+use Rattle.format.proofs.Bridge.{word-again, opening-length, parses, reads-accepted}
 use Rattle.format.proofs.Machine.{refusal-unknown}
 use Rattle.format.proofs.Answered.{answered-accepted}
 use Rattle.format.proofs.Report.{in-read, in-some, reading-means}
-use Rattle.format.proofs.Short.{room}
+use Rattle.format.proofs.Short.{opened, room}
+use Rattle.format.proofs.Tree.{tree-of-form}
 
 -- The open of a repeat, put into a family: whichever command opened it, the family's own.
 opening-converted : (short from : Bool) (h w : ℕ) (s : List ℕ)
@@ -81,12 +83,51 @@ module _ (R : Rules) (s : List ℕ) (small : Bytes s) (t : Tally) (x : List ℕ)
   pub converted-bytes : Bytes (converted short s)
   converted-bytes = rw converted-is (form-bytes short (spelled .tree) (spelled .shape .coded))
 
-  -- At most four bytes for each node that the rules allow.
+  -- It spells the same tree.
+  pub converted-tree : tree-of (converted short s) ≡ tree-of s
+  converted-tree =
+      ap tree-of converted-is ∙ tree-of-form short (spelled .tree) ∙ sym (tree-of-form (R .short) (spelled .tree)) ∙ ap tree-of (spelled .form)
+
+  -- It has at most four bytes for each node, of which the rules allow so many.
+  pub converted-room : length (converted short s) ≤ 4 * t .nodes
+  converted-room = room (in-family short R) (converted short s) converted-bytes t x converted-accepted
+
   pub converted-fits : length (converted short s) ≤ 4 * R .limits .nodes
   unfolding tally-of
-  converted-fits =
-      let few : t .nodes ≤ R .limits .nodes = omega (arith, ap (λ (u : Tally). u .nodes) (spelled .counts), spelled .shape .total) in
-      omega (arith, room (in-family short R) (converted short s) converted-bytes t x converted-accepted)
+  converted-fits = omega (arith, converted-room, ap (λ (u : Tally). u .nodes) (spelled .counts), spelled .shape .total)
+
+-- No form is shorter than the short one.
+no-longer : (f : Forest) → length (form-in true f) ≤ length (form-in false f)
+unfolding form-in
+no-longer end = omega arith
+no-longer (step l f) = omega (arith, no-longer f)
+no-longer (group l b f) =
+    omega (arith, no-longer b, no-longer f, length-append (form-in true b) (0x12 ∷ form-in true f), length-append (form-in false b) (0x12 ∷ form-in false f))
+no-longer (repeat h w b f) =
+    let s = form-in true b ++ 0x21 ∷ form-in true f in
+    let l = form-in false b ++ 0x21 ∷ form-in false f in
+    omega (
+      arith,
+      no-longer b,
+      no-longer f,
+      opening-length true h w s,
+      opened (in-one-byte h w),
+      length-append (form-in true b) (0x21 ∷ form-in true f),
+      length-append (form-in false b) (0x21 ∷ form-in false f),
+    )
+
+pub short-form-no-longer : (R : Rules) → R .short ≡ false → (s : List ℕ) → Bytes s → (a : WellFormed R s) → length (short-form s) ≤ length s
+short-form-no-longer R long s small a =
+    let r = parses R s small (a .tally) (a .text) (a .reading) in
+    omega (
+      arith,
+      no-longer (r .tree),
+      ap length (own-form R long s (r .tree) (r .form)),
+      ap length (converted-is R s small (a .tally) (a .text) (a .reading) true),
+    )
+  where
+    own-form : (R : Rules) → R .short ≡ false → (s : List ℕ) (f : Forest) → form-in (R .short) f ≡ s → form-in false f ≡ s
+    own-form R e s f form = rw e at form
 
 -- EVERY WELL-FORMED FOLD HAS EXACTLY ONE SHORT FORM, which the short family reads as the long one reads the fold: with the same counts
 -- (nodes, bytes, cost, steps, depth) and the same run. Back and forth is the identity, both ways.

@@ -12,7 +12,7 @@ use Rattle.format.specs.Order.{Bytes}
 use Rattle.format.specs.Forest.{Forest, end, step, group, repeat, holds, Sound}
 use Rattle.format.specs.Machine.{Rules, State, is-node, checks, first-of, refusal, Outcome, accepted, read}
 use Rattle.format.specs.Head.{head-checks, headed, marks-in-order, full-head}
-use Rattle.format.specs.Readings.{fold-rules, as-fold-reading, outcome-in, fold-outcome, fold-reading}
+use Rattle.format.specs.Readings.{fold-rules, as-fold-reading, outcome-in, fold-reading}
 use Rattle.format.specs.Meaning.{NoneRepeated, report, report-of}
 use Rattle.format.specs.Shape.{Reads}
 use Rattle.format.specs.Tree.{tree-of}

@@ -88,10 +88,6 @@ opens c e = go (eqb c 0x20) (eqb c 0x22) (eqb-true c 0x20) (eqb-true c 0x22) e
     go true q h k e = rw (h refl) by-two
     go false q h k e = rw (k e) by-one
 
-pub opens-one : {c : ℕ} → Opens c → opens-repeat c ≡ true
-opens-one by-two = refl
-opens-one by-one = refl
-
 -- A byte that is a command in neither family is unknown in each.
 other-unknown : (short : Bool) (c : ℕ) → is-known true c ≡ false → is-known short c ≡ false
 other-unknown true c e = e

@@ -1,7 +1,7 @@
 -- What more input changes: a refusal other than 3 stays, whatever follows. Of runs, 3,077 bytes or more are refused so, since
 -- the node limit bounds the offsets that are reached.
 use mathlib.Core.Path.{_≡_, refl, sym, _∙_}
-use mathlib.Core.Bool.{Bool, true, false, false≢true, not, _&&_, _||_, cond}
+use mathlib.Core.Bool.{Bool, true, false, false≢true, not, _&&_, _||_}
 use mathlib.Core.List.{List, [], _∷_, _++_}
 use mathlib.Core.Logic.{_≢_}
 use Prim.Native.Nat.{ℕ, zero, suc, _+_, _*_, _≤_, _<_}
@@ -10,7 +10,7 @@ use lib.Dec.{ltb, eqb}
 use lib.ListN.{length, getD, take, drop, length-append, length-drop, List·getD-append}
 use borrow.Author.Tests.{le-ltb, ltb-false, ne-eqb}
 use Rattle.format.specs.Limits.{limits, Prices}
-use Rattle.format.specs.Machine.{Rules, State, checks, Open, a-group, a-repeat, Outcome, refused, accepted, refusal, scan, read, start, advance, is-node, opens-repeat, is-known, operands, open-groups, in-group, leave-group, place-of, at-end}
+use Rattle.format.specs.Machine.{Rules, State, checks, Open, a-group, a-repeat, Outcome, refused, accepted, refusal, scan, read, start, advance, opens-repeat, is-known, operands, open-groups, in-group, leave-group, place-of, at-end}
 use Rattle.format.specs.Readings.{free, run-rules}
 use Rattle.format.specs.declared.Tally.{Tally}
 use Rattle.format.specs.Reasons.{Reached, at-start, passed, Because, at-command, left-open}

@@ -12,7 +12,7 @@ use Rattle.format.specs.Order.{Bytes}
 use Rattle.format.specs.Forest.{Forest, end, step, group, repeat, cost}
 use Rattle.format.specs.Machine.{Outcome, accepted, read, unless, first-of, Check, _when_}
 use Rattle.format.specs.Head.{head-checks, headed, marks-in-order, full-head}
-use Rattle.format.specs.Readings.{fold-rules, as-fold-reading, outcome-in, fold-outcome, fold-reading}
+use Rattle.format.specs.Readings.{fold-rules, as-fold-reading, outcome-in, fold-reading}
 use Rattle.format.specs.Tree.{tree-of}
 use Rattle.format.specs.OneTable.{label-cost, by-label, one-table-headed, one-table-reading}
 use Rattle.format.specs.declared.Tally.{Tally}

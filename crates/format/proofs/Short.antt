@@ -21,7 +21,7 @@ record Small (short : Bool) (f : Forest) : Type 0 where
   few : length (form-in short f) ≤ 4 * nodes f
   one : nodes f ≤ 1 → length (form-in short f) ≤ 2
 
-opened : (one : Bool) → cond one 3 5 ≤ 5
+pub opened : (one : Bool) → cond one 3 5 ≤ 5
 opened true = omega arith
 opened false = omega arith
 

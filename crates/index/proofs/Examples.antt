@@ -3,7 +3,7 @@
 use mathlib.Core.Path.{_≡_, refl}
 use mathlib.Core.List.{List, [], _∷_, map}
 use Prim.Native.Nat.{ℕ}
-use Rattle.format.specs.Forest.{nodes, form-in, bytes}
+use Rattle.format.specs.Forest.{nodes, form-in}
 use Rattle.format.specs.Readings.{alone-in, fold-alone}
 use Rattle.format.specs.Tree.{tree-of}
 use Rattle.index.specs.Nodes.{written, writes, written-by}

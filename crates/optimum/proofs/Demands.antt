@@ -3,12 +3,12 @@ use mathlib.Core.Path.{_≡_, refl, sym, ap, subst, _∙_}
 use mathlib.Core.List.{List}
 use Prim.Native.Nat.{ℕ, zero, suc, _*_, _≤_, _<_}
 use native.Mathlib.Nat.{mul-le-mul-left}
-use mathlib.Core.Bool.{false, false≢true}
+use mathlib.Core.Bool.{Bool, false≢true}
 use native.Mathlib.Omega.{arith}
 use lib.ListN.{length}
 use Rattle.format.specs.Limits.{limits, Prices, Tariff, priced, allowed}
 use Rattle.format.specs.Order.{Bytes}
-use Rattle.format.specs.Forest.{Forest, end, step, group, repeat, join, copies, unroll, nodes, cost, bytes, Allowed, at-most, Sound, Coded, group-depth, widest-of}
+use Rattle.format.specs.Forest.{Forest, end, step, group, repeat, join, copies, unroll, nodes, cost, form-in, bytes, Allowed, at-most, Sound, Coded, group-depth, widest-of}
 use Rattle.format.specs.Machine.{accepted, read}
 use Rattle.format.specs.Readings.{run-rules, fold-rules, format-rules}
 use Rattle.format.specs.Shape.{Shaped, Reads, tally-of}
@@ -166,9 +166,9 @@ module _ (s : List ℕ) (small : Bytes s) (t : Tally) (x : List ℕ) (run : read
   unfolding tally-of
   run-nodes = ap (λ (y : Tally). y .nodes) (sym (spelled .counts)) ∙ ap nodes (sym tree-is)
 
-  -- Its preferred fold has at most four bytes for each node.
-  pub cheapest-room : (A : Allowed) (P : Prices) → length (bytes (preferred A P (tree-of s))) ≤ 4 * t .nodes
-  cheapest-room A P = omega (arith, run-nodes, preferred-short A P (tree-of s) (shaped-run A (tree-of s) run-shape) false)
+  -- Its preferred fold has at most four bytes for each node, in either family.
+  pub cheapest-room : (short : Bool) (A : Allowed) (P : Prices) → length (form-in short (preferred A P (tree-of s))) ≤ 4 * t .nodes
+  cheapest-room short A P = omega (arith, run-nodes, preferred-short A P (tree-of s) (shaped-run A (tree-of s) run-shape) short)
 
   -- A run has few nodes.
   pub run-few : t .nodes ≤ limits .nodes

@@ -16,3 +16,4 @@ pub mod Minimum
 pub mod OneTable
 pub mod AllMarked
 pub mod Known
+pub mod ShortFolds

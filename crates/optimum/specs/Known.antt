@@ -4,7 +4,7 @@ use mathlib.Core.Path.{_≡_}
 use mathlib.Core.List.{List, [], _∷_, _++_, map}
 use Prim.Native.Nat.{ℕ}
 use Rattle.format.specs.Limits.{Tariff, tariff, priced, allowed}
-use Rattle.format.specs.Forest.{form-in, bytes, cost}
+use Rattle.format.specs.Forest.{form-in, cost}
 use Rattle.format.specs.Machine.{Outcome, refused, accepted, read, times}
 use Rattle.format.specs.Readings.{run-rules, fold-rules}
 use Rattle.format.specs.Marks.{free-marks, mark-of, all-marks}

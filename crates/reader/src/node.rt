@@ -5,7 +5,6 @@ use format::operand_bytes;
 ghost use mathlib.Core.Path.{_≡_};
 ghost use Prim.Native.Nat.{_+_, _≤_, _<_};
 ghost use lib.ListN.{length, drop};
-ghost use Rattle.format.specs.Machine.{operands};
 ghost use Rattle.format.specs.Parts.{starts, still-open, node-size};
 
 // The groups that are open after a command.

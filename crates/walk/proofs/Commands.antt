@@ -9,7 +9,7 @@ use native.Mathlib.Omega.{arith}
 use lib.Dec.{eqb}
 use lib.ListN.{length, getD, drop, length-drop}
 use lib.Seq.{getD-drop, drop-drop}
-use borrow.Author.Tests.{lt-ltb, le-ltb, eq-eqb, ne-eqb, le-leb, lt-leb}
+use borrow.Author.Tests.{lt-ltb, le-ltb, ne-eqb, le-leb, lt-leb}
 use Rattle.format.specs.Machine.{Rules, Open, a-group, a-repeat, first-of, refusal, place-of, operands, is-node, is-close, is-known, put-step, enter-group, leave-group, enter-repeat, leave-repeat, with-step, group-entered, repeat-entered, after-group, after-repeat, label-operand, times}
 use Rattle.format.specs.Limits.{in-one-byte}
 use Rattle.format.specs.declared.Limits.{Limits}

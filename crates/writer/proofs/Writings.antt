@@ -1,12 +1,11 @@
 -- A cheapest fold by writes behind each other.
 use mathlib.Core.Bool.{Bool}
 use mathlib.Core.Path.{_≡_, refl, sym, ap, _∙_}
-use mathlib.Core.List.{List, [], _∷_, _++_, append-assoc, append-nil}
-use Prim.Native.Nat.{ℕ, zero, suc, _+_, _-_, _*_, _<_, _≤_}
-use native.Mathlib.Decide.{decLe}
+use mathlib.Core.List.{List, [], _∷_, _++_}
+use Prim.Native.Nat.{ℕ, _+_, _-_, _*_, _<_, _≤_}
 use native.Mathlib.Omega.{arith}
-use lib.ListN.{length, length-append, length-set, length-drop, getD, set, take, drop, drop-of-length-le}
-use lib.Seq.{sets, length-sets, set-out, take-all}
+use lib.ListN.{length, length-append, getD, set, take, drop}
+use lib.Seq.{sets, length-sets}
 use borrow.Rule.Slice.PartMut.{putMid}
 use Rattle.put.specs.Bounds.{most-bytes}
 use Rattle.put.proofs.Along.{lent-back, Along, along-none, along-end, along-more, along-byte, along-whole}

@@ -1,6 +1,5 @@
 -- `convert` meets its contract: a refusal leaves the output as it was, and else the form is measured and then written.
 use borrow.Author.Needs.{needs}
-use native.Mathlib.Omega.{arith}
 use Rattle.format.specs.Order.{Bytes}
 use Rattle.convert.proofs.Conversions.{input-refused, form-fits, too-short, form-written}
 use Rattle.convert.proofs.convert.Statement.{statement}
