@@ -1,4 +1,5 @@
-/* The run folder for C and C++: run reader, part of a node, fold reader, unroller, folder, index builder and finder.
+/* The run folder for C and C++: run reader, part of a node, fold reader, unroller, folder, index builder and finder; and of
+ * the short command family a reader, a folder and both conversions.
  *
  * For C99 or C++11 and later. The functions are those of the crate `embed`, proved. scripts/library.sh builds
  * target/lib/librunfold.a (x86-64 Linux), and scripts/install.sh installs it with this header. Build a program with one of
@@ -22,7 +23,8 @@
  * Memory. The caller lends all of it, so there is nothing to free: no function allocates or keeps anything, and the library
  * calls nothing but memset. Calls may run in several threads at once. RUNFOLD_WORK and RUNFOLD_ROOM say how much to lend to the
  * folder for as many nodes as the run reader counts, RUNFOLD_MAX_RUN how much to the unroller, RUNFOLD_MAX_NODES how many
- * entries to the index builder, RUNFOLD_STACK how much stack a call takes.
+ * entries to the index builder, RUNFOLD_STACK how much stack a call takes. What is enough for the folder is enough for the
+ * short folder, and RUNFOLD_ROOM(RUNFOLD_MAX_NODES) bytes are for either conversion.
  *
  * Slices. A slice passes as a pointer and a number of entries. One of 0 entries may have a null pointer, for nothing is read or
  * written there (tested by scripts/c.sh, not proved): an empty `answer` is answered with RUNFOLD_SHORT, else an empty `steps`
@@ -36,8 +38,13 @@
  *
  * Marks. `marks` has 256 entries too: 1 for a label that may stand in no repeat, as that of a premix bag which is tipped by
  * hand, and 0 for any other. A marked label, of a step or of a group, stands nowhere inside a repeat, also not in a group or
- * another repeat in it: the fold reader refuses that by 19, and the folder writes no such fold. A marked group may hold
- * repeats. The other functions know no marks.
+ * another repeat in it: fold reader and short reader refuse that by 19, and neither folder writes such a fold. A marked group
+ * may hold repeats. The other functions know no marks.
+ *
+ * Short folds. In the short command family a repeat is opened by 22, with one byte of count and one byte of width, wherever
+ * both are below 256, and by 20 elsewhere; 21 closes either. So every fold has one short form, and comes back from it as it
+ * was. Short reader and runfold_to_long take short folds, short folder and runfold_to_short write them. No other function
+ * knows 22, and it stands in no run: it is refused there by 1.
  *
  * Index. `offsets` and `before` have an entry each for every outermost item of a fold, that is for each step, group and repeat
  * that stands in nothing else: its byte offset in the fold, and the number of the run's nodes before it. Kept beside the fold,
@@ -51,10 +58,12 @@
  *     answer[RUNFOLD_PLACE]     place of the refusal: a byte offset in the input, 0 for refusals 11 to 18 and on success
  *
  * What the other five are depends on the function, so an entry can have several names; they are 0 where the function has no
- * such value. Of readers, unroller and folder:
+ * such value. Of readers, unroller, folders and conversions (the short reader has what the fold reader has, the short folder
+ * what the folder has):
  *
  *     answer[RUNFOLD_NODES]     nodes of the run (run reader, fold reader; the folder leaves 0, so ask the run reader first)
- *     answer[RUNFOLD_LENGTH]    bytes: of the run that the fold unrolls to (fold reader), or those written (unroller, folder)
+ *     answer[RUNFOLD_LENGTH]    bytes: of the run that the fold unrolls to (fold reader), or those written (unroller, folder,
+ *                               conversions)
  *     answer[RUNFOLD_COST]      cost of the fold (fold reader, folder)
  *     answer[RUNFOLD_STEPS]     nodes of the run that are steps (run reader, fold reader)
  *     answer[RUNFOLD_DEPTH]     the most groups of the run open together, 0 for a run without groups (run reader, fold reader)
@@ -84,7 +93,7 @@ extern "C" {
 
 /* The version of the library, as numbers and as text. */
 #define RUNFOLD_VERSION_MAJOR 0
-#define RUNFOLD_VERSION_MINOR 7
+#define RUNFOLD_VERSION_MINOR 8
 #define RUNFOLD_VERSION_PATCH 0
 #define RUNFOLD_VERSION \
     RUNFOLD_QUOTE(RUNFOLD_VERSION_MAJOR) "." RUNFOLD_QUOTE(RUNFOLD_VERSION_MINOR) "." RUNFOLD_QUOTE(RUNFOLD_VERSION_PATCH)
@@ -107,7 +116,7 @@ extern "C" {
 /* The entries that each work slice of the folder needs for a run of n nodes; n is evaluated twice. */
 #define RUNFOLD_WORK(n) (RUNFOLD_SIZE(n) * (RUNFOLD_SIZE(n) + 1) / 2)
 
-/* A fold of a run of n nodes has at most so many bytes, also where it is longer than the run. */
+/* A fold of a run of n nodes has at most so many bytes, also where it is longer than the run; its short form is no longer. */
 #define RUNFOLD_ROOM(n) (RUNFOLD_SIZE(n) * 4)
 
 /* A run that is not refused has at most so many bytes: room for whatever the unroller writes. */
@@ -117,8 +126,8 @@ extern "C" {
  * prints each function's own, and not proved. */
 #define RUNFOLD_STACK 98304
 
-/* The entries of an answer, and where each stands: the first two for every function, then the others of readers, unroller and
- * folder, that of the index builder, and those of the finder. */
+/* The entries of an answer, and where each stands: the first two for every function, then the others of readers, unroller,
+ * folders and conversions, that of the index builder, and those of the finder. */
 #define RUNFOLD_ENTRIES 7
 enum {
     RUNFOLD_REFUSAL = 0,
@@ -159,6 +168,7 @@ enum {
     RUNFOLD_FALSE_INDEX = 17,       /* index not the one that the builder writes */
     RUNFOLD_WRONG_MARKS = 18,       /* marks not of 256 entries, or an entry above 1; tested right after 12 */
     RUNFOLD_MARKED_IN_REPEAT = 19,  /* a marked label inside a repeat, of a step or a group; tested right before 10 */
+    RUNFOLD_LONG_IN_SHORT = 20,     /* 20 in a short fold where 22 would do; tested right after 7 */
     RUNFOLD_SHORT = 255             /* the answer slice has fewer than RUNFOLD_ENTRIES entries */
 };
 
@@ -206,6 +216,8 @@ static inline const char *runfold_refusal_text(uint64_t number)
         return "marks not of 256 entries, or an entry above 1";
     case RUNFOLD_MARKED_IN_REPEAT:
         return "a marked label inside a repeat";
+    case RUNFOLD_LONG_IN_SHORT:
+        return "20 in the short family with count and width both below 256";
     case RUNFOLD_SHORT:
         return "answer slice too short";
     default:
@@ -258,6 +270,34 @@ uint8_t runfold_index(const uint8_t *fold, size_t fold_len, uint32_t *offsets, s
  * number or length is refusal 17. Writes `answer` alone. */
 uint8_t runfold_find(const uint8_t *fold, size_t fold_len, const uint32_t *offsets, size_t offsets_len, const uint32_t *before,
                      size_t before_len, uint64_t position, uint64_t *answer, size_t answer_len);
+
+/* The short reader, the fold reader of short folds: refusals 1, 3 to 12, 15 and 18 to 20, or what the fold reader answers for
+ * the fold that it is the short form of. Writes `answer` alone. */
+uint8_t runfold_read_short(const uint8_t *fold, size_t fold_len, size_t limit, const uint16_t *steps, size_t steps_len,
+                           const uint16_t *groups, size_t groups_len, const uint8_t *marks, size_t marks_len, uint16_t first,
+                           uint16_t each, uint64_t *answer, size_t answer_len);
+
+/* The short folder, which folds as runfold_fold does and writes the short form of that fold: refusals, cost and work slices
+ * are as there; `out` and the length are those of the short form, which is also what refusal 14 measures. That it is shorter
+ * decides nothing about which fold it is. */
+uint8_t runfold_fold_short(const uint8_t *run, size_t run_len, size_t limit, const uint16_t *steps, size_t steps_len,
+                           const uint16_t *groups, size_t groups_len, const uint8_t *marks, size_t marks_len, uint16_t first,
+                           uint16_t each, uint32_t *costs, size_t costs_len, uint32_t *choices, size_t choices_len,
+                           uint8_t *out, size_t out_len, uint64_t *answer, size_t answer_len);
+
+/* The conversion of a fold to its short form: refusals 1, 3 to 6, 8 to 10 and 14, or the length of the short form. Like the
+ * index builder it takes neither limit nor marks. As many bytes of output as the fold has are always enough.
+ * On success the short form stands in the first bytes of `out`, that many, and the others stay as they are; after a refusal
+ * `out` stays as it is. */
+uint8_t runfold_to_short(const uint8_t *fold, size_t fold_len, uint8_t *out, size_t out_len, uint64_t *answer,
+                         size_t answer_len);
+
+/* The conversion of a short fold to the fold that it is the short form of: refusals 1, 3 to 6, 8 to 10, 20 and 14, or the
+ * length of the fold. It takes neither limit nor marks. RUNFOLD_ROOM(nodes) bytes of output are always enough.
+ * On success the fold stands in the first bytes of `out`, that many, and the others stay as they are; after a refusal `out`
+ * stays as it is. */
+uint8_t runfold_to_long(const uint8_t *fold, size_t fold_len, uint8_t *out, size_t out_len, uint64_t *answer,
+                        size_t answer_len);
 
 #ifdef __cplusplus
 }

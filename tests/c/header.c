@@ -23,7 +23,7 @@ HOLDS(refusals, RUNFOLD_OK == 0 && RUNFOLD_UNKNOWN_COMMAND == 1 && RUNFOLD_REPEA
       RUNFOLD_DEEP == 8 && RUNFOLD_FALSE_WIDTH == 9 && RUNFOLD_MANY_NODES == 10 && RUNFOLD_STEP_TABLE_SIZE == 11 &&
       RUNFOLD_LIMIT_SIZE == 12 && RUNFOLD_WORK_SIZE == 13 && RUNFOLD_OUTPUT_SIZE == 14 && RUNFOLD_GROUP_TABLE_SIZE == 15 &&
       RUNFOLD_PAST_END == 16 && RUNFOLD_FALSE_INDEX == 17 && RUNFOLD_WRONG_MARKS == 18 && RUNFOLD_MARKED_IN_REPEAT == 19 &&
-      RUNFOLD_SHORT == 255);
+      RUNFOLD_LONG_IN_SHORT == 20 && RUNFOLD_SHORT == 255);
 
 const char *fold_small(const uint8_t *run, size_t run_len, const uint16_t *steps, const uint16_t *groups, const uint8_t *marks);
 
@@ -53,4 +53,16 @@ uint64_t find_first(const uint8_t *fold, size_t fold_len)
     indexed = RUNFOLD_SIZE(answer[RUNFOLD_INDEXED]);
     runfold_find(fold, fold_len, offsets, indexed, before, indexed, 0, answer, RUNFOLD_ENTRIES);
     return answer[RUNFOLD_OFFSET];
+}
+
+uint64_t there_and_back(const uint8_t *fold, size_t fold_len);
+
+uint64_t there_and_back(const uint8_t *fold, size_t fold_len)
+{
+    uint8_t short_form[RUNFOLD_ROOM(RUNFOLD_MAX_NODES)], back[RUNFOLD_ROOM(RUNFOLD_MAX_NODES)];
+    uint64_t answer[RUNFOLD_ENTRIES];
+
+    runfold_to_short(fold, fold_len, short_form, sizeof short_form, answer, RUNFOLD_ENTRIES);
+    runfold_to_long(short_form, RUNFOLD_SIZE(answer[RUNFOLD_LENGTH]), back, sizeof back, answer, RUNFOLD_ENTRIES);
+    return answer[RUNFOLD_LENGTH];
 }

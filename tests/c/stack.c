@@ -38,6 +38,9 @@ enum { INPUTS = sizeof inputs / sizeof inputs[0] };
  * folder nests as many repeats as it can: ten round 1,024 steps, nine round 512. */
 static uint8_t bytes[RUNFOLD_MAX_RUN];
 static size_t len;
+/* The same with its repeats opened as in the short family. */
+static uint8_t brief[RUNFOLD_MAX_RUN];
+static size_t brief_len;
 static uint16_t table[256];
 static const uint8_t marks[256];
 static uint32_t costs[RUNFOLD_WORK(RUNFOLD_MAX_NODES)], choices[RUNFOLD_WORK(RUNFOLD_MAX_NODES)];
@@ -92,6 +95,29 @@ static void find(void)
     result = runfold_find(bytes, len, offsets, indexed, before, indexed, last, answer, RUNFOLD_ENTRIES);
 }
 
+static void read_short(void)
+{
+    result = runfold_read_short(brief, brief_len, RUNFOLD_MAX_WIDTH, table, 256, table, 256, marks, 256, 0, 1, answer,
+                                RUNFOLD_ENTRIES);
+}
+
+static void fold_short(void)
+{
+    result = runfold_fold_short(bytes, len, RUNFOLD_MAX_WIDTH, table, 256, table, 256, marks, 256, 0, 1, costs,
+                                RUNFOLD_WORK(RUNFOLD_MAX_NODES), choices, RUNFOLD_WORK(RUNFOLD_MAX_NODES), out, sizeof out,
+                                answer, RUNFOLD_ENTRIES);
+}
+
+static void to_short(void)
+{
+    result = runfold_to_short(bytes, len, out, sizeof out, answer, RUNFOLD_ENTRIES);
+}
+
+static void to_long(void)
+{
+    result = runfold_to_long(brief, brief_len, out, sizeof out, answer, RUNFOLD_ENTRIES);
+}
+
 static const struct function {
     const char *name;
     void (*call)(void);
@@ -104,6 +130,10 @@ static const struct function {
     {"runfold_fold", fold, 1},
     {"runfold_index", index_fold, 0},
     {"runfold_find", find, 0},
+    {"runfold_read_short", read_short, 0},
+    {"runfold_fold_short", fold_short, 1},
+    {"runfold_to_short", to_short, 0},
+    {"runfold_to_long", to_long, 0},
 };
 enum { FUNCTIONS = sizeof functions / sizeof functions[0] };
 
@@ -113,21 +143,23 @@ static void fail(const char *what)
     exit(1);
 }
 
-static void build(const struct input *in)
+/* Writes the commands of an input, a repeat opened by 22 where that is wanted and its width allows it. */
+static size_t write_commands(const struct input *in, int with_22, uint8_t *to)
 {
-    uint8_t *p = bytes;
-    int nodes = in->groups + (in->steps << in->repeats);
+    uint8_t *p = to;
 
     for (int i = 0; i < in->groups; i++) {
         *p++ = 0x11;
         *p++ = 0x07;
     }
     for (int i = in->repeats; i > 0; i--) {
-        int width = in->steps << (i - 1);
-        *p++ = 0x20;
-        *p++ = 0;
+        int width = in->steps << (i - 1), small = with_22 && width < 256;
+        *p++ = small ? 0x22 : 0x20;
+        if (!small)
+            *p++ = 0;
         *p++ = 2;
-        *p++ = (uint8_t)(width / 256);
+        if (!small)
+            *p++ = (uint8_t)(width / 256);
         *p++ = (uint8_t)(width % 256);
     }
     for (int i = 0; i < in->steps; i++) {
@@ -138,7 +170,15 @@ static void build(const struct input *in)
         *p++ = 0x21;
     for (int i = 0; i < in->groups; i++)
         *p++ = 0x12;
-    len = (size_t)(p - bytes);
+    return (size_t)(p - to);
+}
+
+static void build(const struct input *in)
+{
+    int nodes = in->groups + (in->steps << in->repeats);
+
+    len = write_commands(in, 0, bytes);
+    brief_len = write_commands(in, 1, brief);
 
     /* One outermost item, or the steps themselves. */
     indexed = in->groups + in->repeats > 0 ? 1 : (size_t)in->steps;
@@ -224,10 +264,42 @@ static int lives(void (*call)(void), size_t size)
     return 1;
 }
 
+/* The most stack that each function takes, and on which input. */
+static size_t most[FUNCTIONS];
+static int worst[FUNCTIONS];
+
+/* Measures every call and prints a table, beside what an empty call takes. */
+static void measure(size_t own)
+{
+    printf("bytes of stack on\n");
+    for (int i = 0; i < INPUTS; i++)
+        printf("%3d  %s\n", i + 1, inputs[i].name);
+    printf("\n%18s", "");
+    for (int i = 0; i < INPUTS; i++)
+        printf("%8d", i + 1);
+    printf("\n");
+    for (int f = 0; f < FUNCTIONS; f++) {
+        printf("%-18s", functions[f].name);
+        for (int i = 0; i < INPUTS; i++) {
+            size_t bytes_used;
+            build(&inputs[i]);
+            bytes_used = used(functions[f].call) - own;
+            printf("%8zu", bytes_used);
+            if (functions[f].call != part && result != wanted(&functions[f], &inputs[i]))
+                fail(": another answer than it should be");
+            if (bytes_used > most[f]) {
+                most[f] = bytes_used;
+                worst[f] = i;
+            }
+        }
+        printf("\n");
+    }
+    printf("\n");
+}
+
 int main(void)
 {
-    size_t own, most[FUNCTIONS] = {0}, largest = 0;
-    int worst[FUNCTIONS] = {0};
+    size_t own, largest = 0;
 
     for (int i = 0; i < 256; i++)
         table[i] = 1;
@@ -241,26 +313,7 @@ int main(void)
     }
 
     own = used(nothing);
-    printf("%-34s", "bytes of stack");
-    for (int f = 0; f < FUNCTIONS; f++)
-        printf("%19s", functions[f].name);
-    printf("\n");
-    for (int i = 0; i < INPUTS; i++) {
-        build(&inputs[i]);
-        printf("%-34s", inputs[i].name);
-        for (int f = 0; f < FUNCTIONS; f++) {
-            size_t bytes_used = used(functions[f].call) - own;
-            printf("%19zu", bytes_used);
-            if (functions[f].call != part && result != wanted(&functions[f], &inputs[i]))
-                fail(": another answer than it should be");
-            if (bytes_used > most[f]) {
-                most[f] = bytes_used;
-                worst[f] = i;
-            }
-        }
-        printf("\n");
-    }
-    printf("\n");
+    measure(own);
     for (int f = 0; f < FUNCTIONS; f++) {
         size_t pages = RUNFOLD_STACK / PAGE;
         build(&inputs[worst[f]]);

@@ -5,7 +5,7 @@
 #include <stdio.h>
 #include <string.h>
 
-enum { LAST = RUNFOLD_MARKED_IN_REPEAT };
+enum { LAST = RUNFOLD_LONG_IN_SHORT };
 
 int main(void)
 {

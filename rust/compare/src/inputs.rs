@@ -1,6 +1,7 @@
 //! Inputs for the comparisons and the benchmark. All follow from a seed.
 
-use crate::reference::{count_nodes, encode, expand, Item, Prices};
+use crate::reference::{bytes_in, count_nodes, expand, Family, Item, Prices};
+use runfold::MAX_NODES;
 
 /// A small generator of pseudo-random numbers: a counter with a fixed odd stride, whose bits are mixed by shifts and products
 /// (stride and factors are the first bits of the golden ratio, of pi and of e).
@@ -40,9 +41,7 @@ impl Random {
 }
 
 pub fn bytes_of(items: &[Item]) -> Vec<u8> {
-    let mut out = Vec::new();
-    encode(items, &mut out);
-    out
+    bytes_in(Family::Long, items)
 }
 
 /// Calls `each` on every run of exactly n nodes over labels 1 and 2: every shape, every node with every label.
@@ -121,6 +120,56 @@ pub fn wide_fold(r: &mut Random, nodes: usize, labels: usize, groups: usize, rep
                 items.push(item);
             }
         }
+    }
+    items
+}
+
+/// A fold with a repeat at the border of the short family, its count or its width near 256, and others in it and beside it.
+pub fn border_fold(r: &mut Random, labels: usize) -> Vec<Item> {
+    let near = 254 + r.below(4);
+    let (count, width) = if r.once_in(2) { (near, 1 + r.below(3)) } else { (2 + r.below(2), near) };
+    // Half of the nodes that are left at most, so that there are some for what stands beside it.
+    let spare = (MAX_NODES - count * width) / (2 * count);
+    let mut items = vec![Item::Repeat(count, width, of_width(r, width, spare, labels, 5))];
+    // A sibling that can be repeated in its turn by a small width.
+    if r.once_in(2) {
+        items = vec![Item::Group(r.below(labels) as u8, items)];
+        let most = MAX_NODES / count_nodes(&items);
+        if most > 1 && r.once_in(2) {
+            items = vec![Item::Repeat(2 + r.below(most - 1), 1, items)];
+        }
+    }
+    for _ in 0..r.below(3) {
+        let size = 1 + r.below(20);
+        let beside = random_fold(r, size, labels, 3, 3);
+        if count_nodes(&items) + count_nodes(&beside) <= MAX_NODES {
+            let at = if r.once_in(2) { 0 } else { items.len() };
+            items.splice(at..at, beside);
+        }
+    }
+    items
+}
+
+/// Items of that many siblings: steps, repeats and, for what is spare, groups that hold so many nodes more at most.
+fn of_width(r: &mut Random, width: usize, mut spare: usize, labels: usize, repeats: usize) -> Vec<Item> {
+    let (mut items, mut left) = (Vec::new(), width);
+    while left > 0 {
+        let kind = r.below(8);
+        let item = if kind == 0 && left >= 2 && repeats > 0 {
+            let count = if r.once_in(4) { 2 + r.below(left - 1) } else { 2 };
+            let width = 1 + r.below(left / count);
+            let body = of_width(r, width, spare / count, labels, repeats - 1);
+            spare -= count * (count_nodes(&body) - width);
+            Item::Repeat(count, width, body)
+        } else if kind <= 2 && spare > 0 {
+            let inside = 1 + r.below(spare.min(6));
+            spare -= inside;
+            Item::Group(r.below(labels) as u8, of_width(r, inside, 0, labels, repeats))
+        } else {
+            Item::Step(r.below(labels) as u8)
+        };
+        left -= siblings(std::slice::from_ref(&item));
+        items.push(item);
     }
     items
 }
@@ -218,9 +267,77 @@ pub fn noise(r: &mut Random, items: &mut [Item], labels: usize, rarity: usize) {
     }
 }
 
+/// A command that opens a repeat: its offset, the bytes that it has, and its operands.
+#[derive(Clone, Copy, Debug)]
+pub struct Opening {
+    pub at: usize,
+    pub size: usize,
+    pub count: usize,
+    pub width: usize,
+}
+
+/// The commands of either family that open a repeat, up to the first byte that is no command or the first that is cut off.
+pub fn openings(bytes: &[u8]) -> Vec<Opening> {
+    let (mut openings, mut at) = (Vec::new(), 0);
+    while let Some(&command) = bytes.get(at) {
+        let size = match command {
+            0x10 | 0x11 => 2,
+            0x12 | 0x21 => 1,
+            0x20 => 5,
+            0x22 => 3,
+            _ => break,
+        };
+        let Some(operands) = bytes.get(at + 1..at + size) else { break };
+        if let (0x20 | 0x22, (count, width)) = (command, operands.split_at(size / 2)) {
+            let [count, width] = [count, width].map(|number| number.iter().fold(0, |n, &b| 256 * n + usize::from(b)));
+            openings.push(Opening { at, size, count, width });
+        }
+        at += size;
+    }
+    openings
+}
+
+/// The bytes with each of these repeats opened by a `22` where it is to be, which has room for the low bytes of the operands
+/// alone, and by a `20` elsewhere.
+pub fn reopened(bytes: &[u8], short: impl Fn(&Opening) -> bool) -> Vec<u8> {
+    let (mut out, mut copied) = (Vec::new(), 0);
+    for opening in openings(bytes) {
+        let Opening { at, size, count, width } = opening;
+        out.extend(&bytes[copied..at]);
+        if short(&opening) {
+            out.extend([0x22, count as u8, width as u8]);
+        } else {
+            let [count, width] = [count, width].map(|number| (number as u16).to_be_bytes());
+            out.extend([0x20, count[0], count[1], width[0], width[1]]);
+        }
+        copied = at + size;
+    }
+    out.extend(&bytes[copied..]);
+    out
+}
+
+/// The bytes with their repeats opened as in the short family: of a sound fold its short form.
+pub fn shortened(bytes: &[u8]) -> Vec<u8> {
+    reopened(bytes, |opening| opening.count < 256 && opening.width < 256)
+}
+
+/// A short fold that is cut off in a command that opens a repeat, or opens one of them by the command that it should not, or is
+/// damaged as other bytes are.
+pub fn damaged_short(r: &mut Random, bytes: &[u8]) -> Vec<u8> {
+    let openings = openings(bytes);
+    if openings.is_empty() || r.once_in(2) {
+        return damaged(r, bytes);
+    }
+    let Opening { at, size, .. } = *r.pick(&openings);
+    match r.below(3) {
+        0 => bytes[..at + 1 + r.below(size - 1)].to_vec(),
+        _ => reopened(bytes, |other| (bytes[other.at] == 0x22) != (other.at == at)),
+    }
+}
+
 /// The bytes with some of them changed, taken out, doubled or cut off.
 pub fn damaged(r: &mut Random, bytes: &[u8]) -> Vec<u8> {
-    let commands = [0x10, 0x11, 0x12, 0x20, 0x21, 0x00, 0x01, 0x02];
+    let commands = [0x10, 0x11, 0x12, 0x20, 0x21, 0x22, 0x00, 0x01, 0x02];
     let mut out = bytes.to_vec();
     for _ in 0..1 + r.below(3) {
         if out.is_empty() {
@@ -246,8 +363,8 @@ pub fn damaged(r: &mut Random, bytes: &[u8]) -> Vec<u8> {
     out
 }
 
-/// Bytes that are mostly commands, most of them well placed.
-pub fn random_commands(r: &mut Random, commands: usize) -> Vec<u8> {
+/// Bytes that are mostly commands of a family, most of them well placed.
+pub fn random_commands(r: &mut Random, family: Family, commands: usize) -> Vec<u8> {
     let mut out = Vec::new();
     let mut open = Vec::new();
     for _ in 0..commands {
@@ -258,7 +375,11 @@ pub fn random_commands(r: &mut Random, commands: usize) -> Vec<u8> {
                 open.push(0x12);
             }
             11..=13 => {
-                out.extend([0x20, 0, r.below(5) as u8, 0, r.below(4) as u8]);
+                let [count, width] = [5, 4].map(|most| r.below(most) as u8);
+                match family {
+                    Family::Short if !r.once_in(8) => out.extend([0x22, count, width]),
+                    _ => out.extend([0x20, 0, count, 0, width]),
+                }
                 open.push(0x21);
             }
             14..=17 => out.push(open.pop().unwrap_or(0x12)),

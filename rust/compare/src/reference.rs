@@ -1,7 +1,8 @@
-//! An independent implementation, to compare the library with: readers, unroller, folder, index builder and finder, written
-//! from the rules of docs/FORMAT.md and from the report, and not from the Rattle code. It is plain and slow. The folder is the
-//! report's dynamic programme over the intervals of each sequence; ties are settled by the repeats of whole folds, and then by
-//! comparing their bytes. The finder writes out all nodes of the run.
+//! An independent implementation, to compare the library with: readers, unroller, folder, index builder and finder, and the
+//! short family's reader, folder and conversions, written from the rules of docs/FORMAT.md and from the report, and not from
+//! the Rattle code. It is plain and slow. The folder is the report's dynamic programme over the intervals of each sequence;
+//! ties are settled by the repeats of whole folds, and then by comparing their bytes. The finder writes out all nodes of the
+//! run. A form of a fold is converted to the other by way of its items.
 
 use std::cmp::Ordering;
 
@@ -95,21 +96,53 @@ pub enum Item {
     Repeat(usize, usize, Vec<Item>),
 }
 
-/// The bytes of a sequence.
-pub fn encode(items: &[Item], out: &mut Vec<u8>) {
+/// The command families: what a repeat opens with is `20` in the long one; in the short one it is `22` where count and width
+/// are both below 256, and `20` elsewhere.
+#[derive(Clone, Copy, Debug, PartialEq, Eq)]
+pub enum Family {
+    Long,
+    Short,
+}
+
+impl Family {
+    /// Whether a repeat of this count and width opens with `22`.
+    fn has_22(self, count: usize, width: usize) -> bool {
+        self == Family::Short && count < 256 && width < 256
+    }
+
+    pub fn other(self) -> Family {
+        match self {
+            Family::Long => Family::Short,
+            Family::Short => Family::Long,
+        }
+    }
+}
+
+/// The bytes of a sequence in a family.
+pub fn bytes_in(family: Family, items: &[Item]) -> Vec<u8> {
+    let mut bytes = Vec::new();
+    encode(items, family, &mut bytes);
+    bytes
+}
+
+fn encode(items: &[Item], family: Family, out: &mut Vec<u8>) {
     for item in items {
         match item {
             Item::Step(label) => out.extend([0x10, *label]),
             Item::Group(label, body) => {
                 out.extend([0x11, *label]);
-                encode(body, out);
+                encode(body, family, out);
                 out.push(0x12);
             }
             Item::Repeat(count, width, body) => {
-                out.push(0x20);
-                out.extend((*count as u16).to_be_bytes());
-                out.extend((*width as u16).to_be_bytes());
-                encode(body, out);
+                if family.has_22(*count, *width) {
+                    out.extend([0x22, *count as u8, *width as u8]);
+                } else {
+                    out.push(0x20);
+                    out.extend((*count as u16).to_be_bytes());
+                    out.extend((*width as u16).to_be_bytes());
+                }
+                encode(body, family, out);
                 out.push(0x21);
             }
         }
@@ -184,124 +217,175 @@ struct Open {
     length_before: u64,
 }
 
-/// Reads commands from left to right by the table of numbered refusals. `limit` and `prices` are those of a fold; a run has
-/// neither and no repeats.
-fn read(bytes: &[u8], limit: Option<usize>, prices: Option<&Prices>) -> Result<Answer, Answer> {
-    let a_run = limit.is_none();
-    let limit = limit.unwrap_or(0) as u64;
-    let mut open: Vec<Open> = Vec::new();
-    let (mut siblings, mut nodes, mut length, mut cost) = (0u64, 0u64, 0u64, 0u64);
-    let mut at = 0;
-    let mut just_opened = false;
-    while at < bytes.len() {
-        let command = bytes[at];
-        let refuse = |number| Err(Answer::refuse(number, at));
+/// What an input is read by.
+#[derive(Clone, Copy)]
+struct Rules<'a> {
+    /// That of a fold; a run has none, for it has no repeats.
+    family: Option<Family>,
+    limit: usize,
+    prices: Option<&'a Prices>,
+}
+
+const RUN: Rules = Rules { family: None, limit: 0, prices: None };
+
+/// Those of a fold for who takes neither limit nor prices: this is the highest width operand that there is.
+fn alone<'a>(family: Family) -> Rules<'a> {
+    Rules { family: Some(family), limit: 65_535, prices: None }
+}
+
+/// An input that is read from left to right: the offset of the next command, and what the commands before it came to.
+struct Reader<'a> {
+    bytes: &'a [u8],
+    rules: Rules<'a>,
+    at: usize,
+    open: Vec<Open>,
+    siblings: u64,
+    nodes: u64,
+    length: u64,
+    cost: u64,
+    just_opened: bool,
+}
+
+/// Reads commands from left to right by the table of numbered refusals.
+fn read(bytes: &[u8], rules: Rules) -> Result<Answer, Answer> {
+    let open = Vec::new();
+    let mut reader =
+        Reader { bytes, rules, at: 0, open, siblings: 0, nodes: 0, length: 0, cost: 0, just_opened: false };
+    while reader.at < bytes.len() {
+        reader.command()?;
+    }
+    if !reader.open.is_empty() {
+        return Err(Answer::refuse(3, bytes.len()));
+    }
+    let Reader { nodes, length, cost, .. } = reader;
+    // Steps and depth are those of the items themselves, all repeats written out.
+    let (steps, depth) = shape(&expand(&decode(bytes)));
+    Ok(Answer { refusal: 0, place: 0, nodes: nodes as usize, length: length as usize, cost, steps, depth })
+}
+
+/// Each of these answers the first refusal that applies at the command, or takes the command in.
+impl Reader<'_> {
+    fn refuse<T>(&self, number: u8) -> Result<T, Answer> {
+        Err(Answer::refuse(number, self.at))
+    }
+
+    fn operand(&self, k: usize) -> u64 {
+        self.bytes[self.at + 1 + k] as u64
+    }
+
+    fn price(&self, of: impl Fn(&Prices) -> u64) -> u64 {
+        self.rules.prices.map_or(0, of)
+    }
+
+    /// How many things are open that this close ends.
+    fn count_open(&self, close: u8) -> usize {
+        self.open.iter().filter(|open| open.close == close).count()
+    }
+
+    fn command(&mut self) -> Result<(), Answer> {
+        let command = self.bytes[self.at];
         let operands = match command {
             0x10 | 0x11 => 1,
             0x20 => 4,
             0x12 | 0x21 => 0,
-            _ => return refuse(1),
+            0x22 if self.rules.family == Some(Family::Short) => 2,
+            _ => return self.refuse(1),
         };
-        if a_run && (command == 0x20 || command == 0x21) {
-            return refuse(2);
+        if self.rules.family.is_none() && (command == 0x20 || command == 0x21) {
+            return self.refuse(2);
         }
-        if bytes.len() - at - 1 < operands {
-            return Err(Answer::refuse(3, bytes.len()));
+        if self.bytes.len() - self.at - 1 < operands {
+            return Err(Answer::refuse(3, self.bytes.len()));
         }
-        let operand = |k: usize| bytes[at + 1 + k] as u64;
         match command {
-            0x10 | 0x11 => {
-                let groups = open.iter().filter(|o| o.close == 0x12).count();
-                if command == 0x11 && groups == 8 {
-                    return refuse(8);
-                }
-                let repeated = open.iter().any(|o| o.close == 0x21);
-                if repeated && prices.is_some_and(|p| p.marked(bytes[at + 1])) {
-                    return refuse(19);
-                }
-                if nodes + 1 > 1024 {
-                    return refuse(10);
-                }
-                nodes += 1;
-                if command == 0x10 {
-                    cost += prices.map_or(0, |p| p.step(bytes[at + 1]));
-                    siblings += 1;
-                    length += 2;
-                    just_opened = false;
-                } else {
-                    cost += prices.map_or(0, |p| p.group(bytes[at + 1]));
-                    open.push(Open {
-                        close: 0x12,
-                        count: 1,
-                        width: 0,
-                        siblings_outside: siblings,
-                        nodes_before: nodes,
-                        length_before: length,
-                    });
-                    siblings = 0;
-                    length += 2;
-                    just_opened = true;
-                }
-            }
+            0x10 | 0x11 => self.node(command, self.bytes[self.at + 1])?,
             0x20 => {
-                let count = operand(0) * 256 + operand(1);
-                let width = operand(2) * 256 + operand(3);
-                if count < 2 {
-                    return refuse(6);
-                }
-                if width > limit {
-                    return refuse(7);
-                }
-                if open.iter().filter(|o| o.close == 0x21).count() == 10 {
-                    return refuse(8);
-                }
-                cost += prices.map_or(0, |p| p.repeat(count as usize));
-                open.push(Open {
-                    close: 0x21,
-                    count,
-                    width,
-                    siblings_outside: siblings,
-                    nodes_before: nodes,
-                    length_before: length,
-                });
-                siblings = 0;
-                just_opened = true;
+                let [count, width] = [0, 2].map(|k| self.operand(k) * 256 + self.operand(k + 1));
+                self.repeat(command, count, width)?
             }
-            _ => {
-                match open.last() {
-                    Some(innermost) if innermost.close == command => {}
-                    _ => return refuse(4),
-                }
-                if just_opened {
-                    return refuse(5);
-                }
-                let ended = open.pop().unwrap();
-                if command == 0x12 {
-                    siblings = ended.siblings_outside + 1;
-                    length += 1;
-                } else {
-                    let more = ended.count - 1;
-                    if nodes + more * (nodes - ended.nodes_before) > 1024 {
-                        return refuse(10);
-                    }
-                    if siblings != ended.width {
-                        return refuse(9);
-                    }
-                    nodes += more * (nodes - ended.nodes_before);
-                    length += more * (length - ended.length_before);
-                    siblings = ended.siblings_outside + ended.count * siblings;
-                }
-                just_opened = false;
-            }
+            0x22 => self.repeat(command, self.operand(0), self.operand(1))?,
+            _ => self.close(command)?,
         }
-        at += 1 + operands;
+        self.at += 1 + operands;
+        Ok(())
     }
-    if !open.is_empty() {
-        return Err(Answer::refuse(3, bytes.len()));
+
+    fn node(&mut self, command: u8, label: u8) -> Result<(), Answer> {
+        if command == 0x11 && self.count_open(0x12) == 8 {
+            return self.refuse(8);
+        }
+        if self.count_open(0x21) > 0 && self.rules.prices.is_some_and(|p| p.marked(label)) {
+            return self.refuse(19);
+        }
+        if self.nodes + 1 > 1024 {
+            return self.refuse(10);
+        }
+        self.nodes += 1;
+        if command == 0x10 {
+            self.cost += self.price(|p| p.step(label));
+            self.siblings += 1;
+            self.just_opened = false;
+        } else {
+            self.cost += self.price(|p| p.group(label));
+            self.enter(0x12, 1, 0);
+        }
+        self.length += 2;
+        Ok(())
     }
-    // Steps and depth are those of the items themselves, all repeats written out.
-    let (steps, depth) = shape(&expand(&decode(bytes)));
-    Ok(Answer { refusal: 0, place: 0, nodes: nodes as usize, length: length as usize, cost, steps, depth })
+
+    fn repeat(&mut self, command: u8, count: u64, width: u64) -> Result<(), Answer> {
+        if count < 2 {
+            return self.refuse(6);
+        }
+        if width > self.rules.limit as u64 {
+            return self.refuse(7);
+        }
+        if command == 0x20 && self.rules.family.is_some_and(|f| f.has_22(count as usize, width as usize)) {
+            return self.refuse(20);
+        }
+        if self.count_open(0x21) == 10 {
+            return self.refuse(8);
+        }
+        self.cost += self.price(|p| p.repeat(count as usize));
+        self.enter(0x21, count, width);
+        Ok(())
+    }
+
+    /// Opens what this close ends.
+    fn enter(&mut self, close: u8, count: u64, width: u64) {
+        let Reader { siblings, nodes, length, .. } = *self;
+        let outside =
+            Open { close, count, width, siblings_outside: siblings, nodes_before: nodes, length_before: length };
+        self.open.push(outside);
+        self.siblings = 0;
+        self.just_opened = true;
+    }
+
+    fn close(&mut self, command: u8) -> Result<(), Answer> {
+        if self.open.last().is_none_or(|innermost| innermost.close != command) {
+            return self.refuse(4);
+        }
+        if self.just_opened {
+            return self.refuse(5);
+        }
+        let ended = self.open.pop().unwrap();
+        if command == 0x12 {
+            self.siblings = ended.siblings_outside + 1;
+            self.length += 1;
+            return Ok(());
+        }
+        let more = ended.count - 1;
+        if self.nodes + more * (self.nodes - ended.nodes_before) > 1024 {
+            return self.refuse(10);
+        }
+        if self.siblings != ended.width {
+            return self.refuse(9);
+        }
+        self.nodes += more * (self.nodes - ended.nodes_before);
+        self.length += more * (self.length - ended.length_before);
+        self.siblings = ended.siblings_outside + ended.count * self.siblings;
+        Ok(())
+    }
 }
 
 fn either(read: Result<Answer, Answer>) -> Answer {
@@ -310,7 +394,7 @@ fn either(read: Result<Answer, Answer>) -> Answer {
 
 /// The run reader.
 pub fn read_run(run: &[u8]) -> Answer {
-    either(read(run, None, None).map(|a| Answer { length: 0, ..a }))
+    either(read(run, RUN).map(|a| Answer { length: 0, ..a }))
 }
 
 /// Refusals 11, 15, 12 and 18, for those who take tables, a limit and marks.
@@ -332,10 +416,16 @@ fn terms(limit: usize, prices: Option<&Prices>) -> Result<(), Answer> {
 
 /// The fold reader.
 pub fn read_fold(fold: &[u8], limit: usize, prices: &Prices) -> Answer {
-    either(terms(limit, Some(prices)).and_then(|()| read(fold, Some(limit), Some(prices))))
+    read_in(Family::Long, fold, limit, prices)
 }
 
-/// The items of accepted bytes.
+/// The fold reader or, in the short family, the short reader.
+pub fn read_in(family: Family, fold: &[u8], limit: usize, prices: &Prices) -> Answer {
+    let rules = Rules { family: Some(family), limit, prices: Some(prices) };
+    either(terms(limit, rules.prices).and_then(|()| read(fold, rules)))
+}
+
+/// The items of accepted bytes, of either family.
 pub fn decode(bytes: &[u8]) -> Vec<Item> {
     let mut at = 0;
     let items = decode_from(bytes, &mut at);
@@ -365,29 +455,47 @@ fn decode_from(bytes: &[u8], at: &mut usize) -> Vec<Item> {
                 let two = |k: usize| u16::from_be_bytes([bytes[here + k], bytes[here + k + 1]]) as usize;
                 items.push(Item::Repeat(two(1), two(3), body));
             }
+            0x22 => {
+                *at += 3;
+                let body = decode_from(bytes, at);
+                *at += 1;
+                items.push(Item::Repeat(bytes[here + 1] as usize, bytes[here + 2] as usize, body));
+            }
             _ => break,
         }
     }
     items
 }
 
-/// The run that accepted bytes of a fold unroll to.
+/// The run that accepted bytes of a fold unroll to, of either family.
 pub fn run_of(fold: &[u8]) -> Vec<u8> {
-    let mut run = Vec::new();
-    encode(&expand(&decode(fold)), &mut run);
-    run
+    bytes_in(Family::Long, &expand(&decode(fold)))
+}
+
+/// The form that accepted bytes of a fold have in a family, whichever of the two they are of.
+pub fn form_in(family: Family, fold: &[u8]) -> Vec<u8> {
+    bytes_in(family, &decode(fold))
+}
+
+/// The conversion to a family's form, of a fold in the other one.
+pub fn convert(to: Family, fold: &[u8]) -> Result<Vec<u8>, Answer> {
+    read(fold, alone(to.other()))?;
+    Ok(form_in(to, fold))
+}
+
+/// The answer of unroller and conversions where the output has room for `room` bytes, and the bytes that are written.
+pub fn written(bytes: Result<Vec<u8>, Answer>, room: usize) -> (Answer, Vec<u8>) {
+    match bytes {
+        Err(refused) => (refused, Vec::new()),
+        Ok(bytes) if bytes.len() > room => (Answer::refuse(14, 0), Vec::new()),
+        Ok(bytes) => (Answer { length: bytes.len(), ..Answer::default() }, bytes),
+    }
 }
 
 /// The unroller: its answer where the output has room for `room` bytes, and the bytes it writes.
 pub fn unroll(fold: &[u8], limit: usize, room: usize) -> (Answer, Vec<u8>) {
-    if let Err(refused) = terms(limit, None).and_then(|()| read(fold, Some(limit), None)) {
-        return (refused, Vec::new());
-    }
-    let run = run_of(fold);
-    if run.len() > room {
-        return (Answer::refuse(14, 0), Vec::new());
-    }
-    (Answer { length: run.len(), ..Answer::default() }, run)
+    let rules = Rules { limit, ..alone(Family::Long) };
+    written(terms(limit, None).and_then(|()| read(fold, rules)).map(|_| run_of(fold)), room)
 }
 
 /// A node of the run that a fold unrolls to, and where the command that it comes from stands in the fold.
@@ -409,8 +517,7 @@ pub struct Listed {
 
 /// Lists a fold, for index builder and finder.
 pub fn list(fold: &[u8]) -> Result<Listed, Answer> {
-    // They take no limit: this is the highest width operand that there is.
-    read(fold, Some(65_535), None)?;
+    read(fold, alone(Family::Long))?;
     let mut listed = Listed::default();
     let mut at = 0;
     for item in decode(fold) {
@@ -626,15 +733,6 @@ fn compare_pairs(a: (&[u8], &[u8]), b: (&[u8], &[u8])) -> Ordering {
     a.0.cmp(&b.0[..cut]).then_with(|| a.1[..rest.min(a.1.len())].cmp(&b.0[cut..])).then_with(|| a.1[rest..].cmp(b.1))
 }
 
-/// The folder: its answer where the work slices have `costs` and `choices` entries and the output room for `room` bytes, and
-/// the bytes it writes.
-pub fn fold(run: &[u8], limit: usize, prices: &Prices, costs: usize, choices: usize, room: usize) -> (Answer, Vec<u8>) {
-    match solve(run, limit, prices) {
-        Err(refused) => (refused, Vec::new()),
-        Ok(solved) => lend(&solved, costs, choices, room),
-    }
-}
-
 /// What follows from run, limit and prices alone: the nodes, the cheapest fold and its cost.
 #[derive(Clone, Debug)]
 pub struct Solved {
@@ -643,9 +741,16 @@ pub struct Solved {
     pub bytes: Vec<u8>,
 }
 
+impl Solved {
+    /// The same for the folder of a family: that fold in its form there.
+    pub fn form_in(&self, family: Family) -> Solved {
+        Solved { bytes: form_in(family, &self.bytes), ..*self }
+    }
+}
+
 pub fn solve(run: &[u8], limit: usize, prices: &Prices) -> Result<Solved, Answer> {
     terms(limit, Some(prices))?;
-    let nodes = read(run, None, None)?.nodes;
+    let nodes = read(run, RUN)?.nodes;
     let Ranked { cost, bytes, .. } = cheapest(&decode(run), limit, prices);
     Ok(Solved { nodes, cost, bytes })
 }

@@ -2,10 +2,11 @@
 //! independent implementation.
 
 use compare::inputs::marking;
-use compare::reference;
+use compare::reference::{self, Family};
 use runfold::Refusal::*;
 use runfold::{find, fold, folded, index, part, read_fold, read_run, unroll, work_entries};
-use runfold::{FoldReading, Found, Kind, Prices, Refusal, RunReading};
+use runfold::{fold_short, read_short, to_long, to_short};
+use runfold::{FoldReading, Folding, Found, Kind, Prices, Refusal, RunReading};
 
 const UNIT: [u16; 256] = [1; 256];
 const FREE: [u8; 256] = [0; 256];
@@ -182,12 +183,16 @@ fn ties() {
     check_tie(&word("aabaabaa"), prices(0, 0), 3, &[(3, &narrow), (3, &wide)]);
 }
 
-/// What is lent is refused before the first command, by fold reader and folder, and by the independent ones.
+/// What is lent is refused before the first command, by the readers of folds and the folders, and by the independent ones.
 fn check_head(input: &[u8], limit: usize, lent: Prices, refusal: Refusal) {
     assert_eq!(read_fold(input, limit, lent), Err(refusal), "{lent:?}");
+    assert_eq!(read_short(input, limit, lent), Err(refusal), "{lent:?}");
     assert_eq!(folded(input, limit, lent), Err(refusal), "{lent:?}");
+    assert_eq!(fold_short(input, limit, lent, &mut [], &mut [], &mut []), Err(refusal), "{lent:?}");
     let expected = [refusal.number() as u64, 0, 0, 0, 0, 0, 0];
-    assert_eq!(reference::read_fold(input, limit, &owned(lent)).numbers(), expected);
+    for family in [Family::Long, Family::Short] {
+        assert_eq!(reference::read_in(family, input, limit, &owned(lent)).numbers(), expected);
+    }
     assert_eq!(reference::solve(input, limit, &owned(lent)).unwrap_err().numbers(), expected);
 }
 
@@ -513,5 +518,309 @@ fn refusals_of_index_and_position() {
             assert_eq!(find(&fold, offsets, before, position), Err(FalseIndex));
             assert_eq!(listed.found(offsets, before, position), [17, 0, 0, 0, 0, 0, 0]);
         }
+    }
+}
+
+/// Folds and their short forms, written by hand.
+fn forms() -> Vec<[Vec<u8>; 2]> {
+    let around = |open: &str, body: &[u8]| [&bytes(open)[..], body, &[0x21]].concat();
+    let pair = |fold: &str, short: &str| [bytes(fold), bytes(short)];
+    let both = |open: &str, short: &str, body: &[u8]| [around(open, body), around(short, body)];
+    let a = |steps: usize| word("a").repeat(steps);
+    vec![
+        // Without a repeat it is the fold itself, also where labels look like commands.
+        pair("", ""),
+        pair("1001 1105 1002 12", "1001 1105 1002 12"),
+        pair("1020 1122 1021 12 1022", "1020 1122 1021 12 1022"),
+        pair("20 0003 0001 1001 21", "22 03 01 1001 21"),
+        pair("20 0022 0001 1022 21", "22 22 01 1022 21"),
+        pair("20 0002 0001 1105 20 0003 0001 1001 21 12 21", "22 02 01 1105 22 03 01 1001 21 12 21"),
+        // A count and a width of 255, the last that fit in a byte, and of 256.
+        both("20 00FF 0001", "22 FF 01", &a(1)),
+        both("20 00FF 0004", "22 FF 04", &a(4)),
+        both("20 0100 0001", "20 0100 0001", &a(1)),
+        both("20 0100 0004", "20 0100 0004", &a(4)),
+        both("20 0400 0001", "20 0400 0001", &a(1)),
+        both("20 0002 00FF", "22 02 FF", &a(255)),
+        both("20 0004 00FF", "22 04 FF", &a(255)),
+        both("20 0002 0100", "20 0002 0100", &a(256)),
+        both("20 0004 0100", "20 0004 0100", &a(256)),
+        both("20 0002 0200", "20 0002 0200", &a(512)),
+        // In, round and beside each other: a repeat right round a 20 is at least 256 wide, one round a group of it is not.
+        pair("20 0100 0002 20 0002 0001 1001 21 21", "20 0100 0002 22 02 01 1001 21 21"),
+        pair("20 0002 0100 20 0080 0002 1001 1002 21 21", "20 0002 0100 22 80 02 1001 1002 21 21"),
+        pair("20 0002 0101 20 0100 0001 1001 21 1002 21", "20 0002 0101 20 0100 0001 1001 21 1002 21"),
+        pair("20 0002 0001 1105 20 0100 0001 1001 21 12 21", "22 02 01 1105 20 0100 0001 1001 21 12 21"),
+        pair(
+            "20 0003 0001 1001 21 20 0100 0001 1002 21 20 0002 0002 1001 1002 21",
+            "22 03 01 1001 21 20 0100 0001 1002 21 22 02 02 1001 1002 21",
+        ),
+    ]
+}
+
+#[test]
+fn short_forms_of_the_independent_implementation() {
+    let unit = owned(prices(1, 0));
+    for [fold, short] in forms() {
+        assert_eq!(reference::convert(Family::Short, &fold), Ok(short.clone()));
+        assert_eq!(reference::convert(Family::Long, &short), Ok(fold.clone()));
+        let read = reference::read_in(Family::Short, &short, 1024, &unit);
+        assert_eq!((read, read.refusal), (reference::read_fold(&fold, 1024, &unit), 0));
+        assert_eq!(reference::run_of(&short), reference::run_of(&fold));
+    }
+}
+
+/// A conversion writes these bytes and leaves what is behind them; where there is no room for the last it writes nothing.
+fn check_written(convert: impl Fn(&mut [u8]) -> Result<usize, Refusal>, form: &[u8]) {
+    for more in [0, 3] {
+        let mut out = vec![9; form.len() + more];
+        assert_eq!(convert(&mut out), Ok(form.len()));
+        assert_eq!(out, [form, &vec![9; more]].concat());
+    }
+    if let Some(room) = form.len().checked_sub(1) {
+        let mut out = vec![9; room];
+        assert_eq!(convert(&mut out), Err(OutputSize));
+        assert_eq!(out, vec![9; room]);
+    }
+}
+
+#[test]
+fn short_forms() {
+    for [fold, short] in forms() {
+        check_written(|out| to_short(&fold, out), &short);
+        check_written(|out| to_long(&short, out), &fold);
+        // At any prices the two cost the same.
+        for unit in [prices(1, 0), prices(5, 2)] {
+            let read = read_short(&short, 1024, unit);
+            assert!(read.is_ok());
+            assert_eq!(read, read_fold(&fold, 1024, unit));
+        }
+    }
+}
+
+/// Short folds with what is read of them at two repeat prices: nodes, bytes, cost, steps and depth.
+#[test]
+fn short_folds_read() {
+    let a_group = "22 02 01 1105 22 03 01 1001 21 12 21";
+    for (short, (first, each), [nodes, length, cost, steps, depth]) in [
+        ("", (1, 0), [0, 0, 0, 0, 0]),
+        ("22 03 01 1001 21", (1, 0), [3, 6, 2, 3, 0]),
+        ("22 04 01 1001 21", (5, 2), [4, 8, 10, 4, 0]),
+        // 5 and 2 for each of 253 counts more, 1 for the step; of 254 more.
+        ("22 FF 01 1001 21", (5, 2), [255, 510, 512, 255, 0]),
+        ("20 0100 0001 1001 21", (5, 2), [256, 512, 514, 256, 0]),
+        (a_group, (1, 0), [8, 18, 4, 6, 1]),
+        // The outer 5, the group 1, the inner 5 + 2, the step 1.
+        (a_group, (5, 2), [8, 18, 14, 6, 1]),
+    ] {
+        let expected = FoldReading { nodes, length, cost: cost as u64, steps, depth };
+        assert_eq!(read_short(&bytes(short), 1024, prices(first, each)), Ok(expected));
+        let read = reference::read_in(Family::Short, &bytes(short), 1024, &owned(prices(first, each)));
+        assert_eq!(read.numbers(), [0, 0, nodes, length, cost, steps, depth].map(|number| number as u64));
+    }
+}
+
+/// The short folder writes the short form of the cheapest fold, in just that room and at the same cost, and clears its work;
+/// in one byte less it clears it and writes nothing.
+fn check_folded_short(run: &[u8], prices: Prices, expected: &[u8], cost: u64) {
+    let nodes = read_run(run).unwrap().nodes;
+    let entries = work_entries(nodes);
+    for (room, answer) in
+        [(expected.len(), Ok(Folding { length: expected.len(), cost })), (expected.len() - 1, Err(OutputSize))]
+    {
+        let (mut costs, mut choices, mut out) = (vec![9; entries + 1], vec![9; entries + 2], vec![9; room]);
+        assert_eq!(fold_short(run, 1024, prices, &mut costs, &mut choices, &mut out), answer);
+        assert_eq!(out, if answer.is_ok() { expected.to_vec() } else { vec![9; room] });
+        assert_eq!(costs, [vec![0; entries], vec![9; 1]].concat());
+        assert_eq!(choices, [vec![0; entries], vec![9; 2]].concat());
+    }
+    let (fold, folded_cost) = folded(run, 1024, prices).unwrap();
+    assert_eq!((reference::form_in(Family::Short, &fold), folded_cost), (expected.to_vec(), cost));
+    // The independent folder is slow.
+    if nodes <= 256 {
+        let solved = reference::solve(run, 1024, &owned(prices)).unwrap().form_in(Family::Short);
+        assert_eq!((solved.bytes, solved.cost), (expected.to_vec(), cost));
+    }
+}
+
+#[test]
+fn short_folder() {
+    let unit = prices(1, 0);
+    let a = |steps: usize| word("a").repeat(steps);
+    check_folded_short(&a(1), unit, &a(1), 1);
+    check_folded_short(&a(3), unit, &bytes("22 03 01 1001 21"), 2);
+    let group = bytes("1105 1001 1001 1001 12");
+    check_folded_short(&group.repeat(2), unit, &bytes("22 02 01 1105 22 03 01 1001 21 12 21"), 4);
+    check_folded_short(&a(255), unit, &bytes("22 FF 01 1001 21"), 2);
+    check_folded_short(&a(256), unit, &bytes("20 0100 0001 1001 21"), 2);
+    check_folded_short(&a(1024), unit, &bytes("20 0400 0001 1001 21"), 2);
+    // The outer repeat is 256 wide, the inner one has a count of 255.
+    let run = [a(255), word("b")].concat().repeat(2);
+    check_folded_short(&run, unit, &bytes("20 0002 0100 22 FF 01 1001 21 1002 21"), 4);
+    // What is marked is no more repeated than in the long form.
+    let marks = marking(|label| label == 1);
+    check_folded_short(&a(3), Prices { marks: &marks, ..unit }, &a(3), 3);
+    // 13 goes before 14, and leaves the work as it was.
+    for (a, b) in [(5, 6), (6, 5)] {
+        let (mut costs, mut choices) = (vec![9; a], vec![9; b]);
+        assert_eq!(fold_short(&word("aaa"), 1024, unit, &mut costs, &mut choices, &mut []), Err(WorkSize));
+        assert_eq!((costs, choices), (vec![9; a], vec![9; b]));
+    }
+}
+
+/// Of folds that cost the same and have as many repeats the one that comes first in the long form is chosen, and neither the
+/// shortest nor the one whose short form comes first.
+#[test]
+fn shortness_does_not_decide() {
+    // 22 03 01 1001 21 is shorter.
+    check_folded_short(&word("aaa"), prices(0, 1), &bytes("1001 22 02 01 1001 21"), 2);
+    // Twice aa and 254 times b, then aa: aa stands before a repeat of what follows it, or behind one of what it follows, which
+    // is 256 wide. So the former begins with 20 0002 0001 and the latter with 20 0002 0100, in short 22 02 01 and the same.
+    let aa = "22 02 01 1001 21";
+    let run = [word("aa"), word("b").repeat(254)].concat().repeat(2);
+    let fold = format!("{aa} 20 0002 0100 22 FE 01 1002 21 {aa} 21");
+    check_folded_short(&[run, word("aa")].concat(), prices(0, 0), &bytes(&fold), 3);
+}
+
+/// Short folds that are refused, by hand: those that both short reader and conversion refuse, whatever the limit.
+fn refused_short_folds() -> Vec<(Vec<u8>, Refusal)> {
+    let ten = |last: &str| [bytes("22 02 01").repeat(10), bytes(last)].concat();
+    let five = |open: &str| [bytes(open), bytes("1007").repeat(5), vec![0x21]].concat();
+    vec![
+        (bytes("13"), UnknownCommand { place: 0 }),
+        (bytes("22 02 01 1007 21 23"), UnknownCommand { place: 6 }),
+        // Operands missing, or a repeat that nothing closes.
+        (bytes("22"), Unfinished { place: 1 }),
+        (bytes("22 03"), Unfinished { place: 2 }),
+        (bytes("1007 22 03"), Unfinished { place: 4 }),
+        (bytes("22 03 01"), Unfinished { place: 3 }),
+        (bytes("22 03 01 1007"), Unfinished { place: 5 }),
+        (bytes("20 0002 00"), Unfinished { place: 4 }),
+        (bytes("22 02 01 12"), WrongClose { place: 3 }),
+        (bytes("22 02 01 21"), EmptyBody { place: 3 }),
+        (bytes("22 01 01 1007 21"), SmallCount { place: 0 }),
+        (bytes("1007 22 00 01 1007 21"), SmallCount { place: 2 }),
+        // A 20 where a 22 would do, by itself and inside; a 256 in either operand needs it.
+        (bytes("20 0002 0001 1007 21"), LongInShort { place: 0 }),
+        (bytes("1007 20 00FF 0001 1007 21"), LongInShort { place: 2 }),
+        (bytes("20 0002 00FF 1007 21"), LongInShort { place: 0 }),
+        (bytes("22 02 03 1007 20 0002 0001 1007 21 21"), LongInShort { place: 5 }),
+        (bytes("20 0100 0000 1007 21"), FalseWidth { place: 7 }),
+        (bytes("20 0002 0100 1007 21"), FalseWidth { place: 7 }),
+        // 3 and 6 go before 20, and 20 before 8 and what comes later.
+        (bytes("20 0001 0001 1007 21"), SmallCount { place: 0 }),
+        (bytes("20 0000 0000 21"), SmallCount { place: 0 }),
+        (ten("20 0001 0001 1007"), SmallCount { place: 30 }),
+        (ten("20 0002 0001 1007"), LongInShort { place: 30 }),
+        (ten("22 02 01 1007"), Deep { place: 30 }),
+        (ten("20 0100 0001 1007"), Deep { place: 30 }),
+        (bytes("20 0002 0001 13"), LongInShort { place: 0 }),
+        // At the close: 10, and after it 9.
+        (five("22 FF 05"), ManyNodes { place: 13 }),
+        (five("22 FF 04"), ManyNodes { place: 13 }),
+        (five("22 CC 04"), FalseWidth { place: 13 }),
+        (bytes("22 02 02 1007 21"), FalseWidth { place: 5 }),
+        (bytes("22 02 00 1007 21"), FalseWidth { place: 5 }),
+    ]
+}
+
+/// Those that the limit refuses, with the refusal where there is none.
+fn too_wide_short_folds() -> Vec<(Vec<u8>, usize, Option<Refusal>)> {
+    let wide = [bytes("22 02 FF"), word("a").repeat(255), vec![0x21]].concat();
+    vec![
+        (bytes("22 02 02 1007 1007 21"), 1, None),
+        (bytes("22 02 01 1007 21"), 0, None),
+        (wide, 254, None),
+        // 7 goes before 20.
+        (bytes("20 0002 0002 1007 1007 21"), 1, Some(LongInShort { place: 0 })),
+        (bytes("20 0002 0401 1007 21"), 1024, Some(FalseWidth { place: 7 })),
+    ]
+}
+
+/// The answer of a refusal.
+fn numbers(refusal: Refusal) -> [u64; 7] {
+    [refusal.number() as u64, refusal.place() as u64, 0, 0, 0, 0, 0]
+}
+
+#[test]
+fn refusals_of_the_independent_short_reader() {
+    let unit = owned(prices(1, 0));
+    let read = |short: &[u8], limit| reference::read_in(Family::Short, short, limit, &unit).numbers();
+    let convert = |short: &[u8]| reference::convert(Family::Long, short).map_err(|refused| refused.numbers());
+    for (short, refusal) in refused_short_folds() {
+        assert_eq!(read(&short, 1024), numbers(refusal), "{short:02X?}");
+        assert_eq!(convert(&short), Err(numbers(refusal)), "{short:02X?}");
+    }
+    for (short, limit, without) in too_wide_short_folds() {
+        assert_eq!(read(&short, limit), numbers(Wide { place: 0 }), "{short:02X?}");
+        assert_eq!(convert(&short).err(), without.map(numbers), "{short:02X?}");
+    }
+}
+
+#[test]
+fn refusals_of_short_reader_and_conversion() {
+    let unit = prices(1, 0);
+    for (short, refusal) in refused_short_folds() {
+        assert_eq!(read_short(&short, 1024, unit), Err(refusal), "{short:02X?}");
+        assert_eq!(to_long(&short, &mut []), Err(refusal), "{short:02X?}");
+    }
+    for (short, limit, without) in too_wide_short_folds() {
+        assert_eq!(read_short(&short, limit, unit), Err(Wide { place: 0 }), "{short:02X?}");
+        assert_eq!(to_long(&short, &mut [0; 4096]).err(), without, "{short:02X?}");
+    }
+    // A marked label in a repeat that a 22 opens. The conversion knows no marks.
+    let (marks, short) = (marking(|label| label == 7), bytes("22 02 01 1105 1007 12 21"));
+    assert_eq!(read_short(&short, 1024, Prices { marks: &marks, ..unit }), Err(MarkedInRepeat { place: 5 }));
+    check_written(|out| to_long(&short, out), &bytes("20 0002 0001 1105 1007 12 21"));
+}
+
+/// What is no short fold knows no 22, whole or cut off: in a run and in a fold it is an unknown command.
+#[test]
+fn unknown_outside_the_short_family() {
+    let unit = prices(1, 0);
+    for (input, place) in [("22", 0), ("22 03", 0), ("22 03 01 1001 21", 0), ("1001 22 03 01 1001 21", 2)] {
+        let (input, refusal) = (bytes(input), UnknownCommand { place });
+        assert_eq!(read_run(&input), Err(refusal));
+        assert_eq!(reference::read_run(&input).numbers(), numbers(refusal));
+        assert_eq!(part(&input, 0), []);
+        assert_eq!(folded(&input, 1024, unit), Err(refusal));
+        assert_eq!(fold_short(&input, 1024, unit, &mut [], &mut [], &mut []), Err(refusal));
+        check_unknown(&input, refusal);
+    }
+    check_unknown(&bytes("20 0002 0001 22 03 01 1001 21 21"), UnknownCommand { place: 5 });
+}
+
+/// The functions for folds refuse it.
+fn check_unknown(fold: &[u8], refusal: Refusal) {
+    assert_eq!(read_fold(fold, 1024, prices(1, 0)), Err(refusal));
+    assert_eq!(reference::read_fold(fold, 1024, &owned(prices(1, 0))).numbers(), numbers(refusal));
+    assert_eq!(unroll(fold, 1024, &mut []), Err(refusal));
+    assert_eq!(to_short(fold, &mut []), Err(refusal));
+    assert_eq!(reference::convert(Family::Short, fold), Err(reference::read_fold(fold, 1024, &owned(prices(1, 0)))));
+    check_refused(fold, refusal);
+}
+
+/// The conversion of a fold refuses what index builder and finder refuse.
+#[test]
+fn refusals_of_the_conversion_to_the_short_form() {
+    let ten = |last: &str| [bytes("20 0002 0001").repeat(10), bytes(last)].concat();
+    for (fold, refusal) in [
+        (bytes("13"), UnknownCommand { place: 0 }),
+        (bytes("20 0002 00"), Unfinished { place: 4 }),
+        (bytes("1105"), Unfinished { place: 2 }),
+        (bytes("21"), WrongClose { place: 0 }),
+        (bytes("1105 12"), EmptyBody { place: 2 }),
+        (bytes("20 0001 0001 1007 21"), SmallCount { place: 0 }),
+        (ten("20 0002 0001"), Deep { place: 50 }),
+        (bytes("20 0401 0002 1007 21"), ManyNodes { place: 7 }),
+        (bytes("20 0002 0002 1007 21"), FalseWidth { place: 7 }),
+        (bytes("20 0002 0401 1007 21"), FalseWidth { place: 7 }),
+    ] {
+        assert_eq!(to_short(&fold, &mut []), Err(refusal));
+        assert_eq!(
+            reference::convert(Family::Short, &fold).map_err(|refused| refused.numbers()),
+            Err(numbers(refusal))
+        );
+        check_refused(&fold, refusal);
     }
 }

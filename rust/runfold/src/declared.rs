@@ -71,4 +71,106 @@ extern "C" {
         answer: *mut u64,
         answer_len: usize,
     ) -> u8;
+    pub fn runfold_read_short(
+        fold: *const u8,
+        fold_len: usize,
+        limit: usize,
+        steps: *const u16,
+        steps_len: usize,
+        groups: *const u16,
+        groups_len: usize,
+        marks: *const u8,
+        marks_len: usize,
+        first: u16,
+        each: u16,
+        answer: *mut u64,
+        answer_len: usize,
+    ) -> u8;
+    pub fn runfold_fold_short(
+        run: *const u8,
+        run_len: usize,
+        limit: usize,
+        steps: *const u16,
+        steps_len: usize,
+        groups: *const u16,
+        groups_len: usize,
+        marks: *const u8,
+        marks_len: usize,
+        first: u16,
+        each: u16,
+        costs: *mut u32,
+        costs_len: usize,
+        choices: *mut u32,
+        choices_len: usize,
+        out: *mut u8,
+        out_len: usize,
+        answer: *mut u64,
+        answer_len: usize,
+    ) -> u8;
+    pub fn runfold_to_short(
+        fold: *const u8,
+        fold_len: usize,
+        out: *mut u8,
+        out_len: usize,
+        answer: *mut u64,
+        answer_len: usize,
+    ) -> u8;
+    pub fn runfold_to_long(
+        fold: *const u8,
+        fold_len: usize,
+        out: *mut u8,
+        out_len: usize,
+        answer: *mut u64,
+        answer_len: usize,
+    ) -> u8;
 }
+
+/// What `runfold_read_fold` and `runfold_read_short` are.
+pub type ReadFold = unsafe extern "C" fn(
+    fold: *const u8,
+    fold_len: usize,
+    limit: usize,
+    steps: *const u16,
+    steps_len: usize,
+    groups: *const u16,
+    groups_len: usize,
+    marks: *const u8,
+    marks_len: usize,
+    first: u16,
+    each: u16,
+    answer: *mut u64,
+    answer_len: usize,
+) -> u8;
+
+/// What `runfold_fold` and `runfold_fold_short` are.
+pub type Fold = unsafe extern "C" fn(
+    run: *const u8,
+    run_len: usize,
+    limit: usize,
+    steps: *const u16,
+    steps_len: usize,
+    groups: *const u16,
+    groups_len: usize,
+    marks: *const u8,
+    marks_len: usize,
+    first: u16,
+    each: u16,
+    costs: *mut u32,
+    costs_len: usize,
+    choices: *mut u32,
+    choices_len: usize,
+    out: *mut u8,
+    out_len: usize,
+    answer: *mut u64,
+    answer_len: usize,
+) -> u8;
+
+/// What `runfold_to_short` and `runfold_to_long` are.
+pub type Convert = unsafe extern "C" fn(
+    fold: *const u8,
+    fold_len: usize,
+    out: *mut u8,
+    out_len: usize,
+    answer: *mut u64,
+    answer_len: usize,
+) -> u8;

@@ -1,7 +1,9 @@
 //! The run folder. A *run* is a record of steps and nested groups of steps, as bytes. A *fold* is the same run with nested
 //! repeats, priced by the costs of steps, of groups and of repeats; a marked label stands in no repeat. The folder gives
 //! the cheapest fold of a run, the fold reader reads a fold and gives its cost, the unroller gives the run back, and the finder
-//! a single node of it, by an index that is kept beside the fold. `docs/FORMAT.md` has the bytes of runs and folds.
+//! a single node of it, by an index that is kept beside the fold. A fold also has a *short form*, in which a repeat takes two
+//! bytes less where its count and width are below 256: there are a reader and a folder of it, and both conversions.
+//! `docs/FORMAT.md` has the bytes of runs and folds.
 //!
 //! ```
 //! use runfold::{folded, unroll, Prices, MAX_WIDTH, RUN_ROOM};
@@ -32,7 +34,7 @@
 //! input has an answer, the one that the definitions give; a fold that the folder writes is a fold of its run within the width
 //! limit and with no marked label in a repeat, and no other such fold is cheaper; of several cheapest it has the fewest
 //! repeats, and of several such it is the one whose bytes come first; the finder gives the node that unrolling writes at the
-//! position; no function reads or writes outside the slices that it is lent.
+//! position; a fold comes back from its short form as it was; no function reads or writes outside the slices that it is lent.
 //!
 //! The library asks one thing of a caller: a slice that is written overlaps no other. That follows from the types here, so
 //! every function is safe to call with any arguments. None keeps state, and they may run in several threads at once. With the
@@ -43,9 +45,9 @@
 //!
 //! # Memory
 //!
-//! Only [`folded`] allocates; the crate is `no_std`. [`fold`] is lent its work and its output, [`unroll`] its output, [`index`]
-//! the slices that it fills, and the others need none. A call takes up to [`STACK`] bytes of stack; `docs/CERTIFICATE.md` has
-//! each function's own.
+//! Only [`folded`] allocates; the crate is `no_std`. [`fold`] and [`fold_short`] are lent their work and their output,
+//! [`unroll`], [`to_short`] and [`to_long`] their output, [`index`] the slices that it fills, and the others need none. A call
+//! takes up to [`STACK`] bytes of stack; `docs/CERTIFICATE.md` has each function's own.
 //!
 //! # Linking
 //!
@@ -78,7 +80,8 @@ pub const MAX_WIDTH: usize = 1024;
 /// The bytes that a run has at most, three a node: room for whatever the unroller writes.
 pub const RUN_ROOM: usize = 3 * MAX_NODES;
 
-/// The bytes that a fold of a run of that many nodes has at most, also where it is longer than the run.
+/// The bytes that a fold of a run of that many nodes has at most, also where it is longer than the run. Its short form is no
+/// longer.
 pub const fn fold_room(nodes: usize) -> usize {
     nodes.saturating_mul(4)
 }
@@ -134,7 +137,7 @@ pub struct RunReading {
     pub depth: usize,
 }
 
-/// What the fold reader gives.
+/// What fold reader and short reader give.
 #[derive(Clone, Copy, Debug, PartialEq, Eq, Hash)]
 pub struct FoldReading {
     /// The nodes of the run that the fold unrolls to.
@@ -149,7 +152,7 @@ pub struct FoldReading {
     pub depth: usize,
 }
 
-/// What the folder gives.
+/// What folder and short folder give.
 #[derive(Clone, Copy, Debug, PartialEq, Eq, Hash)]
 pub struct Folding {
     /// The bytes of the fold, written at the front of the output.
@@ -225,8 +228,12 @@ pub fn part(run: &[u8], at: usize) -> &[u8] {
 pub fn read_fold(fold: &[u8], limit: usize, prices: Prices) -> Result<FoldReading, Refusal> {
     let mut answer = [0; raw::ENTRIES];
     let Prices { steps, groups, marks, first, each } = prices;
-    let status = raw::read_fold(fold, limit, steps, groups, marks, first, each, &mut answer);
-    answered(status, &answer)?;
+    fold_reading(raw::read_fold(fold, limit, steps, groups, marks, first, each, &mut answer), &answer)
+}
+
+/// What fold reader or short reader answered.
+fn fold_reading(status: u8, answer: &[u64; raw::ENTRIES]) -> Result<FoldReading, Refusal> {
+    answered(status, answer)?;
     Ok(FoldReading {
         nodes: answer[raw::NODES] as usize,
         length: answer[raw::LENGTH] as usize,
@@ -285,8 +292,12 @@ pub fn fold(
 ) -> Result<Folding, Refusal> {
     let mut answer = [0; raw::ENTRIES];
     let Prices { steps, groups, marks, first, each } = prices;
-    let status = raw::fold(run, limit, steps, groups, marks, first, each, costs, choices, out, &mut answer);
-    answered(status, &answer)?;
+    folding(raw::fold(run, limit, steps, groups, marks, first, each, costs, choices, out, &mut answer), &answer)
+}
+
+/// What folder or short folder answered.
+fn folding(status: u8, answer: &[u64; raw::ENTRIES]) -> Result<Folding, Refusal> {
+    answered(status, answer)?;
     Ok(Folding { length: answer[raw::LENGTH] as usize, cost: answer[raw::COST] })
 }
 
@@ -351,4 +362,105 @@ pub fn find(fold: &[u8], offsets: &[u32], before: &[u32], position: u64) -> Resu
         label: answer[raw::LABEL] as u8,
         offset: answer[raw::OFFSET] as usize,
     })
+}
+
+/// Reads a short fold as [`read_fold`] reads a fold: what it gives is what that gives for the fold that this is the short form
+/// of.
+///
+/// In the short family a `22`, with one byte of count and one byte of width, opens a repeat wherever both are below 256, and a
+/// `20` any other. No other function but [`to_long`] takes a `22`.
+///
+/// Refusals 1, 3 to 12, 15 and 18 to 20.
+///
+/// ```
+/// use runfold::{read_short, Prices, Refusal, MAX_WIDTH};
+///
+/// let prices = Prices { steps: &[1; 256], groups: &[1; 256], marks: &[0; 256], first: 1, each: 0 };
+/// // aaa, three steps of label 01: a repeat of count 3 and width 1.
+/// let read = read_short(&[0x22, 0x03, 0x01, 0x10, 0x01, 0x21], MAX_WIDTH, prices)?;
+/// assert_eq!((read.nodes, read.length, read.cost), (3, 6, 2));
+/// // A fold is not its own short form where it has such a repeat.
+/// let fold = [0x20, 0x00, 0x03, 0x00, 0x01, 0x10, 0x01, 0x21];
+/// assert_eq!(read_short(&fold, MAX_WIDTH, prices), Err(Refusal::LongInShort { place: 0 }));
+/// # Ok::<(), Refusal>(())
+/// ```
+pub fn read_short(fold: &[u8], limit: usize, prices: Prices) -> Result<FoldReading, Refusal> {
+    let mut answer = [0; raw::ENTRIES];
+    let Prices { steps, groups, marks, first, each } = prices;
+    fold_reading(raw::read_short(fold, limit, steps, groups, marks, first, each, &mut answer), &answer)
+}
+
+/// Folds a run as [`fold`] does and writes the short form of that fold: gives the length of the short form, and the cost. That
+/// it is shorter decides nothing about which fold it is.
+///
+/// Work and output are lent and left as there; refusal 14 comes where `out` has no room for the short form.
+///
+/// Refusals 1 to 5, 8, 10 to 15 and 18.
+///
+/// ```
+/// use runfold::{fold_room, fold_short, work_entries, Folding, Prices, Refusal, MAX_WIDTH};
+///
+/// const NODES: usize = 3;
+/// let (mut costs, mut choices) = ([0; work_entries(NODES)], [0; work_entries(NODES)]);
+/// let mut out = [0; fold_room(NODES)];
+///
+/// let run = [0x10, 0x01, 0x10, 0x01, 0x10, 0x01];
+/// let prices = Prices { steps: &[1; 256], groups: &[1; 256], marks: &[0; 256], first: 1, each: 0 };
+/// let folding = fold_short(&run, MAX_WIDTH, prices, &mut costs, &mut choices, &mut out)?;
+/// assert_eq!(folding, Folding { length: 6, cost: 2 });
+/// assert_eq!(out[..folding.length], [0x22, 0x03, 0x01, 0x10, 0x01, 0x21]);
+/// # Ok::<(), Refusal>(())
+/// ```
+pub fn fold_short(
+    run: &[u8],
+    limit: usize,
+    prices: Prices,
+    costs: &mut [u32],
+    choices: &mut [u32],
+    out: &mut [u8],
+) -> Result<Folding, Refusal> {
+    let mut answer = [0; raw::ENTRIES];
+    let Prices { steps, groups, marks, first, each } = prices;
+    folding(raw::fold_short(run, limit, steps, groups, marks, first, each, costs, choices, out, &mut answer), &answer)
+}
+
+/// Converts a fold to its short form, and gives the length of that.
+///
+/// The short form then stands at the front of `out`, and what is behind it stays as it was; after a refusal all of `out` does.
+/// As many bytes as the fold has are always enough.
+///
+/// As with [`index`] there are neither a width limit nor marks.
+///
+/// Refusals 1, 3 to 6, 8 to 10 and 14.
+///
+/// ```
+/// use runfold::{to_long, to_short, Refusal};
+///
+/// // 256 times a step 02 and three steps 03: a count of 256 has no room in a byte, one of 3 has.
+/// let fold = [0x20, 0x01, 0x00, 0x00, 0x04, 0x10, 0x02, 0x20, 0x00, 0x03, 0x00, 0x01, 0x10, 0x03, 0x21, 0x21];
+/// let mut short = [0; 16];
+/// let length = to_short(&fold, &mut short)?;
+/// assert_eq!(short[..length], [0x20, 0x01, 0x00, 0x00, 0x04, 0x10, 0x02, 0x22, 0x03, 0x01, 0x10, 0x03, 0x21, 0x21]);
+///
+/// let mut back = [0; 16];
+/// assert_eq!(to_long(&short[..length], &mut back)?, 16);
+/// assert_eq!(back, fold);
+/// # Ok::<(), Refusal>(())
+/// ```
+pub fn to_short(fold: &[u8], out: &mut [u8]) -> Result<usize, Refusal> {
+    let mut answer = [0; raw::ENTRIES];
+    answered(raw::to_short(fold, out, &mut answer), &answer)?;
+    Ok(answer[raw::LENGTH] as usize)
+}
+
+/// Converts a short fold to the fold that it is the short form of, and gives the length of that.
+///
+/// The fold then stands at the front of `out`, and what is behind it stays as it was; after a refusal all of `out` does.
+/// [`fold_room`] of the run's nodes is always enough.
+///
+/// Refusals 1, 3 to 6, 8 to 10, 14 and 20.
+pub fn to_long(fold: &[u8], out: &mut [u8]) -> Result<usize, Refusal> {
+    let mut answer = [0; raw::ENTRIES];
+    answered(raw::to_long(fold, out, &mut answer), &answer)?;
+    Ok(answer[raw::LENGTH] as usize)
 }

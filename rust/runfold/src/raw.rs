@@ -14,15 +14,17 @@ pub const ENTRIES: usize = 7;
 pub const REFUSAL: usize = 0;
 /// Where the place of a refusal stands: an offset in the input, 0 for refusals 11 to 18 and on success.
 pub const PLACE: usize = 1;
-/// Where the nodes of the run stand (run reader, fold reader).
+/// Where the nodes of the run stand (run reader, fold reader, short reader).
 pub const NODES: usize = 2;
-/// Where a length stands: of the run that a fold unrolls to (fold reader), or of what was written (unroller, folder).
+/// Where a length stands: of the run that a fold unrolls to (fold reader, short reader), or of what was written (unroller,
+/// folder, short folder, conversions).
 pub const LENGTH: usize = 3;
-/// Where the cost of a fold stands (fold reader, folder).
+/// Where the cost of a fold stands (fold reader, short reader, folder, short folder).
 pub const COST: usize = 4;
-/// Where the number of the run's nodes that are steps stands (run reader, fold reader).
+/// Where the number of the run's nodes that are steps stands (run reader, fold reader, short reader).
 pub const STEPS: usize = 5;
-/// Where the most groups of the run that are open together stand, 0 for a run without groups (run reader, fold reader).
+/// Where the most groups of the run that are open together stand, 0 for a run without groups (run reader, fold reader, short
+/// reader).
 pub const DEPTH: usize = 6;
 /// Where the number of an index's entries stands (index builder).
 pub const INDEXED: usize = 2;
@@ -36,8 +38,8 @@ pub const OFFSET: usize = 4;
 /// What a function returns where `answer` has fewer than [`ENTRIES`] entries. No refusal has this number.
 pub const SHORT: u8 = 255;
 
-// SAFETY, of every call below: each pointer and length is that of a slice, and a slice that is written is borrowed mutably,
-// so it overlaps no other. The library asks for nothing else.
+// SAFETY, of every call below: it is one of the library's functions, each pointer and length is that of a slice, and a slice
+// that is written is borrowed mutably, so it overlaps no other. The library asks for nothing else.
 
 /// The run reader: as [`read_run`](crate::read_run), with [`NODES`], [`STEPS`] and [`DEPTH`] in the answer.
 pub fn read_run(run: &[u8], answer: &mut [u64]) -> u8 {
@@ -65,9 +67,40 @@ pub fn read_fold(
     each: u16,
     answer: &mut [u64],
 ) -> u8 {
+    read_by(declared::runfold_read_fold, fold, limit, steps, groups, marks, first, each, answer)
+}
+
+/// The short reader: as [`read_short`](crate::read_short), with the arguments and the answer of [`read_fold`].
+#[allow(clippy::too_many_arguments)] // The C function has them.
+pub fn read_short(
+    fold: &[u8],
+    limit: usize,
+    steps: &[u16],
+    groups: &[u16],
+    marks: &[u8],
+    first: u16,
+    each: u16,
+    answer: &mut [u64],
+) -> u8 {
+    read_by(declared::runfold_read_short, fold, limit, steps, groups, marks, first, each, answer)
+}
+
+/// Fold reader and short reader, by the library's function.
+#[allow(clippy::too_many_arguments)] // The C functions have them.
+fn read_by(
+    read: declared::ReadFold,
+    fold: &[u8],
+    limit: usize,
+    steps: &[u16],
+    groups: &[u16],
+    marks: &[u8],
+    first: u16,
+    each: u16,
+    answer: &mut [u64],
+) -> u8 {
     // SAFETY: see above.
     unsafe {
-        declared::runfold_read_fold(
+        read(
             fold.as_ptr(),
             fold.len(),
             limit,
@@ -117,9 +150,48 @@ pub fn fold(
     out: &mut [u8],
     answer: &mut [u64],
 ) -> u8 {
+    let by = declared::runfold_fold;
+    fold_by(by, run, limit, steps, groups, marks, first, each, costs, choices, out, answer)
+}
+
+/// The short folder: as [`fold_short`](crate::fold_short), with the arguments and the answer of [`fold`].
+#[allow(clippy::too_many_arguments)] // The C function has them.
+pub fn fold_short(
+    run: &[u8],
+    limit: usize,
+    steps: &[u16],
+    groups: &[u16],
+    marks: &[u8],
+    first: u16,
+    each: u16,
+    costs: &mut [u32],
+    choices: &mut [u32],
+    out: &mut [u8],
+    answer: &mut [u64],
+) -> u8 {
+    let by = declared::runfold_fold_short;
+    fold_by(by, run, limit, steps, groups, marks, first, each, costs, choices, out, answer)
+}
+
+/// Folder and short folder, by the library's function.
+#[allow(clippy::too_many_arguments)] // The C functions have them.
+fn fold_by(
+    fold: declared::Fold,
+    run: &[u8],
+    limit: usize,
+    steps: &[u16],
+    groups: &[u16],
+    marks: &[u8],
+    first: u16,
+    each: u16,
+    costs: &mut [u32],
+    choices: &mut [u32],
+    out: &mut [u8],
+    answer: &mut [u64],
+) -> u8 {
     // SAFETY: see above.
     unsafe {
-        declared::runfold_fold(
+        fold(
             run.as_ptr(),
             run.len(),
             limit,
@@ -176,4 +248,20 @@ pub fn find(fold: &[u8], offsets: &[u32], before: &[u32], position: u64, answer:
             answer.len(),
         )
     }
+}
+
+/// The conversion of a fold to its short form: as [`to_short`](crate::to_short), with [`LENGTH`] in the answer.
+pub fn to_short(fold: &[u8], out: &mut [u8], answer: &mut [u64]) -> u8 {
+    convert_by(declared::runfold_to_short, fold, out, answer)
+}
+
+/// The conversion of a short fold to the fold: as [`to_long`](crate::to_long), with [`LENGTH`] in the answer.
+pub fn to_long(fold: &[u8], out: &mut [u8], answer: &mut [u64]) -> u8 {
+    convert_by(declared::runfold_to_long, fold, out, answer)
+}
+
+/// Either conversion, by the library's function.
+fn convert_by(convert: declared::Convert, fold: &[u8], out: &mut [u8], answer: &mut [u64]) -> u8 {
+    // SAFETY: see above.
+    unsafe { convert(fold.as_ptr(), fold.len(), out.as_mut_ptr(), out.len(), answer.as_mut_ptr(), answer.len()) }
 }

@@ -92,6 +92,11 @@ pub enum Refusal {
         /// The offset of the command that has the label.
         place: usize,
     },
+    /// 20: in a short fold a `20` whose count and width are both below 256, where a `22` should stand.
+    LongInShort {
+        /// The command's offset.
+        place: usize,
+    },
 }
 
 use Refusal::*;
@@ -120,11 +125,12 @@ impl Refusal {
             17 => FalseIndex,
             18 => WrongMarks,
             19 => MarkedInRepeat { place },
+            20 => LongInShort { place },
             _ => return None,
         })
     }
 
-    /// Its number, 1 to 19.
+    /// Its number, 1 to 20.
     pub const fn number(self) -> u8 {
         match self {
             UnknownCommand { .. } => 1,
@@ -146,6 +152,7 @@ impl Refusal {
             FalseIndex => 17,
             WrongMarks => 18,
             MarkedInRepeat { .. } => 19,
+            LongInShort { .. } => 20,
         }
     }
 
@@ -162,7 +169,8 @@ impl Refusal {
             | Deep { place }
             | FalseWidth { place }
             | ManyNodes { place }
-            | MarkedInRepeat { place } => place,
+            | MarkedInRepeat { place }
+            | LongInShort { place } => place,
             StepTableSize | LimitSize | WorkSize | OutputSize | GroupTableSize | PastEnd | FalseIndex | WrongMarks => 0,
         }
     }
@@ -189,6 +197,7 @@ impl Refusal {
             FalseIndex => "index not the one that the builder writes",
             WrongMarks => "marks not of 256 entries, or an entry above 1",
             MarkedInRepeat { .. } => "a marked label inside a repeat",
+            LongInShort { .. } => "20 in the short family with count and width both below 256",
         }
     }
 }
@@ -208,12 +217,12 @@ mod tests {
 
     #[test]
     fn numbers_and_places_come_back() {
-        for number in 1..=19 {
+        for number in 1..=20 {
             let refusal = Refusal::numbered(number, 7).expect("a refusal");
             assert_eq!(refusal.number(), number);
             assert_eq!(refusal.place(), if (11..=18).contains(&number) { 0 } else { 7 });
         }
-        for other in [0, 20, crate::raw::SHORT] {
+        for other in [0, 21, crate::raw::SHORT] {
             assert_eq!(Refusal::numbered(other, 0), None);
         }
     }

@@ -3,16 +3,20 @@
 //!
 //! Usage: `differential [SEED [SCALE]]`. One seed and scale give one run. The first difference ends it and prints its input.
 
+#[path = "differential/short.rs"]
+mod short;
+
 use compare::inputs::{self, depth, marking, Random};
-use compare::reference::{self, decode, Answer, Item, Listed, Prices, Ranked, Solved};
+use compare::reference::{self, decode, Answer, Family, Item, Listed, Prices, Ranked, Solved};
 use runfold::raw::{self, ENTRIES, SHORT};
 use runfold::{work_entries, MAX_NODES, MAX_WIDTH, RUN_ROOM};
+use std::collections::HashMap;
 use std::fmt::Write;
 use std::process::exit;
 use std::time::Instant;
 
 /// The entry points, in the order of the counts.
-#[derive(Clone, Copy)]
+#[derive(Clone, Copy, PartialEq, Eq)]
 enum Entry {
     Run,
     Part,
@@ -21,16 +25,47 @@ enum Entry {
     Folder,
     Index,
     Find,
+    ShortFold,
+    ShortFolder,
+    ToShort,
+    ToLong,
 }
 
-const ENTRY_NAMES: [&str; 7] =
-    ["run reader", "part of a node", "fold reader", "unroller", "folder", "index builder", "finder"];
+use Entry::*;
+
+const ENTRY_NAMES: [&str; 11] = [
+    "run reader",
+    "part of a node",
+    "fold reader",
+    "unroller",
+    "folder",
+    "index builder",
+    "finder",
+    "short reader",
+    "short folder",
+    "to short form",
+    "to long form",
+];
+
+impl Entry {
+    fn name(self) -> &'static str {
+        ENTRY_NAMES[self as usize]
+    }
+
+    /// The command family of what it reads.
+    fn family(self) -> Family {
+        match self {
+            ShortFold | ToLong => Family::Short,
+            _ => Family::Long,
+        }
+    }
+}
 
 /// One more than the highest refusal.
-const NUMBERS: usize = 20;
+const NUMBERS: usize = 21;
 
 /// The refusals that each entry point can give.
-const POSSIBLE: [&[u8]; 7] = [
+const POSSIBLE: [&[u8]; 11] = [
     &[1, 2, 3, 4, 5, 8, 10],
     &[],
     &[1, 3, 4, 5, 6, 7, 8, 9, 10, 11, 12, 15, 18, 19],
@@ -38,98 +73,146 @@ const POSSIBLE: [&[u8]; 7] = [
     &[1, 2, 3, 4, 5, 8, 10, 11, 12, 13, 14, 15, 18],
     &[1, 3, 4, 5, 6, 8, 9, 10, 14],
     &[1, 3, 4, 5, 6, 8, 9, 10, 16, 17],
+    &[1, 3, 4, 5, 6, 7, 8, 9, 10, 11, 12, 15, 18, 19, 20],
+    &[1, 2, 3, 4, 5, 8, 10, 11, 12, 13, 14, 15, 18],
+    &[1, 3, 4, 5, 6, 8, 9, 10, 14],
+    &[1, 3, 4, 5, 6, 8, 9, 10, 14, 20],
 ];
 
-/// What has to come up, of every reader of folds where 9 and 10 meet, of fold reader and folder where labels are marked, of the
-/// folder by a trial of every fold, and of index builder and finder: a case that never did is a failure.
-const CASES: [&str; 76] = [
-    "10 where 9 applies too, fold reader",
-    "10 where 9 applies too, unroller",
-    "10 where 9 applies too, index builder",
-    "10 where 9 applies too, finder",
-    "11 where 18 applies too, fold reader",
-    "11 where 18 applies too, folder",
-    "15 where 18 applies too, fold reader",
-    "15 where 18 applies too, folder",
-    "12 where 18 applies too, fold reader",
-    "12 where 18 applies too, folder",
-    "18 by too few marks, fold reader",
-    "18 by too few marks, folder",
-    "18 by too many marks, fold reader",
-    "18 by too many marks, folder",
-    "18 by a mark above 1, fold reader",
-    "18 by a mark above 1, folder",
-    "18 where a command is refused too, fold reader",
-    "18 where a command is refused too, folder",
-    "19 at a step",
-    "19 at a group",
-    "19 in a group in a repeat",
-    "19 right behind a repeat in a repeat",
-    "19 at a step where 10 applies too",
-    "19 at a group where 10 applies too",
-    "8 at a marked group in a repeat",
-    "3 for a missing label in a repeat, every label marked",
-    "a fold read with repeats and a marked label outside them",
-    "a fold of 19 unrolled",
-    "a fold written of a run with a marked label",
-    "such a fold with repeats",
-    "a long run with a marked label",
-    "such a run whose fold has repeats",
-    "a fold that marks change",
-    "a fold that marks change at the same cost",
-    "a fold that marks leave no repeat of",
-    "a fold that marks change and that has repeats",
-    "a fold that has more repeats by marks",
-    "a fold with a marked group that holds a repeat",
-    "a group not repeated since it holds a marked label",
-    "a tie that fewer repeats decide against byte order",
-    "such a tie inside a group",
-    "a tie of as many repeats, which byte order decides",
-    "a tie that falls otherwise by the most repeats",
-    "a tie that falls otherwise by a body's repeats times the count",
-    "a tie that falls otherwise without the repeats in groups",
-    "index written to slices just long enough",
-    "index written to longer slices",
-    "index of 1,024 entries written",
-    "14 by the offsets alone",
-    "14 by the numbers before alone",
-    "14 by both",
-    "a step found",
-    "a group found",
-    "a node found in a later copy of a repeat",
-    "a node found at position 1,023",
-    "16 at the total",
-    "16 past the total",
-    "16 where the position's low 32 bits are below the total",
-    "16 in the empty fold",
-    "17 by offsets one short",
-    "17 by numbers before one short",
-    "17 by both one short",
-    "17 by offsets one long",
-    "17 by numbers before one long",
-    "17 by both one long",
-    "17 by an offset",
-    "17 by a number before",
-    "17 by slices swapped",
-    "17 by another fold's index",
-    "17 by another fold's index of as many entries",
-    "17 by slices of no entries",
-    "17 where the position is not below the total either",
-    "17 in a damaged fold",
-    "a node found in a damaged fold",
-    "9 of the index builder where the fold reader has 7",
-    "9 of the finder where the fold reader has 7",
+/// What has to come up: a case that never did is a failure. Where entry points are named it has to come up by each of them.
+const CASES: &[(&[Entry], &[&str])] = &[
+    (&[Fold, Unroll, Index, Find, ShortFold, ToShort, ToLong], &["10 where 9 applies too"]),
+    (&[Index, Find, ToShort, ToLong], &["9 where the highest limit gives 7"]),
+    (
+        &[Fold, Folder, ShortFold, ShortFolder],
+        &[
+            "11 where 18 applies too",
+            "15 where 18 applies too",
+            "12 where 18 applies too",
+            "18 by too few marks",
+            "18 by too many marks",
+            "18 by a mark above 1",
+            "18 where a command is refused too",
+        ],
+    ),
+    (
+        &[Fold, ShortFold],
+        &[
+            "19 at a step",
+            "19 at a group",
+            "19 in a group in a repeat",
+            "19 right behind a repeat in a repeat",
+            "19 at a step where 10 applies too",
+            "19 at a group where 10 applies too",
+            "8 at a marked group in a repeat",
+            "3 for a missing label in a repeat, every label marked",
+            "a fold with repeats and a marked label outside them",
+        ],
+    ),
+    (&[Unroll, ToShort, ToLong], &["a fold of 19 written"]),
+    (&[Folder, ShortFolder], &["a fold of a run with a marked label", "such a fold with repeats"]),
+    (
+        &[],
+        &[
+            "a long run with a marked label",
+            "such a run whose fold has repeats",
+            "a fold that marks change",
+            "a fold that marks change at the same cost",
+            "a fold that marks leave no repeat of",
+            "a fold that marks change and that has repeats",
+            "a fold that has more repeats by marks",
+            "a fold with a marked group that holds a repeat",
+            "a group not repeated since it holds a marked label",
+            "a tie that fewer repeats decide against byte order",
+            "such a tie inside a group",
+            "a tie of as many repeats, which byte order decides",
+            "a tie that falls otherwise by the most repeats",
+            "a tie that falls otherwise by a body's repeats times the count",
+            "a tie that falls otherwise without the repeats in groups",
+            "a tie that falls otherwise by the length of the short forms",
+            "index written to slices just long enough",
+            "index written to longer slices",
+            "index of 1,024 entries written",
+            "14 by the offsets alone",
+            "14 by the numbers before alone",
+            "14 by both",
+            "a step found",
+            "a group found",
+            "a node found in a later copy of a repeat",
+            "a node found at position 1,023",
+            "16 at the total",
+            "16 past the total",
+            "16 where the position's low 32 bits are below the total",
+            "16 in the empty fold",
+            "17 by offsets one short",
+            "17 by numbers before one short",
+            "17 by both one short",
+            "17 by offsets one long",
+            "17 by numbers before one long",
+            "17 by both one long",
+            "17 by an offset",
+            "17 by a number before",
+            "17 by slices swapped",
+            "17 by another fold's index",
+            "17 by another fold's index of as many entries",
+            "17 by slices of no entries",
+            "17 where the position is not below the total either",
+            "17 in a damaged fold",
+            "a node found in a damaged fold",
+        ],
+    ),
+    (&[Run, Fold, Unroll, Folder, Index, Find, ShortFolder, ToShort], &["1 at a 22"]),
+    (
+        &[ShortFold, ToLong],
+        &[
+            "3 at a 22 without operands",
+            "3 at a 22 without its width",
+            "5 at the close of a 22",
+            "6 at a 22",
+            "8 at a 22",
+            "9 at the close of a 22",
+            "10 at the close of a 22",
+            "3 at a 20 in the short family",
+            "6 at a 20 where 20 applies too",
+            "20 where 8 applies too",
+        ],
+    ),
+    (&[ShortFold], &["7 at a 22", "7 at a 20 where 20 applies too", "19 in a 22"]),
+    (
+        &[ShortFold, ShortFolder, ToShort, ToLong],
+        &[
+            "a short fold with count 255",
+            "a short fold with count 256",
+            "a short fold with width 255",
+            "a short fold with width 256",
+            "a 22 in a 20",
+            "a 20 in a 22",
+        ],
+    ),
+    (&[ToShort, ToLong], &["14 by one byte", "an output just long enough", "a longer output", "there and back"]),
+    (&[ShortFolder, ToShort], &["an output that the long form has no room in"]),
 ];
+
+/// Their names, each with that of its entry point.
+fn case_names() -> Vec<String> {
+    let by = |entry: &Entry, case: &&str| format!("{case}, {}", entry.name());
+    let names = |(entries, cases): &(&[Entry], &[&str])| match entries {
+        [] => cases.iter().map(|case| case.to_string()).collect::<Vec<_>>(),
+        _ => cases.iter().flat_map(|case| entries.iter().map(move |entry| by(entry, case))).collect(),
+    };
+    CASES.iter().flat_map(names).collect()
+}
 
 struct Compare {
     seed: u64,
     random: Random,
     calls: [u64; ENTRY_NAMES.len()],
     refusals: [[u64; NUMBERS]; ENTRY_NAMES.len()],
-    cases: [u64; CASES.len()],
+    cases: HashMap<String, u64>,
     short_answers: u64,
     against_trial: u64,
-    written: u64,
+    /// Folds that were written, in the long form and in the short one.
+    written: [u64; 2],
     unlike_tables: u64,
     against_lowest: u64,
     longest: usize,
@@ -172,13 +255,13 @@ fn nodes_of(run: &[u8]) -> Vec<[u8; 2]> {
     nodes
 }
 
-/// The offsets of the commands that opened what is open behind these, the first of a fold, and the offset behind the last of
-/// these, which is past the end where it is cut off.
+/// The offsets of the commands that opened what is open behind these, the first of a fold of either family, and the offset
+/// behind the last of these, which is past the end where it is cut off.
 fn open_behind(commands: &[u8]) -> (Vec<usize>, usize) {
     let (mut open, mut at) = (Vec::new(), 0);
     while at < commands.len() {
         match commands[at] {
-            0x11 | 0x20 => open.push(at),
+            0x11 | 0x20 | 0x22 => open.push(at),
             0x12 | 0x21 => {
                 open.pop();
             }
@@ -187,22 +270,23 @@ fn open_behind(commands: &[u8]) -> (Vec<usize>, usize) {
         at += match commands[at] {
             0x10 | 0x11 => 2,
             0x20 => 5,
+            0x22 => 3,
             _ => 1,
         };
     }
     (open, at)
 }
 
-/// Whether something that this command opened is open at an offset of a fold.
-fn open_at(fold: &[u8], offset: usize, command: u8) -> bool {
-    open_behind(&fold[..offset]).0.iter().any(|&at| fold[at] == command)
+/// Whether something that one of these commands opened is open at an offset of a fold.
+fn open_at(fold: &[u8], offset: usize, commands: &[u8]) -> bool {
+    open_behind(&fold[..offset]).0.iter().any(|&at| commands.contains(&fold[at]))
 }
 
-/// Whether the `21` at an offset of a fold closes a repeat of another width than its `20` says.
+/// Whether the `21` at an offset of a fold closes a repeat of another width than the command that opened it says.
 fn false_width(fold: &[u8], offset: usize) -> bool {
     let at = *open_behind(&fold[..offset]).0.last().expect("a repeat that is open");
-    let width = usize::from(fold[at + 3]) * 256 + usize::from(fold[at + 4]);
-    reference::expand(&decode(&fold[at + 5..offset])).len() != width
+    let opening = inputs::openings(&fold[at..])[0];
+    reference::expand(&decode(&fold[at + opening.size..offset])).len() != opening.width
 }
 
 /// The items with every group a step of its label.
@@ -227,11 +311,13 @@ fn any_item(items: &[Item], so: &dyn Fn(&Item) -> bool) -> bool {
     })
 }
 
-/// Whether bytes end in a step or a group without its label.
-fn label_missing(bytes: &[u8]) -> bool {
-    bytes
-        .split_last()
-        .is_some_and(|(last, commands)| [0x10, 0x11].contains(last) && open_behind(commands).1 == commands.len())
+/// The command that the bytes of a fold end in the middle of; empty where they end behind one.
+fn cut_off(fold: &[u8]) -> &[u8] {
+    let last = (0..fold.len()).rev().find(|&at| open_behind(&fold[..at]).1 == at);
+    match last {
+        Some(at) if open_behind(fold).1 > fold.len() => &fold[at..],
+        _ => &[],
+    }
 }
 
 /// Whether a marked label stands in a repeat of these items.
@@ -261,6 +347,11 @@ fn outside_groups(items: &[Item]) -> usize {
         .sum()
 }
 
+/// The functions of fold reader and short reader, of both folders and of both conversions.
+type ReadFold = fn(&[u8], usize, &[u16], &[u16], &[u8], u16, u16, &mut [u64]) -> u8;
+type FoldRun = fn(&[u8], usize, &[u16], &[u16], &[u8], u16, u16, &mut [u32], &mut [u32], &mut [u8], &mut [u64]) -> u8;
+type Convert = fn(&[u8], &mut [u8], &mut [u64]) -> u8;
+
 /// Entries that no call writes by chance: each says where it stands.
 fn stamped_bytes(n: usize) -> Vec<u8> {
     (0..n).map(|k| 0xA5 ^ (k as u8).wrapping_mul(29)).collect()
@@ -284,7 +375,7 @@ impl Compare {
         given: &str,
         expected: &str,
     ) -> ! {
-        println!("DIFFERENCE in the {}, seed {}", ENTRY_NAMES[entry as usize], self.seed);
+        println!("DIFFERENCE: {}, seed {}", entry.name(), self.seed);
         println!("input {}", if input.is_empty() { "-".into() } else { hex(input) });
         println!("call: {}", call());
         println!("{what}: the library has {given}");
@@ -318,10 +409,7 @@ impl Compare {
         if enough {
             after[..ENTRIES].copy_from_slice(&expected);
             self.refusals[entry as usize][refusal as usize] += 1;
-            let place = expected[raw::PLACE] as usize;
-            if refusal == 10 && input[place] == 0x21 && false_width(input, place) {
-                self.reached(&format!("10 where 9 applies too, {}", ENTRY_NAMES[entry as usize]));
-            }
+            self.at_command(entry, input, refusal, expected[raw::PLACE] as usize);
         } else {
             self.short_answers += 1;
         }
@@ -333,6 +421,23 @@ impl Compare {
             self.differ(entry, input, call, "status", &status.to_string(), &returned.to_string());
         }
         enough
+    }
+
+    /// Which check it was that refused a command, where it is one of several.
+    fn at_command(&mut self, entry: Entry, input: &[u8], refusal: u8, place: usize) {
+        match refusal {
+            1 if input[place] == 0x22 => self.reached_by(entry, "1 at a 22"),
+            9 if [Index, Find, ToShort, ToLong].contains(&entry) && over_the_limit(entry.family(), input) => {
+                self.reached_by(entry, "9 where the highest limit gives 7");
+            }
+            10 if input[place] == 0x21 && false_width(input, place) => {
+                self.reached_by(entry, "10 where 9 applies too");
+            }
+            _ => {}
+        }
+        if entry.family() == Family::Short {
+            self.refused_in_short(entry, input, refusal, place);
+        }
     }
 
     fn check_slice<T: PartialEq + std::fmt::Debug>(
@@ -355,15 +460,15 @@ impl Compare {
         let mut answer = self.answer_slice();
         let status = raw::read_run(run, &mut answer);
         let expected = reference::read_run(run).numbers();
-        self.check_answer(Entry::Run, run, &String::new, status, &answer, expected);
+        self.check_answer(Run, run, &String::new, status, &answer, expected);
     }
 
     fn part(&mut self, run: &[u8], at: usize) {
-        self.calls[Entry::Part as usize] += 1;
+        self.calls[Part as usize] += 1;
         let (given, expected) = (runfold::part(run, at), reference::part(run, at));
         if given != expected {
             let call = || format!("offset {at}");
-            self.differ(Entry::Part, run, &call, "part", &hex(given), &hex(expected));
+            self.differ(Part, run, &call, "part", &hex(given), &hex(expected));
         }
     }
 
@@ -374,16 +479,31 @@ impl Compare {
         self.part(run, usize::MAX);
     }
 
-    fn fold_reader(&mut self, fold: &[u8], limit: usize, prices: &Prices) {
+    /// The fold reader, and the short reader on what the short family has of that.
+    fn fold_readers(&mut self, fold: &[u8], limit: usize, prices: &Prices) {
+        self.fold_reader(Family::Long, fold, limit, prices);
+        let short = self.for_short(fold);
+        self.fold_reader(Family::Short, &short, limit, prices);
+    }
+
+    /// Fold reader or short reader.
+    fn fold_reader(&mut self, family: Family, fold: &[u8], limit: usize, prices: &Prices) {
+        let (entry, read): (_, ReadFold) = match family {
+            Family::Long => (Fold, raw::read_fold),
+            Family::Short => (ShortFold, raw::read_short),
+        };
         let call = || format!("limit {limit}, {}", shown(prices));
         let mut answer = self.answer_slice();
         let Prices { steps, groups, marks, first, each } = prices;
-        let status = raw::read_fold(fold, limit, steps, groups, marks, *first, *each, &mut answer);
-        let expected = reference::read_fold(fold, limit, prices);
-        if self.check_answer(Entry::Fold, fold, &call, status, &answer, expected.numbers()) {
-            let refused = || reference::unroll(fold, limit, usize::MAX).0.refusal != 0;
-            self.wrong_marks(Entry::Fold, expected.refusal, &prices.marks, &refused);
-            self.marks_in_fold(fold, limit, prices, expected);
+        let status = read(fold, limit, steps, groups, marks, *first, *each, &mut answer);
+        let expected = reference::read_in(family, fold, limit, prices);
+        if self.check_answer(entry, fold, &call, status, &answer, expected.numbers()) {
+            let refused = || reference::read_in(family, fold, limit, &unit()).refusal != 0;
+            self.wrong_marks(entry, expected.refusal, &prices.marks, &refused);
+            self.marks_in_fold(entry, fold, limit, prices, expected);
+            if entry == ShortFold && expected.refusal == 0 {
+                self.short_fold(entry, fold);
+            }
         }
     }
 
@@ -395,19 +515,34 @@ impl Compare {
             1 => run.len(),
             _ => run.len() + self.random.below(40),
         };
-        let (expected, run) =
-            if unbounded.refusal == 0 { reference::unroll(fold, limit, room) } else { (unbounded, run) };
+        let run = if unbounded.refusal == 0 { Ok(run) } else { Err(unbounded) };
+        let expected = reference::written(run, room);
         let call = || format!("limit {limit}, output of {room} bytes");
+        let write = &mut |out: &mut [u8], answer: &mut [u64]| raw::unroll(fold, limit, out, answer);
+        self.writer(Unroll, fold, &call, room, &expected, write) == Some(0)
+    }
+
+    /// A function with an output of so many bytes, held to its answer and to what it writes there; gives the refusal where the
+    /// lent answer is long enough.
+    fn writer(
+        &mut self,
+        entry: Entry,
+        input: &[u8],
+        call: &dyn Fn() -> String,
+        room: usize,
+        (expected, bytes): &(Answer, Vec<u8>),
+        write: &mut dyn FnMut(&mut [u8], &mut [u64]) -> u8,
+    ) -> Option<u8> {
         let mut answer = self.answer_slice();
         let mut out = stamped_bytes(room);
-        let status = raw::unroll(fold, limit, &mut out, &mut answer);
-        let enough = self.check_answer(Entry::Unroll, fold, &call, status, &answer, expected.numbers());
+        let status = write(&mut out, &mut answer);
+        let enough = self.check_answer(entry, input, call, status, &answer, expected.numbers());
         let mut after = stamped_bytes(room);
         if enough {
-            after[..run.len()].copy_from_slice(&run);
+            after[..bytes.len()].copy_from_slice(bytes);
         }
-        self.check_slice(Entry::Unroll, fold, &call, "output", &out, &after);
-        enough && expected.refusal == 0
+        self.check_slice(entry, input, call, "output", &out, &after);
+        enough.then_some(expected.refusal)
     }
 
     /// How many entries to lend where so many are needed: mostly enough.
@@ -419,67 +554,72 @@ impl Compare {
         }
     }
 
-    /// The folder, held to the solution that the independent implementation found; says whether a fold was written.
-    fn folder(&mut self, run: &[u8], limit: usize, prices: &Prices, solved: &Result<Solved, Answer>) -> bool {
+    /// Both folders, each held to the solution that the independent implementation found, in the form of its family; says
+    /// whether the folder wrote a fold.
+    fn folders(&mut self, run: &[u8], limit: usize, prices: &Prices, solved: &Result<Solved, Answer>) -> bool {
+        let short = solved.as_ref().map(|solved| solved.form_in(Family::Short)).map_err(|refused| *refused);
+        self.folder(Family::Short, run, limit, prices, &short);
+        self.folder(Family::Long, run, limit, prices, solved)
+    }
+
+    /// The folder or the short folder, held to a solution in the form of its family; says whether a fold was written.
+    fn folder(
+        &mut self,
+        family: Family,
+        run: &[u8],
+        limit: usize,
+        prices: &Prices,
+        solved: &Result<Solved, Answer>,
+    ) -> bool {
+        let (entry, fold): (_, FoldRun) = match family {
+            Family::Long => (Folder, raw::fold),
+            Family::Short => (ShortFolder, raw::fold_short),
+        };
         let (nodes, length) = solved.as_ref().map_or((2, 9), |s| (s.nodes, s.bytes.len()));
         let needed = work_entries(nodes);
         let (a, b, room) = (self.lent(needed), self.lent(needed), self.lent(length));
-        let (expected, bytes) = match solved {
+        let expected = match solved {
             Ok(solved) => reference::lend(solved, a, b, room),
             Err(refused) => (*refused, Vec::new()),
         };
         let call = || format!("limit {limit}, {}, work of {a} and {b} entries, output of {room} bytes", shown(prices));
-        let mut answer = self.answer_slice();
-        let (mut costs, mut choices, mut out) = (stamped_words(a), stamped_words(b), stamped_bytes(room));
-        let status = raw::fold(
-            run,
-            limit,
-            &prices.steps,
-            &prices.groups,
-            &prices.marks,
-            prices.first,
-            prices.each,
-            &mut costs,
-            &mut choices,
-            &mut out,
-            &mut answer,
-        );
-        let enough = self.check_answer(Entry::Folder, run, &call, status, &answer, expected.numbers());
-        let mut after = stamped_bytes(room);
-        let (mut costs_after, mut choices_after) = (stamped_words(a), stamped_words(b));
-        if enough {
-            after[..bytes.len()].copy_from_slice(&bytes);
-            if expected.refusal == 0 || expected.refusal == 14 {
-                costs_after[..needed].fill(0);
-                choices_after[..needed].fill(0);
+        let (mut costs, mut choices) = (stamped_words(a), stamped_words(b));
+        let Prices { steps, groups, marks, first, each } = prices;
+        let write = &mut |out: &mut [u8], answer: &mut [u64]| {
+            fold(run, limit, steps, groups, marks, *first, *each, &mut costs, &mut choices, out, answer)
+        };
+        let refusal = self.writer(entry, run, &call, room, &expected, write);
+        for (which, work) in [("first work slice", costs), ("second work slice", choices)] {
+            let mut after = stamped_words(work.len());
+            if let Some(0 | 14) = refusal {
+                after[..needed].fill(0);
             }
+            self.check_slice(entry, run, &call, which, &work, &after);
         }
-        self.check_slice(Entry::Folder, run, &call, "output", &out, &after);
-        self.check_slice(Entry::Folder, run, &call, "first work slice", &costs, &costs_after);
-        self.check_slice(Entry::Folder, run, &call, "second work slice", &choices, &choices_after);
-        if enough {
-            let refused = || reference::read_run(run).refusal != 0;
-            self.wrong_marks(Entry::Folder, expected.refusal, &prices.marks, &refused);
+        if let Some(refusal) = refusal {
+            self.wrong_marks(entry, refusal, marks, &|| reference::read_run(run).refusal != 0);
         }
-        let written = enough && expected.refusal == 0;
-        if written {
-            self.fold_written(run, prices, &bytes);
+        if refusal == Some(0) {
+            self.fold_written(entry, run, prices, &expected.1, room);
         }
-        written
+        refusal == Some(0)
     }
 
-    /// Counts a fold that was written.
-    fn fold_written(&mut self, run: &[u8], prices: &Prices, fold: &[u8]) {
-        self.written += 1;
+    /// Counts a fold that was written to so much room.
+    fn fold_written(&mut self, entry: Entry, run: &[u8], prices: &Prices, fold: &[u8], room: usize) {
+        self.written[usize::from(entry == ShortFolder)] += 1;
         let read = reference::read_run(run);
         if prices.steps != prices.groups {
             self.unlike_tables += u64::from(read.steps < read.nodes);
         }
         if prices.mark_in(&decode(run)) {
-            self.reached("a fold written of a run with a marked label");
+            self.reached_by(entry, "a fold of a run with a marked label");
             if fold != run {
-                self.reached("such a fold with repeats");
+                self.reached_by(entry, "such a fold with repeats");
             }
+        }
+        if entry == ShortFolder {
+            self.short_form_written(entry, fold, room);
         }
         self.longest = self.longest.max(read.nodes);
     }
@@ -541,13 +681,14 @@ impl Compare {
     fn whole(&mut self, items: &[Item], limit: usize, prices: &Prices) {
         let run = inputs::bytes_of(items);
         let solved = reference::solve(&run, limit, prices);
-        self.folder(&run, limit, prices, &solved);
+        self.folders(&run, limit, prices, &solved);
         if let Ok(solved) = solved {
             assert!(solved.bytes.len() <= 4 * solved.nodes, "a fold of more than four bytes a node");
             self.deepest = self.deepest.max(depth(items));
-            self.fold_reader(&solved.bytes, limit, prices);
+            self.fold_readers(&solved.bytes, limit, prices);
             self.unroller(&solved.bytes, limit);
             self.index_and_find(&solved.bytes);
+            self.conversions(&solved.bytes);
         }
     }
 
@@ -575,7 +716,7 @@ impl Compare {
         let cost = folds[0].cost;
         folds.retain(|fold| fold.cost == cost);
         let solved = Solved { nodes: reference::count_nodes(items), cost, bytes: folds[0].bytes.clone() };
-        if self.folder(&run, limit, prices, &Ok(solved)) {
+        if self.folders(&run, limit, prices, &Ok(solved)) {
             self.tie(&folds);
             self.moved_by_marks(&folds[0], &without_marks, prices);
         }
@@ -615,7 +756,7 @@ impl Compare {
         if by_bytes != best {
             self.reached("a tie that fewer repeats decide against byte order");
             let at = (0..).find(|&k| best.bytes[k] != by_bytes.bytes[k]).unwrap();
-            if open_at(&best.bytes, at, 0x11) {
+            if open_at(&best.bytes, at, &[0x11]) {
                 self.reached("such a tie inside a group");
             }
         }
@@ -631,30 +772,32 @@ impl Compare {
         if by(outside_groups) != best {
             self.reached("a tie that falls otherwise without the repeats in groups");
         }
+        if by(|items| reference::bytes_in(Family::Short, items).len()) != best {
+            self.reached("a tie that falls otherwise by the length of the short forms");
+        }
     }
 
     /// A long run: the fold that the folder writes is a fold of the run within the limit, of the cost that it says, and that
     /// is the lowest; and no fold of that cost has fewer repeats.
     fn cost_and_repeats(&mut self, items: &[Item], limit: usize, prices: &Prices) {
         let run = inputs::bytes_of(items);
-        let Prices { steps, groups, marks, first, each } = prices;
-        let lent = runfold::Prices { steps, groups, marks, first: *first, each: *each };
-        let (bytes, cost) = runfold::folded(&run, limit, lent).expect("the run is sound");
+        let solved = by_the_library(items, limit, prices);
+        let (bytes, cost) = (&solved.bytes[..], solved.cost);
         let call = || format!("limit {limit}, {}", shown(prices));
         let (lowest, fewest) = reference::lowest(items, limit, prices);
         if cost != lowest {
-            self.differ(Entry::Folder, &run, &call, "cost", &cost.to_string(), &lowest.to_string());
+            self.differ(Folder, &run, &call, "cost", &cost.to_string(), &lowest.to_string());
         }
-        let read = reference::read_fold(&bytes, limit, prices);
-        if read.refusal != 0 || read.cost != cost || reference::run_of(&bytes) != run {
-            self.differ(Entry::Folder, &run, &call, "fold", &hex(&bytes), "a fold of the run, of the cost said");
+        let read = reference::read_fold(bytes, limit, prices);
+        if read.refusal != 0 || read.cost != cost || reference::run_of(bytes) != run {
+            self.differ(Folder, &run, &call, "fold", &hex(bytes), "a fold of the run, of the cost said");
         }
-        let repeats = reference::count_repeats(&decode(&bytes));
+        let repeats = reference::count_repeats(&decode(bytes));
         if repeats != fewest {
-            self.differ(Entry::Folder, &run, &call, "repeats", &repeats.to_string(), &fewest.to_string());
+            self.differ(Folder, &run, &call, "repeats", &repeats.to_string(), &fewest.to_string());
         }
-        self.calls[Entry::Folder as usize] += 1;
-        self.refusals[Entry::Folder as usize][0] += 1;
+        self.calls[Folder as usize] += 1;
+        self.refusals[Folder as usize][0] += 1;
         self.against_lowest += 1;
         if prices.mark_in(items) {
             self.reached("a long run with a marked label");
@@ -664,9 +807,11 @@ impl Compare {
         }
         self.longest = self.longest.max(reference::count_nodes(items));
         self.deepest = self.deepest.max(depth(items));
-        self.fold_reader(&bytes, limit, prices);
-        self.unroller(&bytes, limit);
-        self.every_position(&bytes);
+        self.fold_readers(bytes, limit, prices);
+        self.unroller(bytes, limit);
+        self.every_position(bytes);
+        self.there_and_back(bytes);
+        self.folder(Family::Short, &run, limit, prices, &Ok(solved.form_in(Family::Short)));
     }
 
     /// Bytes of any kind, through every entry point.
@@ -677,24 +822,25 @@ impl Compare {
         self.part(bytes, at);
         self.unroller(bytes, limit);
         self.index_and_find(bytes);
+        self.conversions(bytes);
         self.priced(bytes, limit, &prices);
     }
 
     /// The same through those that take costs.
     fn priced(&mut self, bytes: &[u8], limit: usize, prices: &Prices) {
-        self.fold_reader(bytes, limit, prices);
+        self.fold_readers(bytes, limit, prices);
         // A long sequence is left to the other comparisons: the independent folder is slow.
         if bytes.len() <= 120 || reference::read_run(bytes).refusal != 0 {
             let solved = reference::solve(bytes, limit, prices);
-            self.folder(bytes, limit, prices, &solved);
+            self.folders(bytes, limit, prices, &solved);
         }
     }
 }
 
 /// Marks.
 impl Compare {
-    /// Which refusal comes where the lent marks are not in order, of fold reader or folder. `refused` says whether a command is
-    /// refused too.
+    /// Which refusal comes where the lent marks are not in order, of a reader of folds or a folder. `refused` says whether a
+    /// command is refused too.
     fn wrong_marks(&mut self, entry: Entry, refusal: u8, marks: &[u8], refused: &dyn Fn() -> bool) {
         let wrong = match marks.len() {
             256 if marks.iter().all(|&mark| mark <= 1) => return,
@@ -702,56 +848,60 @@ impl Compare {
             ..256 => "too few marks",
             _ => "too many marks",
         };
-        let name = ENTRY_NAMES[entry as usize];
         if refusal != 18 {
-            return self.reached(&format!("{refusal} where 18 applies too, {name}"));
+            return self.reached_by(entry, &format!("{refusal} where 18 applies too"));
         }
-        self.reached(&format!("18 by {wrong}, {name}"));
+        self.reached_by(entry, &format!("18 by {wrong}"));
         if refused() {
-            self.reached(&format!("18 where a command is refused too, {name}"));
+            self.reached_by(entry, "18 where a command is refused too");
         }
     }
 
-    /// What marks decide at a command, by what the fold reader answers.
-    fn marks_in_fold(&mut self, fold: &[u8], limit: usize, prices: &Prices, answer: Answer) {
+    /// What marks decide at a command, by what fold reader or short reader answers.
+    fn marks_in_fold(&mut self, entry: Entry, fold: &[u8], limit: usize, prices: &Prices, answer: Answer) {
         let place = answer.place;
-        let in_repeat = |end: usize| open_at(fold, end, 0x20);
+        let in_repeat = |end: usize| open_at(fold, end, &[0x20, 0x22]);
         let both = |items: &[Item]| reference::count_repeats(items) > 0 && prices.mark_in(items);
         match answer.refusal {
-            0 if both(&decode(fold)) => self.reached("a fold read with repeats and a marked label outside them"),
-            3 if prices.marks == [1; 256] && label_missing(fold) && in_repeat(fold.len() - 1) => {
-                self.reached("3 for a missing label in a repeat, every label marked");
+            0 if both(&decode(fold)) => self.reached_by(entry, "a fold with repeats and a marked label outside them"),
+            3 if prices.marks == [1; 256] && matches!(cut_off(fold), [0x10 | 0x11]) && in_repeat(fold.len() - 1) => {
+                self.reached_by(entry, "3 for a missing label in a repeat, every label marked");
             }
             8 if fold[place] == 0x11 && prices.marked(fold[place + 1]) && in_repeat(place) => {
-                self.reached("8 at a marked group in a repeat");
+                self.reached_by(entry, "8 at a marked group in a repeat");
             }
-            19 => self.marked_in_repeat(fold, limit, prices, place),
+            19 => self.marked_in_repeat(entry, fold, limit, prices, place),
             _ => {}
         }
     }
 
     /// A marked label in a repeat, at the place of the refusal.
-    fn marked_in_repeat(&mut self, fold: &[u8], limit: usize, prices: &Prices, place: usize) {
+    fn marked_in_repeat(&mut self, entry: Entry, fold: &[u8], limit: usize, prices: &Prices, place: usize) {
         let kind = if fold[place] == 0x10 { "step" } else { "group" };
-        self.reached(&format!("19 at a {kind}"));
+        self.reached_by(entry, &format!("19 at a {kind}"));
         if open_behind(&fold[..place]).0.last().is_some_and(|&at| fold[at] == 0x11) {
-            self.reached("19 in a group in a repeat");
+            self.reached_by(entry, "19 in a group in a repeat");
         }
         if fold[place - 1] == 0x21 && open_behind(&fold[..place - 1]).1 == place - 1 {
-            self.reached("19 right behind a repeat in a repeat");
+            self.reached_by(entry, "19 right behind a repeat in a repeat");
         }
-        let unmarked = reference::read_fold(fold, limit, &prices.unmarked());
+        let unmarked = reference::read_in(entry.family(), fold, limit, &prices.unmarked());
         if (unmarked.refusal, unmarked.place) == (10, place) {
-            self.reached(&format!("19 at a {kind} where 10 applies too"));
+            self.reached_by(entry, &format!("19 at a {kind} where 10 applies too"));
         }
     }
 
     /// A fold that is refused by its marks alone: what takes no costs knows no marks.
     fn barred(&mut self, fold: &[u8], limit: usize, prices: &Prices) {
-        self.fold_reader(fold, limit, prices);
+        self.fold_readers(fold, limit, prices);
         self.index_and_find(fold);
-        if self.unroller(fold, limit) {
-            self.reached("a fold of 19 unrolled");
+        let short = reference::form_in(Family::Short, fold);
+        let written =
+            [self.unroller(fold, limit), self.convert(Family::Short, fold), self.convert(Family::Long, &short)];
+        for (entry, written) in [Unroll, ToShort, ToLong].into_iter().zip(written) {
+            if written {
+                self.reached_by(entry, "a fold of 19 written");
+            }
         }
     }
 
@@ -821,8 +971,11 @@ type Listing<'a> = Result<&'a Listed, &'a Answer>;
 /// Index builder and finder.
 impl Compare {
     fn reached(&mut self, case: &str) {
-        let at = CASES.iter().position(|&name| name == case).expect("a case of the list");
-        self.cases[at] += 1;
+        *self.cases.get_mut(case).expect("a case of the list") += 1;
+    }
+
+    fn reached_by(&mut self, entry: Entry, case: &str) {
+        self.reached(&format!("{case}, {}", entry.name()));
     }
 
     /// The index builder with slices of so many entries, held to the independent listing.
@@ -832,7 +985,7 @@ impl Compare {
         let mut answer = self.answer_slice();
         let (mut offsets, mut before) = (stamped_words(a), stamped_words(b));
         let status = raw::index(fold, &mut offsets, &mut before, &mut answer);
-        self.check_answer(Entry::Index, fold, &call, status, &answer, expected);
+        self.check_answer(Index, fold, &call, status, &answer, expected);
         let (mut offsets_after, mut before_after) = (stamped_words(a), stamped_words(b));
         let entries = listed.map_or(0, |listed| listed.offsets.len());
         if let (0, Ok(listed)) = (status, listed) {
@@ -842,15 +995,14 @@ impl Compare {
                 self.reached("index of 1,024 entries written");
             }
         }
-        self.check_slice(Entry::Index, fold, &call, "offsets", &offsets, &offsets_after);
-        self.check_slice(Entry::Index, fold, &call, "numbers before", &before, &before_after);
+        self.check_slice(Index, fold, &call, "offsets", &offsets, &offsets_after);
+        self.check_slice(Index, fold, &call, "numbers before", &before, &before_after);
         match status {
             0 if a == entries && b == entries => self.reached("index written to slices just long enough"),
             0 => self.reached("index written to longer slices"),
             14 if b >= entries => self.reached("14 by the offsets alone"),
             14 if a >= entries => self.reached("14 by the numbers before alone"),
             14 => self.reached("14 by both"),
-            9 if over_the_limit(fold) => self.reached("9 of the index builder where the fold reader has 7"),
             _ => {}
         }
     }
@@ -868,7 +1020,7 @@ impl Compare {
         let call = || format!("position {position}, offsets {offsets:?}, numbers before {before:?}");
         let mut answer = self.answer_slice();
         let status = raw::find(fold, offsets, before, position, &mut answer);
-        self.check_answer(Entry::Find, fold, &call, status, &answer, expected);
+        self.check_answer(Find, fold, &call, status, &answer, expected);
         let total = listed.map_or(0, |listed| listed.nodes.len() as u64);
         match status {
             16 if total == 0 => self.reached("16 in the empty fold"),
@@ -878,7 +1030,6 @@ impl Compare {
             }
             16 => self.reached("16 past the total"),
             17 if position >= total => self.reached("17 where the position is not below the total either"),
-            9 if over_the_limit(fold) => self.reached("9 of the finder where the fold reader has 7"),
             _ => {}
         }
         answer.first_chunk().copied()
@@ -923,7 +1074,7 @@ impl Compare {
             if found[..2] != [label as u64, command as u64] || fold[offset..][..2] != [command, label] {
                 let call = || format!("position {position}");
                 let expected = format!("label {label}, command {command} in the run, and the same in the fold");
-                self.differ(Entry::Find, fold, &call, "label, command, offset", &format!("{found:?}"), &expected);
+                self.differ(Find, fold, &call, "label, command, offset", &format!("{found:?}"), &expected);
             }
             self.reached(if command == 0x10 { "a step found" } else { "a group found" });
             if met[offset] {
@@ -1038,9 +1189,17 @@ impl Compare {
     }
 }
 
-/// Whether a fold is refused by its first width over the highest limit, which index builder and finder do not look for.
-fn over_the_limit(fold: &[u8]) -> bool {
-    reference::unroll(fold, MAX_WIDTH, 0).0.refusal == 7
+/// A sound run as the library's folder solves it.
+fn by_the_library(items: &[Item], limit: usize, prices: &Prices) -> Solved {
+    let Prices { steps, groups, marks, first, each } = prices;
+    let lent = runfold::Prices { steps, groups, marks, first: *first, each: *each };
+    let (bytes, cost) = runfold::folded(&inputs::bytes_of(items), limit, lent).expect("the run is sound");
+    Solved { nodes: reference::count_nodes(items), cost, bytes }
+}
+
+/// Whether a fold is refused by its first width over the highest limit, which those who take no limit do not look for.
+fn over_the_limit(family: Family, fold: &[u8]) -> bool {
+    reference::read_in(family, fold, MAX_WIDTH, &unit()).refusal == 7
 }
 
 fn unit() -> Prices {
@@ -1153,11 +1312,11 @@ fn main() {
         random: Random::new(seed),
         calls: [0; ENTRY_NAMES.len()],
         refusals: [[0; NUMBERS]; ENTRY_NAMES.len()],
-        cases: [0; CASES.len()],
+        cases: case_names().into_iter().map(|name| (name, 0)).collect(),
         unlike_tables: 0,
         short_answers: 0,
         against_trial: 0,
-        written: 0,
+        written: [0; 2],
         against_lowest: 0,
         longest: 0,
         deepest: 0,
@@ -1165,15 +1324,17 @@ fn main() {
     };
     let done = |what: &str| println!("{:6.1} s  {what}", began.elapsed().as_secs_f64());
 
-    for input in [edges(), edges_of_marks()].concat() {
+    for input in [edges(), edges_of_marks(), short::edges()].concat() {
         for limit in [1024, 0, 1, 2, 1023, 1025] {
             let prices = c.prices();
-            c.fold_reader(&input, limit, &prices);
+            c.fold_readers(&input, limit, &prices);
             c.unroller(&input, limit);
         }
         c.run_reader(&input);
         c.parts(&input);
         c.every_position(&input);
+        c.there_and_back(&input);
+        c.as_short(&input);
         // Several times, since a lent answer is too short now and then.
         for _ in 0..4 {
             c.marks_in_turn(&input);
@@ -1283,8 +1444,15 @@ fn main() {
         let make = if k % 2 == 0 { inputs::random_fold } else { inputs::wide_fold };
         let fold = inputs::bytes_of(&make(&mut c.random, nodes, labels, groups, repeats));
         c.every_position(&fold);
+        c.there_and_back(&fold);
     }
-    done("every position of folds");
+    done("every position of folds, and to their short forms and back");
+
+    c.border_runs();
+    for k in 0..1000 * scale {
+        c.short_folds(k);
+    }
+    done("short folds, sound and damaged, and counts and widths near 256");
 
     for _ in 0..8000 * scale {
         let size = 1 + c.random.below(40);
@@ -1295,16 +1463,17 @@ fn main() {
     }
     done("damaged folds");
 
-    for _ in 0..8000 * scale {
+    for k in 0..8000 * scale {
         let commands = c.random.below(30);
-        let bytes = inputs::random_commands(&mut c.random, commands);
+        let family = if k % 4 == 0 { Family::Short } else { Family::Long };
+        let bytes = inputs::random_commands(&mut c.random, family, commands);
         c.any_bytes(&bytes);
     }
     done("random commands");
 
     for k in 0..2000 * scale {
         // Any bytes at all, or those that commands are made of.
-        let few = [0x10, 0x11, 0x12, 0x20, 0x21, 0, 1, 2];
+        let few = [0x10, 0x11, 0x12, 0x20, 0x21, 0x22, 0, 1, 2];
         let byte = |r: &mut Random| if k % 2 == 0 { r.byte() } else { *r.pick(&few) };
         let bytes: Vec<u8> = (0..c.random.below(20)).map(|_| byte(&mut c.random)).collect();
         c.any_bytes(&bytes);
@@ -1314,7 +1483,7 @@ fn main() {
     let mut missing = Vec::new();
     println!("\nrefusals seen, by number (0: accepted)");
     for entry in 0..ENTRY_NAMES.len() {
-        if entry == Entry::Part as usize {
+        if entry == Part as usize {
             continue;
         }
         let seen: Vec<String> = (0..NUMBERS)
@@ -1337,11 +1506,11 @@ fn main() {
         println!("NO FOLD WITH GROUPS PRICED UNLIKE STEPS");
         exit(1);
     }
-    println!("\n9 and 10 together, marks, ties, indexes and positions");
-    for (case, count) in CASES.iter().zip(c.cases) {
-        println!("  {case:62} {count:8}");
+    println!("\n9 and 10 together, marks, ties, indexes and positions, and the short family");
+    for case in case_names() {
+        println!("  {case:67} {:8}", c.cases[&case]);
     }
-    let missing: Vec<&str> = CASES.into_iter().zip(c.cases).filter(|case| case.1 == 0).map(|case| case.0).collect();
+    let missing: Vec<String> = case_names().into_iter().filter(|case| c.cases[case] == 0).collect();
     if !missing.is_empty() {
         println!("CASES NEVER SEEN: {}", missing.join(", "));
         exit(1);
@@ -1351,8 +1520,8 @@ fn main() {
         println!("  {name:15} {calls:9}");
     }
     println!(
-        "  folds written and compared byte for byte: {}, {} of them with groups priced unlike steps; runs held to a trial of every fold: {}; long runs held to the lowest cost and the fewest repeats: {}",
-        c.written, c.unlike_tables, c.against_trial, c.against_lowest
+        "  folds written and compared byte for byte: {}, and {} in their short form, {} of all with groups priced unlike steps; runs held to a trial of every fold: {}; long runs held to the lowest cost and the fewest repeats: {}",
+        c.written[0], c.written[1], c.unlike_tables, c.against_trial, c.against_lowest
     );
     println!("  longest run {} nodes, deepest group {} levels", c.longest, c.deepest);
     println!(
