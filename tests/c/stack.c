@@ -220,8 +220,9 @@ static void run_on(uint8_t *stack, size_t size, void (*call)(void))
     swapcontext(&here, &there);
 }
 
-/* The bytes from the stack's upper end to the lowest one that is changed. A byte that happens to be written in one colour is
- * seen in the other, so that the figure is the same each time. */
+/* The bytes from the stack's upper end to the lowest word that is changed: the stack is written in words of eight, and a word may
+ * end in bytes that were there before. A byte that happens to be written in one colour is seen in the other, so that the figure is
+ * the same each time. */
 static size_t used(void (*call)(void))
 {
     static uint8_t *stack;
@@ -235,6 +236,7 @@ static size_t used(void (*call)(void))
         run_on(stack, PAINTED, call);
         while (kept < PAINTED && stack[kept] == colour)
             kept++;
+        kept -= kept % 8;
         if (PAINTED - kept > most)
             most = PAINTED - kept;
     }

@@ -1,5 +1,5 @@
-// Bytes put into a family, command by command. What has no room is left out and the length is answered all the same, so over an empty
-// output the walk only measures.
+// Bytes put into a family, command by command. What has no room is left out and the length is answered all the same, so over an
+// empty output the walk only measures.
 use format::opens_node;
 use format::opens_repeat;
 use format::operand_bytes;

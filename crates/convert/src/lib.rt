@@ -1,5 +1,5 @@
-// The conversions between the two families of commands: a fold to its short form, and a short fold to its long form. The whole input
-// is read before a byte is written: only then are its refusals and the length known.
+// The conversions between the two families of commands: a fold to its short form, and a short fold to its long form. The whole
+// input is read before a byte is written: only then are its refusals and the length known.
 mod form;
 
 use form::put_form;
@@ -10,8 +10,8 @@ ghost use lib.ListN.{length};
 ghost use Rattle.format.specs.Family.{conversion, to-short, to-long};
 ghost use Rattle.format.specs.Output.{written-answer, written-output};
 
-// A fold to its short form: the fold's own refusals, 1, 3 to 6 and 8 to 10, then 14 where the output is shorter than the short form; or
-// the length written.
+// A fold to its short form: the fold's own refusals, 1, 3 to 6 and 8 to 10, then 14 where the output is shorter than the short
+// form; or the length written.
 pub fn to_short(fold: &[u8], out: &mut [u8]) -> Written
     ensures answered { λ r. ⌜ r ≡ written-answer (to-short (now (fold .entry))) (length (now (out .entry))) ⌝ }
     ensures written { λ _. ⌜ now (out .exit) ≡ written-output (to-short (now (fold .entry))) (now (out .entry)) ⌝ }

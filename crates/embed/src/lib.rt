@@ -1,6 +1,6 @@
 // The static library's boundary for C and Rust: the readers, the unroller, the folder, the index and the finder over numbers and
-// lent slices; in short.rt the short family. Every answer is seven numbers in a lent slice: refusal, place and five values, which readers, unroller and folder
-// use for nodes, length, cost, steps and depth; 0 where the function gives no such value.
+// lent slices; in short.rt the short family. Every answer is seven numbers in a lent slice: refusal, place and five values, which
+// readers, unroller and folder use for nodes, length, cost, steps and depth; 0 where the function gives no such value.
 mod short;
 
 use folder::fold;
@@ -60,20 +60,20 @@ fn store(answer: &mut [u64], a: Answer)
 }
 
 // A fold reader's answer.
-fn store_reading(answer: &mut [u64], read: FoldReading)
+fn store_reading(answer: &mut [u64], fold: FoldReading)
     requires { ⌜ entry-count ≤ length (now answer) ⌝ }
-    ensures { λ _. ⌜ now (answer .exit) ≡ numbers (of-fold read) ++ drop entry-count (now (answer .entry)) ⌝ }
+    ensures { λ _. ⌜ now (answer .exit) ≡ numbers (of-fold fold) ++ drop entry-count (now (answer .entry)) ⌝ }
 {
     store(
         answer,
         Answer {
-            refusal: read.refusal,
-            place: read.place,
-            one: read.nodes as u64,
-            two: read.length as u64,
-            three: read.cost,
-            four: read.steps as u64,
-            five: read.depth as u64,
+            refusal: fold.refusal,
+            place: fold.place,
+            one: fold.nodes as u64,
+            two: fold.length as u64,
+            three: fold.cost,
+            four: fold.steps as u64,
+            five: fold.depth as u64,
         },
     );
 }

@@ -215,8 +215,8 @@ module _ (v : Verdict) (costs choices out : List ℕ) where
     (folded .written ∙ rw (e, long), (folded .costs-cleared ∙ rw (e, long), folded .choices-cleared ∙ rw (e, long))),
   )
 
--- What an answer and an output say of the fold, in either family: nothing by other numbers; on success it is in front; after 14 it has
--- no room.
+-- What an answer and an output say of the fold, in either family: nothing by other numbers; on success it is in front; after 14 it
+-- has no room.
 module _ (short : Bool) (s : List ℕ) (small : Bytes s) (k : ℕ) (T : Tariff) (costs choices : ℕ) (out out′ : List ℕ) (r : Folded)
     (answered : r ≡ fold-answer (folding-in short s k T) costs choices (length out))
     (written : out′ ≡ fold-output (folding-in short s k T) costs choices out) where

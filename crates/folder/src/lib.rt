@@ -1,5 +1,5 @@
-// The folder: the cheapest fold of a run under a width limit, ties by fewer repeats and then by byte order; and the same fold in its
-// short form. One table of stretches serves the whole tree; only lent memory holds it.
+// The folder: the cheapest fold of a run under a width limit, ties by fewer repeats and then by byte order; and the same fold in
+// its short form. One table of stretches serves the whole tree; only lent memory holds it.
 mod either;
 mod prices;
 mod run;
@@ -53,8 +53,8 @@ pub fn fold(
     )
 }
 
-// The short folder: the same fold, written in its short form, which 14 measures. Which fold it is does not depend on the form: the long
-// form of what it writes is the cheapest of all bytes, and the short form of what the folder writes is what it writes.
+// The short folder: the same fold, written in its short form, which 14 measures. Which fold it is does not depend on the form: the
+// long form of what it writes is the cheapest of all bytes, and the short form of what the folder writes is what it writes.
 pub fn fold_short(
     run: &[u8],
     limit: usize,

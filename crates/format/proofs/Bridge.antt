@@ -1,5 +1,5 @@
--- The bridge: the machine accepts bytes exactly when they are the byte form, in the rules' family, of a tree of the right shape, with
--- the tree's counts and its unrolled bytes. Neither prices nor limit decide which tree that is.
+-- The bridge: the machine accepts bytes exactly when they are the byte form, in the rules' family, of a tree of the right shape,
+-- with the tree's counts and its unrolled bytes. Neither prices nor limit decide which tree that is.
 use mathlib.Core.Path.{_≡_, refl, sym, ap, _∙_}
 use mathlib.Core.Bool.{Bool, true, false, false≢true, cond, _&&_}
 use mathlib.Core.List.{List, [], _∷_, _++_, append-assoc, append-nil}

@@ -1,5 +1,5 @@
--- The two families: a fold and its short form are one tree, so they are read alike, each is the other's form, and there is no second
--- short form.
+-- The two families: a fold and its short form are one tree, so they are read alike, each is the other's form, and there is no
+-- second short form.
 use mathlib.Core.Path.{_≡_, refl, sym, ap, _∙_}
 use mathlib.Core.Bool.{Bool, true, false, cond, _&&_}
 use mathlib.Core.List.{List, [], _∷_, _++_, append-assoc, append-nil}
@@ -129,8 +129,8 @@ short-form-no-longer R long s small a =
     own-form : (R : Rules) → R .short ≡ false → (s : List ℕ) (f : Forest) → form-in (R .short) f ≡ s → form-in false f ≡ s
     own-form R e s f form = rw e at form
 
--- EVERY WELL-FORMED FOLD HAS EXACTLY ONE SHORT FORM, which the short family reads as the long one reads the fold: with the same counts
--- (nodes, bytes, cost, steps, depth) and the same run. Back and forth is the identity, both ways.
+-- EVERY WELL-FORMED FOLD HAS EXACTLY ONE SHORT FORM, which the short family reads as the long one reads the fold: with the same
+-- counts (nodes, bytes, cost, steps, depth) and the same run. Back and forth is the identity, both ways.
 module _ (R : Rules) (s : List ℕ) (small : Bytes s) where
   abbrev long : Rules
   long = in-family false R

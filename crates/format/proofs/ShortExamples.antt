@@ -1,5 +1,5 @@
--- Examples of the short family, checked by computation: what the short reader answers, in which order its checks come, and which form
--- a fold has in each family.
+-- Examples of the short family, checked by computation: what the short reader answers, in which order its checks come, and which
+-- form a fold has in each family.
 use mathlib.Core.Path.{_≡_, refl}
 use mathlib.Core.List.{List, [], _∷_, _++_, map}
 use Prim.Native.Nat.{ℕ}

@@ -35,7 +35,8 @@ abbrev pub format-rules : Tariff → Rules
 format-rules T = fold-rules (allowed (limits .width) (T .marks)) (priced T)
 
 -- Bytes are well formed by rules that refuse nothing in them: by the format's, none of refusals 1, 3 to 10, 19 and, in the short
--- family, 20 applies at the largest width limit. Of the costs the marks decide this; the prices decide nothing but the cost that is counted.
+-- family, 20 applies at the largest width limit. Of the costs the marks decide this; the prices decide nothing but the cost that
+-- is counted.
 pub record WellFormed (R : Rules) (s : List ℕ) : Type 0 where
   pub tally : Tally
   pub text : List ℕ

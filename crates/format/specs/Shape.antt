@@ -30,8 +30,8 @@ tally-of P f =
       depth = group-depth f;
     }
 
--- A byte list that reads as a tree: it is the byte form, in the rules' family, of one of the right shape, with these counts and this
--- text.
+-- A byte list that reads as a tree: it is the byte form, in the rules' family, of one of the right shape, with these counts and
+-- this text.
 pub record Reads (R : Rules) (s : List ℕ) (t : Tally) (x : List ℕ) : Type 0 where
   pub tree : Forest
   pub form : form-in (R .short) tree ≡ s

@@ -1,5 +1,5 @@
--- Short folds beside the cheapest fold: nobody undercuts it with one, and no other one ties with it but the short form of a fold that
--- comes later. So shortness decides nothing.
+-- Short folds beside the cheapest fold: nobody undercuts it with one, and no other one ties with it but the short form of a fold
+-- that comes later. So shortness decides nothing.
 use mathlib.Core.Path.{_≡_, sym, ap, _∙_}
 use mathlib.Core.Bool.{true, false}
 use mathlib.Core.List.{List}

@@ -1,5 +1,5 @@
-// Bytes put into a lent output, as far as it has room: one byte, a number of two, and the open of a repeat in either family. This is
-// the one place where a repeat's open is written.
+// Bytes put into a lent output, as far as it has room: one byte, a number of two, and the open of a repeat in either family. This
+// is the one place where a repeat's open is written.
 use format::Format;
 use format::opens_short;
 ghost use mathlib.Core.Path.{_≡_};
@@ -10,8 +10,8 @@ ghost use lib.Seq.{sets};
 ghost use Rattle.format.specs.Forest.{two-bytes, opening, opening-size};
 ghost use Rattle.put.specs.Bounds.{most-bytes};
 
-// Writes the open of a repeat, count and width with it, and answers the place behind it: in the short family a `22` where a byte each
-// holds them, else a `20`.
+// Writes the open of a repeat, count and width with it, and answers the place behind it: in the short family a `22` where a byte
+// each holds them, else a `20`.
 pub fn put_open(out: &mut [u8], to: usize, short: bool, h: usize, w: usize) -> usize
     requires { ⌜ (to + opening-size short h w ≤ most-bytes) × (h < 65536) × (w < 65536) ⌝ }
     ensures { λ r. ⌜ r ≡ to + opening-size short h w ⌝ }

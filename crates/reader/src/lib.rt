@@ -1,5 +1,5 @@
-// The readers: run reader, part of a node, fold reader with cost, the same of the short family, and without limit and costs. One walk
-// serves them all (crate walk). Each answers for every input whatsoever, and none writes anywhere.
+// The readers: run reader, part of a node, fold reader with cost, the same of the short family, and without limit and costs. One
+// walk serves them all (crate walk). Each answers for every input whatsoever, and none writes anywhere.
 mod node;
 
 use format::FoldReading;
@@ -176,8 +176,8 @@ pub fn measure(fold: &[u8], limit: usize) -> FoldReading
     read_headed(fold, false, head, &free, &free, &unmarked, 0, 0)
 }
 
-// A fold of a family by itself, without limit and costs: refusals 1, 3 to 6 and 8 to 10, in the short family 20 as well, or the nodes,
-// bytes, steps and depth of the run at cost 0. The walk gets a width limit that no operand passes.
+// A fold of a family by itself, without limit and costs: refusals 1, 3 to 6 and 8 to 10, in the short family 20 as well, or the
+// nodes, bytes, steps and depth of the run at cost 0. The walk gets a width limit that no operand passes.
 pub fn read_alone(fold: &[u8], short: bool) -> FoldReading
     ensures { λ r. ⌜ r ≡ as-fold-reading (alone-in short (now (fold .entry))) ⌝ }
 {
@@ -213,8 +213,8 @@ pub fn read_fold(
     read_headed(fold, false, head, steps, groups, marks, first, each)
 }
 
-// The short reader: the fold reader of the short family, which refuses with 20 as well. What it accepts means, in the report's words,
-// what its long form means.
+// The short reader: the fold reader of the short family, which refuses with 20 as well. What it accepts means, in the report's
+// words, what its long form means.
 pub fn read_short(
     fold: &[u8],
     limit: usize,

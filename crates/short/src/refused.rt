@@ -1,5 +1,5 @@
-// The refusals of the short family: outputs that are one byte short, what the short reader refuses and in which order, and `22` where it
-// is no command.
+// The refusals of the short family: outputs that are one byte short, what the short reader refuses and in which order, and `22`
+// where it is no command.
 use convert::to_long;
 use convert::to_short;
 use folder::fold_short;

@@ -190,11 +190,12 @@ pub fn enter_repeat(s: &[u8], a: Terms, at: usize, d: Depth, t: Tally) -> Walk
     let o = operands_at(s, at);
     let long = has_shorter(a.short, c, o);
     let count = o.count;
+    let width = o.width;
+    let widest = a.widest;
     if count < 2 {
         return refused(6, at, t);
     }
-    let width = o.width;
-    if a.widest < width {
+    if widest < width {
         return refused(7, at, t);
     }
     if long {

@@ -36,7 +36,8 @@ pub fn operand(s: &[u8], at: usize) -> usize
     0
 }
 
-// The operands of the repeat whose command stands at an offset, one byte each behind a `22`, else two; bytes past the end count as 0.
+// The operands of the repeat whose command stands at an offset, one byte each behind a `22`, else two; bytes past the end count as
+// 0.
 pub fn operands_at(s: &[u8], at: usize) -> Operands
     requires { ⌜ at < length (now s) ⌝ }
     ensures { λ r. ⌜ (r .count ≡ count-at (now (s .entry)) at) × (r .count < 65536) ⌝ }

@@ -12,8 +12,8 @@ use Rattle.table.specs.Used.{UsedFilled}
 use Rattle.table.specs.Nodes.{NodesListed}
 use Rattle.put.specs.Bounds.{most-bytes}
 
--- All that the length and the bytes of the cheapest fold of a sequence, in a family, rest on: the sequence stands in the run, its nodes are listed by
--- their numbers, from `first` down to `behind`, and the table has the stretches of it that a fold can use.
+-- All that the length and the bytes of the cheapest fold of a sequence, in a family, rest on: the sequence stands in the run, its
+-- nodes are listed by their numbers, from `first` down to `behind`, and the table has the stretches of it that a fold can use.
 pub record WriteReady (short : Bool) (run places nexts choices : List ℕ) (first behind : ℕ) : Type 0 where
   pub tree : Forest
   pub is-run : (A : Allowed) → Run A tree

@@ -29,7 +29,7 @@ put-form-requires c κs =
     let e = c .before in
     let m = e .before .before in
     let a = start m .args in
-    form-fits (a .from) (a .short) (a .fold .now) (small m) (m .read-alone .result) (m .read-alone .ensures) (a .out .now) (e .if1 .left)
+    form-fits (a .from) _ (a .fold .now) (small m) (m .read-alone .result) (m .read-alone .ensures) (a .out .now) (e .if1 .left)
 
 returns-2 : tie.Need-returns-2
 returns-2 c =
@@ -45,7 +45,7 @@ put-form-requires-2 c κs =
     let e = c .before .before .before .before .before in
     let m = e .before .before in
     let a = start m .args in
-    form-fits (a .from) (a .short) (a .fold .now) (small m) (m .read-alone .result) (m .read-alone .ensures) (a .out .now) (e .if1 .left)
+    form-fits (a .from) _ (a .fold .now) (small m) (m .read-alone .result) (m .read-alone .ensures) (a .out .now) (e .if1 .left)
 
 same-length : tie.Need-same-length
 same-length c = search needs

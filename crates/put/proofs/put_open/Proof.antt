@@ -83,7 +83,7 @@ put-two-requires c κs =
     let test = c .before .before .before .before .before in
     let S = start (test .before) in
     let e = two test in
-    (omega (arith, rw e at (S .pre .0)), S .pre .1)
+    (omega (arith, rw e at (S .pre .0)), omega (arith, S .pre .1))
 
 add-put-two-2 : tie.Need-add-put-two-2
 add-put-two-2 c = omega (arith, placed-two (c .before .before .before .before .before .before .before .before .before))
@@ -93,7 +93,7 @@ put-two-requires-2 c κs =
     let test = c .before .before .before .before .before .before .before .before .before in
     let S = start (test .before) in
     let e = two test in
-    (omega (arith, rw e at (S .pre .0)), S .pre .2)
+    (omega (arith, rw e at (S .pre .0)), omega (arith, S .pre .2))
 
 add-result-2 : tie.Need-add-result-2
 add-result-2 c = omega (arith, placed-two (c .before .before .before .before .before .before .before .before .before .before .before .before))

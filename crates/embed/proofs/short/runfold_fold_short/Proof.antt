@@ -1,5 +1,5 @@
--- `embed::short::runfold_fold_short` meets its contract: what the short folder writes and leaves in the work slices, and its answer stored as
--- numbers.
+-- `embed::short::runfold_fold_short` meets its contract: what the short folder writes and leaves in the work slices, and its
+-- answer stored as numbers.
 use borrow.Author.Needs.{needs}
 use mathlib.Core.Path.{ap, _∙_}
 use Prim.Native.Nat.{ℕ}

@@ -26,7 +26,7 @@ abbrev begun : tie.After-operands-at → tie.Start
 begun c = sized (c .before .before)
 
 abbrev tested : tie.Else4 → tie.After-has-shorter
-tested c = c .before .before .before
+tested c = c .before .before
 
 abbrev said : tie.Else4 → tie.After-operands-at
 said c = tested c .before
@@ -105,7 +105,7 @@ refused-requires-4 c κs = search needs
 
 returns-4 : tie.Need-returns-4
 returns-4 c =
-    let w = c .before .before .before in
+    let w = c .before .before in
     let n = w .before .before in
     let S = begun n in
     rw (c .refused4 .ensures) (λ steps groups marks. repeat-wide (S .args .a) steps groups marks (S .args .s .now) (S .args .d) (S .args .at) (S .args .t) (S .pre .0) (S .pre .1 .0) (folds (n .before .before)) (long (n .before)) (twice w) (omega (arith, n .operands-at .ensures .1 .0, c .before .if4 .taken)) _ _, λ z. absurd (omega arith))
@@ -121,7 +121,7 @@ returns-5 c =
     let w = c .before .before in
     let n = said w in
     let S = begun n in
-    rw (c .refused5 .ensures) (λ steps groups marks. repeat-long (S .args .a) steps groups marks (S .args .s .now) (S .args .d) (S .args .at) (S .args .t) (S .pre .0) (S .pre .1 .0) (folds (n .before .before)) (long (n .before)) (twice (w .before .before)) (narrow w) (sym (looked (tested w)) ∙ c .before .if5 .taken) _ _, λ z. absurd (omega arith))
+    rw (c .refused5 .ensures) (λ steps groups marks. repeat-long (S .args .a) steps groups marks (S .args .s .now) (S .args .d) (S .args .at) (S .args .t) (S .pre .0) (S .pre .1 .0) (folds (n .before .before)) (long (n .before)) (twice (w .before)) (narrow w) (sym (looked (tested w)) ∙ c .before .if5 .taken) _ _, λ z. absurd (omega arith))
 
 refused-requires-6 : tie.Need-refused-requires-6
 refused-requires-6 c κs = search needs
@@ -132,7 +132,7 @@ returns-6 c =
     let w = k .before in
     let n = said w in
     let S = begun n in
-    rw (c .refused6 .ensures) (λ steps groups marks. repeat-deep (S .args .a) steps groups marks (S .args .s .now) (S .args .d) (S .args .at) (S .args .t) (S .pre .0) (S .pre .1 .0) (folds (n .before .before)) (long (n .before)) (twice (w .before .before)) (narrow w) (sym (looked (tested w)) ∙ k .if5 .left) (omega (arith, c .before .if6 .taken)) _ _, λ z. absurd (omega arith))
+    rw (c .refused6 .ensures) (λ steps groups marks. repeat-deep (S .args .a) steps groups marks (S .args .s .now) (S .args .d) (S .args .at) (S .args .t) (S .pre .0) (S .pre .1 .0) (folds (n .before .before)) (long (n .before)) (twice (w .before)) (narrow w) (sym (looked (tested w)) ∙ k .if5 .left) (omega (arith, c .before .if6 .taken)) _ _, λ z. absurd (omega arith))
 
 -- From where the depth is within the limit.
 abbrev shallow : tie.Else6 → tie.Else5
@@ -147,11 +147,11 @@ mul-p c = omega (arith, dear (told (c .before)))
 add-p : tie.Need-add-p
 add-p c = let n = told (c .before .before) in omega (arith, dear n, begun n .pre .1 .1 .first)
 
-add-t18 : tie.Need-add-t18
-add-t18 c = let n = told (c .before .before) in record { fits = omega (arith, long (n .before), begun n .fits .at) }
+add-t19 : tie.Need-add-t19
+add-t19 c = let n = told (c .before .before) in record { fits = omega (arith, long (n .before), begun n .fits .at) }
 
-add-t17 : tie.Need-add-t17
-add-t17 c = let n = told (c .before .before) in omega (arith, long (n .before), n .before .before .operand-bytes .ensures)
+add-t18 : tie.Need-add-t18
+add-t18 c = let n = told (c .before .before) in omega (arith, long (n .before), n .before .before .operand-bytes .ensures)
 
 inside-repeat-requires : tie.Need-inside-repeat-requires
 inside-repeat-requires c κs =
@@ -168,7 +168,7 @@ returns-7 c =
     let S = begun n in
     let f = folds (n .before .before) in
     let l = long (n .before) in
-    let m = twice (w .before .before) in
+    let m = twice (w .before) in
     let size = n .before .before .operand-bytes .ensures in (
       λ steps groups marks. rw (c .inside-repeat .ensures, size) (repeat-on (S .args .a) steps groups marks (S .args .s .now) (S .args .d) (S .args .at) (S .args .t) (S .pre .0) (S .pre .1 .0) f l m (narrow w) (sym (looked (tested w)) ∙ k .if5 .left) (omega (arith, e .if6 .left)) _ (ap (λ (k : ℕ). S .args .a .first + S .args .a .each * (k - 2)) (n .operands-at .ensures .0 .0)) (omega (arith, dear n, S .pre .1 .1 .first))),
       λ z. (f, m, l),
@@ -197,7 +197,7 @@ enter-repeat-spec =
     returns-6
     mul-p
     add-p
+    add-t19
     add-t18
-    add-t17
     inside-repeat-requires
     returns-7)
