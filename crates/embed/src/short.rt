@@ -97,9 +97,9 @@ pub extern "C" fn runfold_to_short(fold: &[u8], out: &mut [u8], answer: &mut [u6
     if answer.len() < ENTRIES {
         return SHORT;
     }
-    let converted = to_short(fold, out);
-    store_written(answer, converted);
-    converted.refusal
+    let short = to_short(fold, out);
+    store_written(answer, short);
+    short.refusal
 }
 
 // A short fold to its long form: the length written.
@@ -112,7 +112,7 @@ pub extern "C" fn runfold_to_long(fold: &[u8], out: &mut [u8], answer: &mut [u64
     if answer.len() < ENTRIES {
         return SHORT;
     }
-    let converted = to_long(fold, out);
-    store_written(answer, converted);
-    converted.refusal
+    let long = to_long(fold, out);
+    store_written(answer, long);
+    long.refusal
 }

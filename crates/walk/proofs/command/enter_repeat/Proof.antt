@@ -41,8 +41,11 @@ long c = omega (arith, sized (c .before) .pre .0 .below, c .before .operand-byte
 twice : (c : tie.Else3) → (let a = begun (c .before .before) .args in 2 ≤ count-at (a .s .now) (a .at))
 twice c = omega (arith, c .before .before .operands-at .ensures .0 .0, c .if3 .left)
 
+in-limit : (c : tie.Else4) → said c .operands-at .result .width ≤ begun (said c) .args .a .widest
+in-limit c = c .if4 .left
+
 narrow : (c : tie.Else4) → (let a = begun (said c) .args in width-at (a .s .now) (a .at) ≤ a .a .widest)
-narrow c = omega (arith, said c .operands-at .ensures .1 .0, c .if4 .left)
+narrow c = omega (arith, said c .operands-at .ensures .1 .0, in-limit c)
 
 -- What the test of the family looked at.
 abbrev shorter : (c : tie.After-operands-at) → Bool
