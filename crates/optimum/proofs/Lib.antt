@@ -2,6 +2,7 @@
 pub mod Pieces
 pub mod Cut
 pub mod Powers
+pub mod Matches
 pub mod Rank
 pub mod Items
 pub mod Least

@@ -14,7 +14,7 @@ use Rattle.optimum.proofs.Powers.{free-less, free-back, reach, shift-from-power
 use Rattle.table.specs.Table.{stretch}
 use Rattle.solver.specs.declared.matches.Source.{Source}
 use Rattle.solver.specs.Rows.{Matches, Extending, Drawn}
-use Rattle.solver.proofs.Offers.{matched-most}
+use Rattle.optimum.proofs.Matches.{matched-most}
 
 module _ {A : Allowed} {t : Forest} {i m : ℕ} {extents same : List ℕ} {g : Source} (r : Run A t) (all : siblings t ≡ m) (some : i < m)
     (x : Extending (A .marked) t (i + 1) extents) (matches : Matches (A .marked) (back i t) same) (drawn : Drawn extents i m same g) where

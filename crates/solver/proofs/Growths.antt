@@ -1,54 +1,19 @@
 -- The matches grown by one sibling.
-use mathlib.Core.Path.{_≡_, refl, sym, _∙_}
+use mathlib.Core.Path.{_≡_, refl, _∙_}
 use mathlib.Core.List.{List}
 use Prim.Native.Nat.{ℕ, _+_, _<_, _≤_}
-use native.Mathlib.Numerals.{add-one}
 use native.Mathlib.Decide.{decLt, ℕ-discrete}
 use native.Mathlib.Omega.{arith}
 use lib.ListN.{length, getD, set, length-set}
 use lib.Seq.{getD-set-same, getD-set-other}
-use Rattle.format.specs.Forest.{Forest, Allowed, siblings, holds}
-use Rattle.optimum.specs.Cheapest.{Run, front, back, node, FreeCopy}
-use Rattle.optimum.proofs.Cut.{back-back, siblings-back}
-use Rattle.optimum.proofs.Powers.{node-back, free-grow}
+use Rattle.format.specs.Forest.{Forest, Allowed, siblings}
+use Rattle.optimum.specs.Cheapest.{Run, back}
+use Rattle.optimum.proofs.Cut.{siblings-back}
 use Rattle.table.specs.Listing.{Classed}
-use Rattle.solver.specs.Rows.{Matched, Matches, Growing}
+use Rattle.optimum.specs.Matches.{Matched}
+use Rattle.optimum.proofs.Matches.{further, matched-more, matched-none}
+use Rattle.solver.specs.Rows.{Matches, Growing}
 use Rattle.table.proofs.Listings.{entry-more, equal-kinds, kinds-equal}
-
--- From sibling i on there is one more than from the next on.
-further : (A : Allowed) (t : Forest) → Run A t → (i : ℕ) → i < siblings t → siblings (back i t) ≡ siblings (back (i + 1) t) + 1
-further A t r i h =
-    omega (arith, siblings-back i t (r .plain) (omega arith), siblings-back (i + 1) t (r .plain) (omega arith))
-
--- One sibling more in front: the matches at a width grow by one, or there are none.
-module _ (A : Allowed) (t : Forest) (r : Run A t) (i : ℕ) (h : i < siblings t) (w : ℕ) where
-  matched-more : (k : ℕ) → FreeCopy (A .marked) (node i t) (node (i + w) t) → Matched (A .marked) (back (i + 1) t) w k
-      → Matched (A .marked) (back i t) w (k + 1)
-  unfolding back
-  matched-more k e m =
-      let next = back-back i 1 (i + 1) t refl in
-      let same : FreeCopy (A .marked) (node 0 (back i t)) (node w (back i t)) = rw (node-back i w (i + w) t refl) e in
-      record {
-        shift = rw add-one (free-grow (A .marked) k w (back i t) same (rw next (m .shift)));
-        bound = omega (arith, m .bound, further A t r i h);
-        stop = λ l q. m .stop (omega (arith, further A t r i h))
-            (rw (
-              node-back (i + 1) k (i + (k + 1)) t (omega arith) ∙ sym (node-back i (k + 1) (i + (k + 1)) t refl),
-              node-back (i + 1) (k + w) (i + (k + 1 + w)) t (omega arith) ∙ sym (node-back i (k + 1 + w) (i + (k + 1 + w)) t refl),
-            )
-            q);
-      }
-
-  matched-none : i + w ≤ siblings t → (i + w < siblings t → FreeCopy (A .marked) (node i t) (node (i + w) t) → ⊥)
-      → Matched (A .marked) (back i t) w 0
-  unfolding front back holds
-  matched-none l z =
-      let all = siblings-back i t (r .plain) (omega arith) in
-      record {
-        shift = record { same = refl; unmarked = refl };
-        bound = omega arith;
-        stop = λ m q. z (omega arith) (rw (node-back i (0 + w) (i + w) t (omega arith)) at q);
-      }
 
 -- The matches below width w are grown, the others as they were.
 pub record GrownBelow (kinds : List ℕ) (i w : ℕ) (before after : List ℕ) : Type 0 where

@@ -18,7 +18,7 @@ use Rattle.table.specs.Table.{BestKey, stretch}
 use Rattle.solver.specs.declared.row.Row.{Row}
 use Rattle.solver.specs.Rows.{RowReady, Rowed, Keyed, pair-key}
 use Rattle.solver.specs.Ends.{Beyond, EndCame, by-plain, by-cover, by-repeat, Ending, repeat-end}
-use Rattle.solver.proofs.Offers.{near-power, power-near}
+use Rattle.optimum.proofs.Matches.{near-power, power-near}
 use Rattle.solver.proofs.Extents.{drawn-body}
 use Rattle.solver.proofs.Stretches.{fitting, best-combined, best-covers, best-is, whole-price, whole-candidate, whole-power, first-candidate, first-price, first-key, keyed-best}
 use Rattle.solver.proofs.Solving.{Pair, modest, from-here, few, tail-adds, matched, solved}

@@ -1,53 +1,23 @@
 -- The keys of the repeats of one width, offered count by count at the covers that they have.
 use mathlib.Core.Path.{_≡_, refl, _∙_}
-use mathlib.Core.Bool.{Bool}
 use mathlib.Core.Logic.{_⊎_, inl, inr}
 use mathlib.Core.List.{List}
 use Prim.Native.Nat.{ℕ, suc, _+_, _-_, _*_, _≤_, _<_}
-use native.Mathlib.Nat.{suc-mul, mul-le-mul-right, le-mul-of-pos-right}
-use native.Mathlib.Decide.{ℕ-discrete, decLe, decLt}
+use native.Mathlib.Nat.{mul-le-mul-right, le-mul-of-pos-right}
+use native.Mathlib.Decide.{ℕ-discrete, decLt}
 use native.Mathlib.Omega.{arith}
 use lib.ListN.{length, getD, set, length-set}
 use lib.Seq.{getD-set-same, getD-set-other}
-use Rattle.format.specs.Forest.{Forest, Allowed, siblings}
-use Rattle.optimum.specs.Cheapest.{Run, front, back, node, FreeCopy, Power}
-use Rattle.optimum.proofs.Powers.{node-back, free-node, power-from-shift, shift-from-power, reach}
-use Rattle.solver.specs.Rows.{Matched, Came, Offering, offer-key}
+use Rattle.optimum.proofs.Powers.{reach}
+use Rattle.optimum.proofs.Matches.{copy-more}
+use Rattle.solver.specs.Rows.{Came, Offering, offer-key}
 
--- One copy more covers d siblings more; so what is in reach fits the lists.
-pub copy-more : (g h d : ℕ) → suc g ≡ h → h * d ≡ g * d + d
-copy-more g h d e = rw (← e) (suc-mul g d)
-
+-- What is in reach fits the lists.
 pub in-reach : (g h d span : ℕ) → suc g ≡ h → 0 < d → span + d ≤ 1024 → g * d ≤ span → (h * d ≤ 1024) × (h ≤ 1024)
 in-reach g h d span e pos l near =
     let m = copy-more g h d e in
     let n = le-mul-of-pos-right h pos in
     (omega arith, omega arith)
-
--- As many siblings match as are equal and free.
-pub matched-most : {marked : ℕ → Bool} {T : Forest} (w k d : ℕ) → Matched marked T w k → d + w ≤ siblings T
-    → FreeCopy marked (front d T) (front d (back w T)) → d ≤ k
-matched-most {marked} {T} w k d m fits e = elim (decLe d k) [
-  | yes l ↦ l
-  | no l ↦
-      let far : k < d = omega arith in
-      let same : FreeCopy marked (node k T) (node (k + w) T) =
-      rw (node-back w k (k + w) T (omega arith)) at (free-node marked k d T (back w T) far e) in
-      absurd (m .stop (omega arith) same)
-]
-
--- A count is possible exactly where the siblings match those d further on for one copy less.
-pub near-power : {A : Allowed} {T : Forest} (h d k : ℕ) → Run A T → 0 < d → d ≤ A .widest → Matched (A .marked) T d k → 2 ≤ h → (h - 1) * d ≤ k
-    → Power A T h d
-near-power h d k r pos within m twice near =
-    let s : suc (h - 1) ≡ h = omega arith in
-    let e = copy-more (h - 1) h d s in
-    power-from-shift (h - 1) h d k r s (omega arith) pos within (omega (arith, m .bound)) near (m .shift)
-
-pub power-near : {A : Allowed} {T : Forest} (h d k : ℕ) → Run A T → Matched (A .marked) T d k → Power A T h d → (h - 1) * d ≤ k
-power-near h d k r m p =
-    let s : suc (h - 1) ≡ h = omega (arith, p .repeats .twice) in
-    matched-most d k ((h - 1) * d) m (omega (arith, reach p .covers, copy-more (h - 1) h d s)) (shift-from-power (h - 1) h d r s p)
 
 -- The counts from `from` up to below h are offered.
 pub record Upto (prices : List ℕ) (cost d span from : ℕ) (before now : List ℕ) (h : ℕ) : Type 0 where

@@ -1,7 +1,7 @@
 -- Solving a row: the keys that it starts from, what one more solved stretch does to those of longer ones, and the end.
 use mathlib.Core.Path.{_≡_, refl, sym, ap, _∙_}
 use mathlib.Core.Bool.{Bool, true, false}
-use mathlib.Core.Logic.{_⊎_, ⊎-elim}
+use mathlib.Core.Logic.{⊎-elim}
 use mathlib.Core.List.{List}
 use Prim.Native.Nat.{ℕ, suc, _+_, _-_, _*_, _<_, _≤_}
 use native.Mathlib.Nat.{mul-le-mul, mul-le-mul-right}
@@ -21,8 +21,9 @@ use Rattle.optimum.proofs.Second.{Second, second}
 use Rattle.table.specs.Keys.{key, combined-digits, cost-digit, choice-digits, count-digit, width-digit, covered, combined-base, stored-key}
 use Rattle.table.specs.Table.{BestKey, Entry, stretch, entry-at, key-at, rest-key}
 use Rattle.solver.specs.declared.row.Row.{Row}
-use Rattle.solver.specs.Rows.{behind-key, RowReady, RowFits, RowLow, Rowed, KeysReady, top-cover, Advanced, Started, Settled, Pushed, push, pass, skip, Widened, offer, too-wide, unlike, NoneBehind, Matched, Keyed, Came, pair-key, offer-key}
-use Rattle.solver.proofs.Offers.{copy-more, near-power, power-near}
+use Rattle.solver.specs.Rows.{behind-key, RowReady, RowFits, RowLow, Rowed, KeysReady, top-cover, Advanced, Started, Settled, Pushed, push, pass, skip, Widened, offer, too-wide, unlike, NoneBehind, Keyed, Came, pair-key, offer-key}
+use Rattle.optimum.specs.Matches.{Matched}
+use Rattle.optimum.proofs.Matches.{copy-more, near-power, power-near}
 use Rattle.solver.proofs.Extents.{drawn-within, drawn-closed}
 use Rattle.solver.proofs.Stretches.{Modest, fitting, piece, cost-low, best-entry, best-combined, best-covers, best-low, best-is, best-keyed, best-one, whole-price, whole-candidate, first-candidate, first-price, first-key, keyed-best, keyed-plain}
 

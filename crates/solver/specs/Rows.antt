@@ -11,6 +11,7 @@ use Rattle.format.specs.Limits.{Prices, of-repeat}
 use Rattle.format.specs.Forest.{Forest, Allowed, siblings, nodes}
 use Rattle.optimum.specs.Fewest.{combined}
 use Rattle.optimum.specs.Cheapest.{Run, front, back, node, FreeCopy, rank, usual, price, Candidate, Power, Least, best-cost}
+use Rattle.optimum.specs.Matches.{Matched}
 use Rattle.table.specs.Keys.{factor, packed, key, combined-digits, covered, combined-base, stored-key, top-price, top-key}
 use Rattle.table.specs.Table.{BestKey, Entry, cell, number, Falling, Stored, entry-at, key-at, rest-key, stretch}
 use Rattle.table.specs.Listing.{Numbered, Classed}
@@ -57,12 +58,6 @@ pub record TailsReady (tails : List ℕ) : Type 0 where
 pub record Priced (P : Prices) (prices : List ℕ) : Type 0 where
   pub ready : PricesReady prices
   pub price-of : (h : ℕ) → 2 ≤ h → h ≤ 1024 → combined factor (getD prices h 0) 1 ≡ of-repeat P h
-
--- k siblings from the first on equal the one w further and hold no marked label, and no more.
-pub record Matched (marked : ℕ → Bool) (T : Forest) (w k : ℕ) : Type 0 where
-  pub shift : FreeCopy marked (front k T) (front k (back w T))
-  pub bound : k + w ≤ siblings T
-  pub stop : k + w < siblings T → FreeCopy marked (node k T) (node (k + w) T) → ⊥
 
 -- The matches at every width.
 pub record Matches (marked : ℕ → Bool) (T : Forest) (same : List ℕ) : Type 0 where

@@ -4,7 +4,8 @@ use Prim.Native.Nat.{_+_, _-_, _*_, _≤_}
 use native.Mathlib.Nat.{mul-le-mul, mul-le-mul-right}
 use native.Mathlib.Omega.{arith}
 use Rattle.solver.specs.Ends.{Beyond}
-use Rattle.solver.proofs.Offers.{in-reach, copy-more}
+use Rattle.optimum.proofs.Matches.{copy-more}
+use Rattle.solver.proofs.Offers.{in-reach}
 use Rattle.solver.proofs.Endings.{EndUpto, end-none, end-more, end-all}
 use Rattle.solver.proofs.ends.offer_end.Statement.{statement}
 use Rattle.solver.proofs.ends.offer_end.Tie as tie

@@ -1,0 +1,3 @@
+-- The work of the season folder, and what it holds.
+pub mod Keys
+pub mod Solved
