@@ -2,11 +2,9 @@
 -- slots of three entries, and a slot has a key: cost and repeats of a fold, which one number combines, and the pair of count and width
 -- that the fold's first item has, 0 for the plain step. The least key is that of the preferred fold.
 use mathlib.Core.Path.{_≡_}
-use mathlib.Core.Bool.{Bool, cond, _&&_, _||_}
 use mathlib.Core.Logic.{_⊎_}
 use mathlib.Core.List.{List}
 use Prim.Native.Nat.{ℕ, _+_, _*_, _<_, _≤_}
-use lib.Dec.{ltb, eqb}
 use lib.ListN.{length, getD}
 use Rattle.optimum.specs.Cheapest.{Bases}
 use Rattle.optimum.specs.Fewest.{combined}
@@ -26,15 +24,15 @@ packed h w = h * 64 + w
 abbrev pub pair-base : ℕ
 pair-base = 4194304
 
--- Keys in their order: by cost and repeats, combined, then by the pair. As one number, which the program never forms, and as it compares.
+-- Keys in their order: by cost and repeats, combined, then by the pair. As one number, which no program word holds.
 abbrev pub order : Key → ℕ
 order k = k .both * pair-base + k .pair
 
-abbrev pub sooner : Key → Key → Bool
-sooner a b = ltb (a .both) (b .both) || (eqb (a .both) (b .both) && ltb (a .pair) (b .pair))
-
-abbrev pub lesser-key : Key → Key → Key
-lesser-key a b = cond (sooner b a) b a
+-- The earlier of two keys.
+pub record Lesser (a b r : Key) : Type 0 where
+  pub left : order r ≤ order a
+  pub right : order r ≤ order b
+  pub one : (r ≡ a) ⊎ (r ≡ b)
 
 -- Where slot s of the block of step i begins. Slot d, up to 32, is of the stretch of d steps from step i on; then come that of the tail,
 -- all steps from step i on, and for each width w, up to 32, that of the best count.

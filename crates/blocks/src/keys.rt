@@ -2,7 +2,7 @@
 ghost use mathlib.Core.Path.{_≡_};
 ghost use Prim.Native.Nat.{_+_, _<_};
 ghost use lib.ListN.{length};
-ghost use Rattle.blocks.specs.Keys.{lesser-key, slot, key-in, entry-base, both-base, read-base, Put};
+ghost use Rattle.blocks.specs.Keys.{pair-base, Lesser, slot, key-in, entry-base, both-base, read-base, Put};
 
 // Cost and repeats, combined, and the pair of count and width, 0 for the plain step.
 pub struct Key {
@@ -34,7 +34,8 @@ pub fn slot(i: usize, s: usize) -> usize
 
 // The earlier of two keys.
 pub fn lesser(a: Key, b: Key) -> Key
-    ensures { λ r. ⌜ r ≡ lesser-key a b ⌝ }
+    requires { ⌜ (a .pair < pair-base) × (b .pair < pair-base) ⌝ }
+    ensures { λ r. ⌜ Lesser a b r ⌝ }
 {
     if b.both < a.both {
         return b;
