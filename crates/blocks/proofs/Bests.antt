@@ -94,6 +94,9 @@ module _ {A : Allowed} {P : Prices} {t : Forest} (m : Modest A P t) where
       later : Matched (A .marked) (back (i + w) t) w (k - w)
       later = rw (back-back i w (i + w) t refl) at (matched-later A (back i t) w k (k - w) here (omega arith) d)
 
+      pub two-later : Power A (back (i + w) t) 2 w
+      two-later = near-power 2 w (k - w) (run-back (i + w) (run m)) pos within later (omega arith) (omega arith)
+
       longer : (h : ℕ) → Power A (back (i + w) t) h w → Power A (back i t) (h + 1) w
       longer h p =
           let near = power-near h w (k - w) (run-back (i + w) (run m)) later p in

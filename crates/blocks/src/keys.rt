@@ -2,7 +2,7 @@
 ghost use mathlib.Core.Path.{_≡_};
 ghost use Prim.Native.Nat.{_+_, _<_};
 ghost use lib.ListN.{length};
-ghost use Rattle.blocks.specs.Keys.{pair-base, Lesser, slot, key-in, entry-base, both-base, read-base, Put};
+ghost use Rattle.blocks.specs.Keys.{packed, pair-base, Lesser, slot, key-in, entry-base, both-base, read-base, Put};
 
 // Cost and repeats, combined, and the pair of count and width, 0 for the plain step.
 pub struct Key {
@@ -30,6 +30,14 @@ pub fn slot(i: usize, s: usize) -> usize
     ensures { λ r. ⌜ r ≡ slot i s ⌝ }
 {
     Block::ENTRIES * i + 3 * s
+}
+
+// The pair of a count and a width.
+pub fn pair_of(count: usize, width: usize) -> u64
+    requires { ⌜ (count < 65536) × (width < 64) ⌝ }
+    ensures { λ r. ⌜ (r ≡ packed count width) × (r < pair-base) ⌝ }
+{
+    (count as u64) * Block::WIDTHS + (width as u64)
 }
 
 // The earlier of two keys.

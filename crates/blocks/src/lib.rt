@@ -5,5 +5,6 @@ pub use keys::Block;
 pub use keys::Key;
 pub use keys::key_at;
 pub use keys::lesser;
+pub use keys::pair_of;
 pub use keys::put_key;
 pub use keys::slot;

@@ -1,0 +1,2 @@
+-- Laws of solving a block.
+pub mod Rows

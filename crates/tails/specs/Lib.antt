@@ -1,0 +1,2 @@
+-- What solving a block rests on and promises.
+pub mod Solving

@@ -1,0 +1,6 @@
+// Solving a season's blocks, from the end of the run to its first step: the stretches of up to 32 steps, the best count at each width,
+// and the tails.
+mod rates;
+
+pub use rates::Rates;
+pub use rates::rates_of;
