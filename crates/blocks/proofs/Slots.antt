@@ -8,7 +8,7 @@ use native.Mathlib.Omega.{arith}
 use lib.ListN.{length, getD, set, length-set}
 use lib.Seq.{getD-set-same, getD-set-other}
 use Rattle.blocks.specs.declared.keys.Key.{Key}
-use Rattle.blocks.specs.Keys.{factor, block, slot, both-in, pair-in, Put, Touched}
+use Rattle.blocks.specs.Keys.{factor, block, slot, both-in, pair-in, SameKey, Put, Touched}
 
 -- Three entries that are set one after the other.
 pub put-three : (W : List ℕ) (at a b : ℕ) (k : Key) → at + 2 < length W → a * factor + b ≡ k .both
@@ -50,11 +50,7 @@ put-touched i s l p = record { same-length = p .same-length; others = λ x o. p 
     away x (inl q) = inl (omega arith)
     away x (inr q) = inr (omega arith)
 
--- The same key stands at an entry before and after.
-pub record SameKey (W X : List ℕ) (e : ℕ) : Type 0 where
-  pub both : both-in X e ≡ both-in W e
-  pub pair : pair-in X e ≡ pair-in W e
-
+-- The keys that stay where a key is put.
 pub put-same : {W X : List ℕ} {k : Key} (at e : ℕ) → Put W X at k → (e + 3 ≤ at) ⊎ (at + 3 ≤ e) → SameKey W X e
 put-same at e p o =
     let one = p .others e (near o) in

@@ -75,6 +75,11 @@ pub record Put (before after : List ℕ) (at : ℕ) (k : Key) : Type 0 where
   pub pair : pair-in after at ≡ k .pair
   pub others : (x : ℕ) → (x < at) ⊎ (at + 3 ≤ x) → getD after x 0 ≡ getD before x 0
 
+-- The same key stands at an entry before and after.
+pub record SameKey (W X : List ℕ) (e : ℕ) : Type 0 where
+  pub both : both-in X e ≡ both-in W e
+  pub pair : pair-in X e ≡ pair-in W e
+
 -- Nothing outside the block of step i has changed.
 pub record Touched (i : ℕ) (before after : List ℕ) : Type 0 where
   pub same-length : length after ≡ length before

@@ -1,2 +1,4 @@
 -- Laws of solving a block.
+pub mod Offers
 pub mod Rows
+pub mod Puts

@@ -18,9 +18,9 @@ use Rattle.optimum.proofs.Cheapest.{price-plain, best-cost-end}
 use Rattle.optimum.proofs.Level.{plain-at, power-at}
 use Rattle.optimum.proofs.Matches.{copy-more, near-power, power-near}
 use Rattle.blocks.specs.declared.keys.Key.{Key}
-use Rattle.blocks.specs.Keys.{factor, bases, packed, pair-base, order, Lesser, block, slot, tail-slot, count-slot, both-in, pair-in, both-base, Put, Touched}
+use Rattle.blocks.specs.Keys.{factor, bases, packed, pair-base, order, Lesser, block, slot, tail-slot, count-slot, both-in, pair-in, both-base, SameKey, Put, Touched}
 use Rattle.blocks.specs.Solved.{Best, BestCount, behind, Solved, SolvedFrom, Modest}
-use Rattle.blocks.proofs.Slots.{SameKey, put-touched, put-other, touched-same, touched-none, touched-more}
+use Rattle.blocks.proofs.Slots.{put-touched, put-other, touched-same, touched-none, touched-more}
 use Rattle.blocks.proofs.Flats.{run, flat-front, flat-back, tail-low, stretch-low}
 use Rattle.blocks.proofs.Bests.{Lowest, lowest-best, two-later, count-only, count-more}
 use Rattle.tails.specs.declared.rates.Rates.{Rates}
@@ -65,8 +65,8 @@ solved-kept i j m p l s =
       counts = λ w q. count-same (touched-same i j (count-slot w) p (inr l) (omega (arith, m .narrow, q .repeats .within))) (s .counts w q);
     }
 
-module _ {W M : List ℕ} {R : Rates} {limit i : ℕ} where
-  pub ready-kept : {X : List ℕ} → Touched i W X → RowReady W M R limit i → RowReady X M R limit i
+module _ {W M : List ℕ} {R : Rates} {limit n i : ℕ} where
+  unfoldable pub ready-kept : {X : List ℕ} → Touched i W X → RowReady W M R limit n i → RowReady X M R limit n i
   ready-kept p z =
       record {
         allowed = z .allowed;
@@ -74,6 +74,7 @@ module _ {W M : List ℕ} {R : Rates} {limit i : ℕ} where
         tree = z .tree;
         modest = z .modest;
         limited = z .limited;
+        all = z .all;
         here = z .here;
         first = z .first;
         each = z .each;
@@ -84,7 +85,7 @@ module _ {W M : List ℕ} {R : Rates} {limit i : ℕ} where
       }
 
 -- What the matches allow is what may stand first.
-module _ {W M : List ℕ} {R : Rates} {limit i : ℕ} (z : RowReady W M R limit i) where
+module _ {W M : List ℕ} {R : Rates} {limit n i : ℕ} (z : RowReady W M R limit n i) where
   abbrev A : Allowed
   A = z .allowed
 
@@ -101,7 +102,7 @@ module _ {W M : List ℕ} {R : Rates} {limit i : ℕ} (z : RowReady W M R limit 
   here-run = run-back i (run (z .modest))
 
   size : i + siblings (back i t) ≡ siblings t
-  size = siblings-back i t (run (z .modest) .plain) (omega (arith, z .here))
+  size = siblings-back i t (run (z .modest) .plain) (omega (arith, z .here, z .all))
 
   -- Where steps match there are as many.
   pub match-inside : (w : ℕ) → 0 < w → w ≤ A .widest → 0 < getD M w 0 → i + w + getD M w 0 ≤ siblings t
@@ -229,7 +230,7 @@ module _ {W M : List ℕ} {R : Rates} {limit i : ℕ} (z : RowReady W M R limit 
           ap (best-cost A P) (node-back i 0 i t (omega arith)),
           ap (best-cost A P) (back-back i 1 (i + 1) t refl),
           o,
-          behind-tail (i + 1) (omega arith) (omega (arith, z .here)),
+          behind-tail (i + 1) (omega arith) (omega (arith, z .here, z .all)),
         )
 
     -- A width of which there are two copies, its body and its best count.
@@ -257,7 +258,7 @@ module _ {W M : List ℕ} {R : Rates} {limit i : ℕ} (z : RowReady W M R limit 
           z .first,
         )
 
-    pub tail-best : (k : Key) → Tailed W M R own i limit 33 k → Best A P (back i t) (k .both) (k .pair)
+    pub tail-best : (k : Key) → Tailed W M R own i limit (limit + 1) k → Best A P (back i t) (k .both) (k .pair)
     tail-best k s =
         lowest-best (z .modest) (back i t) (flat-back i t (z .modest .flat)) (omega (arith, z .modest .few, size)) k (by-came (s .came))
       where
@@ -269,7 +270,7 @@ module _ {W M : List ℕ} {R : Rates} {limit i : ℕ} (z : RowReady W M R limit 
             let b = v .best in
             omega (
               arith,
-              s .widths w (omega (arith, r .2, z .modest .narrow)) two,
+              s .widths w (omega (arith, r .2, z .limited)) two,
               wide-price h w p v,
               b .least h p,
               b .is-pair,

@@ -11,7 +11,7 @@ use Rattle.format.specs.Forest.{Forest, Allowed, siblings}
 use Rattle.optimum.specs.Cheapest.{front, back, node, Power, best-cost}
 use Rattle.optimum.specs.Matches.{Matched}
 use Rattle.blocks.specs.declared.keys.Key.{Key}
-use Rattle.blocks.specs.Keys.{factor, packed, pair-base, order, Lesser, block, slot, tail-slot, count-slot, both-in, pair-in, key-in, Touched}
+use Rattle.blocks.specs.Keys.{factor, packed, pair-base, order, Lesser, block, slot, tail-slot, count-slot, both-in, pair-in, SameKey, Touched}
 use Rattle.blocks.specs.Solved.{Best, BestCount, SolvedFrom, Solved, Modest}
 use Rattle.tails.specs.declared.rates.Rates.{Rates}
 
@@ -61,6 +61,17 @@ pub record Fits (M : List ℕ) (d h w : ℕ) : Type 0 where
   pub inside : h * w ≤ d
   pub near : h * w ≤ getD M w 0 + w
 
+-- The key r is the least of `best` and of those of the repeats of width w that fit.
+pub data WidthCame (W M : List ℕ) (R : Rates) (i d w : ℕ) (best r : Key) : Type 0 where
+  kept : r ≡ best → WidthCame W M R i d w best r
+  taken : (h : ℕ) → Fits M d h w → r ≡ repeat-key W R i d w h → WidthCame W M R i d w best r
+
+pub record WidthOffered (W M : List ℕ) (R : Rates) (i d w : ℕ) (best r : Key) : Type 0 where
+  pub came : WidthCame W M R i d w best r
+  pub lower : order r ≤ order best
+  pub each : (h : ℕ) → Fits M d h w → order r ≤ order (repeat-key W R i d w h)
+  pub small : r .pair < pair-base
+
 -- The key r is the least of the plain step's and of those of all repeats of less width than v that fit.
 pub data StretchCame (W M : List ℕ) (R : Rates) (own i d : ℕ) (r : Key) : Type 0 where
   by-plain : r ≡ plain-key W own i d → StretchCame W M R own i d r
@@ -101,6 +112,11 @@ pub record Twice (M : List ℕ) (w : ℕ) : Type 0 where
   pub some : 0 < w
   pub copy : w ≤ getD M w 0
 
+-- The key r is the lesser of `best` and of that of width w.
+pub record TailOffered (W M : List ℕ) (R : Rates) (i w : ℕ) (best r : Key) : Type 0 where
+  pub none : (Twice M w → ⊥) → r ≡ best
+  pub some : Twice M w → Lesser best (repeat-tail W R i w) r
+
 -- The key r is the least of the plain step's and of those of all widths below v.
 pub data TailCame (W M : List ℕ) (R : Rates) (own i limit : ℕ) (r : Key) : Type 0 where
   by-plain : r ≡ plain-tail W own i → TailCame W M R own i limit r
@@ -112,21 +128,26 @@ pub record Tailed (W M : List ℕ) (R : Rates) (own i limit v : ℕ) (r : Key) :
   pub widths : (w : ℕ) → w < v → Twice M w → order r ≤ order (repeat-tail W R i w)
   pub small : r .pair < pair-base
 
--- The matches at step i, for each width within the limit; none where no step is that far on.
-pub record Matching (A : Allowed) (t : Forest) (M : List ℕ) (i : ℕ) : Type 0 where
+-- Matches that machine words hold.
+pub record MatchesLow (M : List ℕ) : Type 0 where
   pub long : length M ≡ 33
   pub low : (w : ℕ) → getD M w 0 < 65536
+
+-- The matches at step i, for each width within the limit; none where no step is that far on.
+pub record Matching (A : Allowed) (t : Forest) (M : List ℕ) (i : ℕ) : Type 0 where
+  pub words : MatchesLow M
   pub matched : (w : ℕ) → 0 < w → w ≤ A .widest → i + w ≤ siblings t → Matched (A .marked) (back i t) w (getD M w 0)
   pub none : (w : ℕ) → 0 < w → w ≤ A .widest → siblings t < i + w → getD M w 0 ≡ 0
 
 -- All that solving the block of step i rests on: the run, the prices, the matches, and the blocks behind it.
-pub record RowReady (W M : List ℕ) (R : Rates) (limit i : ℕ) : Type 0 where
+pub record RowReady (W M : List ℕ) (R : Rates) (limit n i : ℕ) : Type 0 where
   pub allowed : Allowed
   pub prices : Prices
   pub tree : Forest
   pub modest : Modest allowed prices tree
   pub limited : allowed .widest ≡ limit
-  pub here : i < siblings tree
+  pub all : siblings tree ≡ n
+  pub here : i < n
   pub first : R .first ≡ prices .first
   pub each : R .each ≡ prices .each
   pub low : RatesLow R
@@ -135,32 +156,39 @@ pub record RowReady (W M : List ℕ) (R : Rates) (limit i : ℕ) : Type 0 where
   pub room : block * (siblings tree + 1) ≤ length W
 
 -- The cost of the step by itself.
-abbrev pub OwnCost : {W M : List ℕ} {R : Rates} {limit i : ℕ} → RowReady W M R limit i → (own : ℕ) → Type 0
+abbrev pub OwnCost : {W M : List ℕ} {R : Rates} {limit n i : ℕ} → RowReady W M R limit n i → (own : ℕ) → Type 0
 OwnCost {i = i} z own = own ≡ best-cost (z .allowed) (z .prices) (node i (z .tree))
 
--- The stretches of step i that are shorter than n are solved, and the counts at the widths below v.
-abbrev pub StretchesBelow : {W M : List ℕ} {R : Rates} {limit i : ℕ} → RowReady W M R limit i → List ℕ → (n : ℕ) → Type 0
-StretchesBelow {i = i} z X n =
-    (d : ℕ) → d < n → d ≤ z .allowed .widest → i + d ≤ siblings (z .tree)
+-- The stretches of step i that are shorter than m are solved, and the counts at the widths below v.
+abbrev pub StretchesBelow : {W M : List ℕ} {R : Rates} {limit n i : ℕ} → RowReady W M R limit n i → List ℕ → (m : ℕ) → Type 0
+StretchesBelow {i = i} z X m =
+    (d : ℕ) → d < m → d ≤ z .allowed .widest → i + d ≤ siblings (z .tree)
     → Best (z .allowed) (z .prices) (front d (back i (z .tree))) (both-in X (slot i d)) (pair-in X (slot i d))
 
-abbrev pub CountsBelow : {W M : List ℕ} {R : Rates} {limit i : ℕ} → RowReady W M R limit i → List ℕ → (v : ℕ) → Type 0
+abbrev pub CountsBelow : {W M : List ℕ} {R : Rates} {limit n i : ℕ} → RowReady W M R limit n i → List ℕ → (v : ℕ) → Type 0
 CountsBelow {i = i} z X v =
     (w : ℕ) → w < v → Power (z .allowed) (back i (z .tree)) 2 w
     → BestCount (z .allowed) (z .prices) (z .tree) i w (both-in X (slot i (count-slot w))) (pair-in X (slot i (count-slot w)))
 
--- The stretches are put, those shorter than n.
-pub record StretchesPut (W M : List ℕ) (R : Rates) (limit own i n : ℕ) (X : List ℕ) : Type 0 where
+-- The stretches are put, those shorter than m.
+pub record StretchesPut (W M : List ℕ) (R : Rates) (limit n own i m : ℕ) (X : List ℕ) : Type 0 where
   pub touched : Touched i W X
-  pub stretches : (z : RowReady W M R limit i) → OwnCost z own → StretchesBelow z X n
+  pub stretches : (z : RowReady W M R limit n i) → OwnCost z own → StretchesBelow z X m
+
+-- The best count at width w is put, where there are two copies; no other slot changes.
+pub record CountPut (W M : List ℕ) (R : Rates) (limit n i w : ℕ) (X : List ℕ) : Type 0 where
+  pub touched : Touched i W X
+  pub kept : (s : ℕ) → (s ≡ count-slot w → ⊥) → SameKey W X (slot i s)
+  pub count : (z : RowReady W M R limit n i) → Power (z .allowed) (back i (z .tree)) 2 w
+      → BestCount (z .allowed) (z .prices) (z .tree) i w (both-in X (slot i (count-slot w))) (pair-in X (slot i (count-slot w)))
 
 -- The best counts are put, those at widths below v; the stretches stay.
-pub record CountsPut (W M : List ℕ) (R : Rates) (limit i v : ℕ) (X : List ℕ) : Type 0 where
+pub record CountsPut (W M : List ℕ) (R : Rates) (limit n i v : ℕ) (X : List ℕ) : Type 0 where
   pub touched : Touched i W X
-  pub kept : (s : ℕ) → s ≤ tail-slot → (both-in X (slot i s) ≡ both-in W (slot i s)) × (pair-in X (slot i s) ≡ pair-in W (slot i s))
-  pub counts : (z : RowReady W M R limit i) → CountsBelow z X v
+  pub kept : (s : ℕ) → s ≤ tail-slot → SameKey W X (slot i s)
+  pub counts : (z : RowReady W M R limit n i) → CountsBelow z X v
 
 -- The block of step i is solved, and no other has changed.
-pub record RowSolved (W M : List ℕ) (R : Rates) (limit own i : ℕ) (X : List ℕ) : Type 0 where
+pub record RowSolved (W M : List ℕ) (R : Rates) (limit n own i : ℕ) (X : List ℕ) : Type 0 where
   pub touched : Touched i W X
-  pub solved : (z : RowReady W M R limit i) → OwnCost z own → Solved (z .allowed) (z .prices) (z .tree) X i
+  pub solved : (z : RowReady W M R limit n i) → OwnCost z own → Solved (z .allowed) (z .prices) (z .tree) X i
