@@ -2,3 +2,4 @@
 pub mod Offers
 pub mod Rows
 pub mod Puts
+pub mod Growths

@@ -18,8 +18,8 @@ use Rattle.blocks.proofs.Slots.{put-touched, put-other, touched-none, touched-m
 use Rattle.blocks.proofs.Flats.{run, flat-node, stretch-low, tail-low}
 use Rattle.blocks.proofs.Bests.{two-later, two-copies}
 use Rattle.tails.specs.declared.rates.Rates.{Rates}
-use Rattle.tails.specs.Solving.{top-rate, Stretched, Counted, Twice, Tailed, RowReady, OwnCost, StretchesBelow, CountsBelow, StretchesPut, CountPut, CountsPut, RowSolved}
-use Rattle.tails.proofs.Rows.{best-end, best-same, count-same, ready-kept, match-inside, near-here, here-near, stretch-best, count-best, tail-best}
+use Rattle.tails.specs.Solving.{top-rate, Stretched, Counted, Twice, Tailed, RowReady, OwnCost, StretchesBelow, CountsBelow, StretchesPut, CountPut, CountsPut, RowSolved, EndPut}
+use Rattle.tails.proofs.Rows.{best-end, best-same, count-same, ready-kept, match-inside, near-here, here-near, stretch-best, count-best, tail-best, wide-small}
 
 -- A key that was put stands there.
 put-best : {W X : List ℕ} {k : Key} {A : _} {P : _} {T : Forest} (e f : ℕ) → Put W X e k → e ≡ f → Best A P T (k .both) (k .pair)
@@ -152,3 +152,83 @@ module _ {W M : List ℕ} {R : Rates} {limit n i : ℕ} where
     where
       same-more : {e : ℕ} → SameKey W X e → SameKey X Y e → SameKey W Y e
       same-more a b = record { both = b .both ∙ a .both; pair = b .pair ∙ a .pair }
+
+-- A whole block, put by put: the stretch of no steps, the stretches, the counts, the tail.
+pub record FirstPut (W : List ℕ) (i : ℕ) (X : List ℕ) : Type 0 where
+  pub touched : Touched i W X
+  pub both : both-in X (slot i 0) ≡ 0
+  pub pair : pair-in X (slot i 0) ≡ 0
+
+pub first-put : {W X : List ℕ} {i : ℕ} (e : ℕ) (k : Key) → e ≡ slot i 0 → k .both ≡ 0 → k .pair ≡ 0 → Put W X e k → FirstPut W i X
+first-put {W} {X} {i} e k place b c p =
+    let p′ : Put W X (slot i 0) k = rw place at p in
+    record { touched = put-touched i 0 (omega arith) p′; both = p′ .both ∙ b; pair = p′ .pair ∙ c }
+
+module _ (W M : List ℕ) (R : Rates) (limit n own i : ℕ) {X : List ℕ} (first : FirstPut W i X) where
+  unfoldable pub ready-first : RowReady W M R limit n i → RowReady X M R limit n i
+  unfolding ready-kept
+  ready-first z = ready-kept (first .touched) z
+
+  pub own-first : (z : RowReady W M R limit n i) → OwnCost z own → OwnCost (ready-first z) own
+  unfolding ready-first
+  own-first z o = o
+
+  module _ {Y : List ℕ} (second : StretchesPut X M R limit n own i 33 Y) where
+    unfoldable pub ready-second : RowReady W M R limit n i → RowReady Y M R limit n i
+    unfolding ready-first
+    ready-second z = ready-kept (second .touched) (ready-first z)
+
+    module _ {Z : List ℕ} (third : CountsPut Y M R limit n i (limit + 1) Z) where
+      unfoldable pub ready-third : RowReady W M R limit n i → RowReady Z M R limit n i
+      unfolding ready-second
+      ready-third z = ready-kept (third .touched) (ready-second z)
+
+      stretches-third : (z : RowReady W M R limit n i) → OwnCost z own → StretchesBelow (ready-third z) Z 33
+      unfolding ready-third
+      stretches-third z o d l m f = best-same (third .kept d (omega arith)) (second .stretches (ready-first z) o d l m f)
+
+      counts-third : (z : RowReady W M R limit n i) → CountsBelow (ready-third z) Z 33
+      unfolding ready-third
+      counts-third z w l p = third .counts (ready-second z) w (omega (arith, z .limited, p .repeats .within)) p
+
+      pub pairs-third : (z : RowReady W M R limit n i) → OwnCost z own → (w : ℕ) → w ≤ limit → Twice M w → pair-in Z (slot i (count-slot w)) < pair-base
+      unfolding ready-third
+      pairs-third z o w l two = wide-small (ready-third z) own o (stretches-third z o) (counts-third z) w (omega (arith, z .limited)) two
+
+      module _ (k : Key) (r : Tailed Z M R own i limit (limit + 1) k) where
+        tail-is : (z : RowReady W M R limit n i) → OwnCost z own → Best (z .allowed) (z .prices) (back i (z .tree)) (k .both) (k .pair)
+        unfolding ready-third
+        tail-is z o = tail-best (ready-third z) own o (stretches-third z o) (counts-third z) k r
+
+        pub tail-key-low : (z : RowReady W M R limit n i) → OwnCost z own → k .both < both-base
+        tail-key-low z o = omega (arith, tail-is z o .is-cost, tail-low (z .modest) i)
+
+        pub row-solved : {U : List ℕ} (g : ℕ) → Put Z U g k → g ≡ slot i tail-slot → RowSolved W M R limit n own i U
+        unfolding ready-third
+        row-solved {U} g p q =
+            let p′ : Put Z U (slot i tail-slot) k = rw q at p in
+            record {
+              touched = touched-more (touched-more (touched-more (first .touched) (second .touched)) (third .touched)) (put-touched i tail-slot (omega arith) p′);
+              solved = λ z o. record {
+                stretch = λ d m f.
+                    let short : d ≤ 32 = omega (arith, z .modest .narrow) in
+                    best-same (put-other i tail-slot d p′ (λ y. omega arith)) (stretches-third z o d (omega arith) m f);
+                tail = put-best g (slot i tail-slot) p q (tail-is z o);
+                counts = λ w y.
+                    let c = reach y in
+                    count-same (put-other i tail-slot (count-slot w) p′ (λ x. omega (arith, c .some))) (counts-third z w (omega (arith, z .modest .narrow, y .repeats .within)) y);
+              };
+            }
+
+-- The block of the end.
+pub end-put : {W X Y : List ℕ} (n : ℕ) (e f : ℕ) (k l : Key) → e ≡ slot n 0 → f ≡ slot n tail-slot → k .both ≡ 0 → k .pair ≡ 0 → l .both ≡ 0 → l .pair ≡ 0
+    → Put W X e k → Put X Y f l → EndPut W n Y
+end-put {W} {X} {Y} n e f k l at-first at-tail kb kp lb lp p q =
+    let p′ : Put W X (slot n 0) k = rw at-first at p in
+    let q′ : Put X Y (slot n tail-slot) l = rw at-tail at q in
+    let s = put-other n tail-slot 0 q′ (λ y. omega arith) in
+    record {
+      touched = touched-more (put-touched n 0 (omega arith) p′) (put-touched n tail-slot (omega arith) q′);
+      none = (s .both ∙ p′ .both ∙ kb, s .pair ∙ p′ .pair ∙ kp);
+      tail = (q′ .both ∙ lb, q′ .pair ∙ lp);
+    }

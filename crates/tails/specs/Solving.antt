@@ -1,18 +1,19 @@
 -- What solving the block of one step rests on, and what its functions promise: keys that are the least of those of the candidates, and
 -- the block solved.
 use mathlib.Core.Path.{_≡_}
-use mathlib.Core.Bool.{Bool, false}
+use mathlib.Core.Bool.{true, false}
 use mathlib.Core.Logic.{_⊎_}
 use mathlib.Core.List.{List}
 use Prim.Native.Nat.{ℕ, _+_, _-_, _*_, _<_, _≤_}
 use lib.ListN.{length, getD}
-use Rattle.format.specs.Limits.{Prices}
-use Rattle.format.specs.Forest.{Forest, Allowed, siblings}
+use Rattle.format.specs.Limits.{Prices, marked-in}
+use Rattle.format.specs.Forest.{Forest, Allowed, siblings, bytes}
+use Rattle.format.specs.Tree.{tree-of}
 use Rattle.optimum.specs.Cheapest.{front, back, node, Power, best-cost}
 use Rattle.optimum.specs.Matches.{Matched}
 use Rattle.blocks.specs.declared.keys.Key.{Key}
 use Rattle.blocks.specs.Keys.{factor, packed, pair-base, order, Lesser, block, slot, tail-slot, count-slot, both-in, pair-in, SameKey, Touched}
-use Rattle.blocks.specs.Solved.{Best, BestCount, SolvedFrom, Solved, Modest}
+use Rattle.blocks.specs.Solved.{Flat, Best, BestCount, SolvedFrom, Solved, Modest}
 use Rattle.tails.specs.declared.rates.Rates.{Rates}
 
 -- Prices of 16 bits that count repeats.
@@ -192,3 +193,26 @@ pub record CountsPut (W M : List ℕ) (R : Rates) (limit n i v : ℕ) (X : List 
 pub record RowSolved (W M : List ℕ) (R : Rates) (limit n own i : ℕ) (X : List ℕ) : Type 0 where
   pub touched : Touched i W X
   pub solved : (z : RowReady W M R limit n i) → OwnCost z own → Solved (z .allowed) (z .prices) (z .tree) X i
+
+-- The bytes are those of a flat run of n steps.
+pub record FlatRun (run : List ℕ) (n : ℕ) : Type 0 where
+  pub flat : Flat (tree-of run)
+  pub stands : bytes (tree-of run) ≡ run
+  pub all : siblings (tree-of run) ≡ n
+  pub few : n < 65536
+
+-- The matches r of step i at width w, by the k of the next step.
+abbrev pub label-at : (run : List ℕ) (i : ℕ) → ℕ
+label-at run i = getD run (2 * i + 1) 0
+
+pub data MatchAt (run marks : List ℕ) (n i w k r : ℕ) : Type 0 where
+  ends : n ≤ i + w → r ≡ 0 → MatchAt run marks n i w k r
+  differs : (label-at run (i + w) ≡ label-at run i → ⊥) → r ≡ 0 → MatchAt run marks n i w k r
+  is-marked : marked-in marks (label-at run i) ≡ true → r ≡ 0 → MatchAt run marks n i w k r
+  matches : i + w < n → label-at run (i + w) ≡ label-at run i → marked-in marks (label-at run i) ≡ false → r ≡ k + 1 → MatchAt run marks n i w k r
+
+-- The block of the end is put: nothing, at no cost.
+pub record EndPut (W : List ℕ) (n : ℕ) (X : List ℕ) : Type 0 where
+  pub touched : Touched n W X
+  pub none : (both-in X (slot n 0) ≡ 0) × (pair-in X (slot n 0) ≡ 0)
+  pub tail : (both-in X (slot n tail-slot) ≡ 0) × (pair-in X (slot n tail-slot) ≡ 0)
