@@ -3,3 +3,4 @@ pub mod Offers
 pub mod Rows
 pub mod Puts
 pub mod Growths
+pub mod Fills

@@ -6,7 +6,7 @@ use mathlib.Core.Logic.{_⊎_}
 use mathlib.Core.List.{List}
 use Prim.Native.Nat.{ℕ, _+_, _-_, _*_, _<_, _≤_}
 use lib.ListN.{length, getD}
-use Rattle.format.specs.Limits.{Prices, marked-in}
+use Rattle.format.specs.Limits.{Prices, marked-in, allowed}
 use Rattle.format.specs.Forest.{Forest, Allowed, siblings, bytes}
 use Rattle.format.specs.Tree.{tree-of}
 use Rattle.optimum.specs.Cheapest.{front, back, node, Power, best-cost}
@@ -216,3 +216,26 @@ pub record EndPut (W : List ℕ) (n : ℕ) (X : List ℕ) : Type 0 where
   pub touched : Touched n W X
   pub none : (both-in X (slot n 0) ≡ 0) × (pair-in X (slot n 0) ≡ 0)
   pub tail : (both-in X (slot n tail-slot) ≡ 0) × (pair-in X (slot n tail-slot) ≡ 0)
+
+-- What filling the blocks of a run of n steps rests on.
+pub record FillReady (run steps : List ℕ) (R : Rates) (limit n : ℕ) (W : List ℕ) : Type 0 where
+  pub flat : FlatRun run n
+  pub narrow : limit ≤ 32
+  pub low : RatesLow R
+  pub low-steps : (l : ℕ) → getD steps l 0 < 65536
+  pub room : block * (n + 1) ≤ length W
+
+-- Prices that count repeats: of steps by the table, and of repeats by the rates.
+pub record PricesAre (steps : List ℕ) (R : Rates) (P : Prices) : Type 0 where
+  pub first : R .first ≡ P .first
+  pub each : R .each ≡ P .each
+  pub of-step : (l : ℕ) → P .of-step l ≡ getD steps l 0 * factor
+
+-- The blocks of a run from step i on are solved at these prices, under the marks.
+pub record FilledFrom (run steps marks : List ℕ) (R : Rates) (limit i : ℕ) (X : List ℕ) : Type 0 where
+  pub solved : (P : Prices) → PricesAre steps R P → SolvedFrom (allowed limit marks) P (tree-of run) X i
+
+-- No entry from e on has changed.
+pub record KeptPast (e : ℕ) (before after : List ℕ) : Type 0 where
+  pub same-length : length after ≡ length before
+  pub past : (x : ℕ) → e ≤ x → getD after x 0 ≡ getD before x 0

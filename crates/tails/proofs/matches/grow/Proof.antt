@@ -57,8 +57,7 @@ loop-again : tie.Need-loop-again Inv-loop μ-loop
 loop-again c =
     let L = c .before .before .before in
     let S = L .before .before .before .before in
-    let v = L .loop .inv in
-    (
+    let v = L .loop .inv in (
       omega arith,
       omega arith,
       λ f. grown-more _ _ _ _ f (v .2 f) (S .pre .0 .0) (v .0) (omega arith) (S .pre .0 .1) (S .pre .1 .1) _ (c .match-at .ensures),

@@ -37,8 +37,7 @@ tail-key-requires c κs =
     let F = G .before .before .before .before in
     let S = F .before .before .before .before .before in
     let z = S .pre .0 in
-    let x = ready-third _ _ _ _ _ (S .args .own) _ (first F) (G .put-stretches .ensures) (H .put-counts .ensures) z in
-    (
+    let x = ready-third _ _ _ _ _ (S .args .own) _ (first F) (G .put-stretches .ensures) (H .put-counts .ensures) z in (
       (omega (arith, x .room, x .here, x .all), omega (arith, x .here, x .all, x .modest .few), omega (arith, x .limited, x .modest .narrow), own-low z (S .pre .1)),
       (
         pairs-third _ _ _ _ _ (S .args .own) _ (first F) (G .put-stretches .ensures) (H .put-counts .ensures) z (S .pre .1),
@@ -61,8 +60,7 @@ put-key-requires-2 c κs =
     let S = F .before .before .before .before .before in
     let z = S .pre .0 in
     let x = ready-third _ _ _ _ _ (S .args .own) _ (first F) (G .put-stretches .ensures) (H .put-counts .ensures) z in
-    let k = K .tail-key .ensures in
-    (
+    let k = K .tail-key .ensures in (
       omega (arith, c .slot2 .ensures, x .room, x .here, x .all),
       tail-key-low _ _ _ _ _ (S .args .own) _ (first F) (G .put-stretches .ensures) (H .put-counts .ensures) _ k z (S .pre .1),
       omega (arith, k .small),

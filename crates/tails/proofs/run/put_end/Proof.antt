@@ -2,8 +2,8 @@
 use mathlib.Core.Path.{refl}
 use Rattle.tails.proofs.Puts.{end-put}
 use borrow.Author.Needs.{needs}
-use Rattle.tails.proofs.fill.put_end.Statement.{statement}
-use Rattle.tails.proofs.fill.put_end.Tie as tie
+use Rattle.tails.proofs.run.put_end.Statement.{statement}
+use Rattle.tails.proofs.run.put_end.Tie as tie
 
 slot-requires : tie.Need-slot-requires
 slot-requires c κs = search needs
