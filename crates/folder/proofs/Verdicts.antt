@@ -15,7 +15,7 @@ use Rattle.format.specs.Order.{Bytes}
 use Rattle.format.specs.Forest.{Forest, nodes, cost, form-in, bytes, at-most, Allowed}
 use Rattle.format.specs.Machine.{Outcome, refused, accepted, read}
 use Rattle.format.specs.Head.{head-checks, full-head}
-use Rattle.format.specs.Readings.{run-rules, format-rules, as-run-reading, run-outcome}
+use Rattle.format.specs.Readings.{run-rules, format-rules, as-run-reading, run-outcome-in, run-outcome}
 use Rattle.format.specs.Tree.{tree-of}
 use Rattle.format.specs.Family.{long-form}
 use Rattle.format.specs.declared.Tally.{Tally}
@@ -100,7 +100,7 @@ module _ (s : List ℕ) (k : ℕ) (T : Tariff) (r : RunReading) (admitted : r �
 
   -- A number of the admission is none of the folder's own, and 0 only where the run is accepted.
   number-low : (n p : ℕ) → run-outcome (full-head T k) s ≡ refused n p → (n ≡ 0 → ⊥) × (n ≡ 14 → ⊥)
-  unfolding run-outcome head-checks
+  unfolding run-outcome-in head-checks
   number-low =
       headed-each limits (full-head T k) (read run-rules s) (λ n. (n ≡ 0 → ⊥) × (n ≡ 14 → ⊥))
       ((omega arith, omega arith), ((omega arith, omega arith), ((omega arith, omega arith), ((omega arith, omega arith), tt))))
@@ -129,11 +129,11 @@ module _ (s : List ℕ) (k : ℕ) (T : Tariff) (r : RunReading) (admitted : r �
 
   module _ (a : Accepted) where
     pub accepts : read run-rules s ≡ accepted (a .tally) (a .text)
-    unfolding run-outcome
+    unfolding run-outcome-in
     accepts = headed-accepted limits (full-head T k) (read run-rules s) (a .tally) (a .text) (a .admits)
 
     narrow : k ≤ limits .width
-    unfolding run-outcome
+    unfolding run-outcome-in
     narrow = headed-narrow limits (full-head T k) (read run-rules s) (a .tally) (a .text) (a .admits)
 
     pub verdict-folds : (short : Bool)

@@ -28,3 +28,4 @@ pub mod StepsAndDepth
 pub mod Parts
 pub mod Examples
 pub mod ShortExamples
+pub mod SeasonExamples

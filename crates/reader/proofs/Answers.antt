@@ -12,7 +12,7 @@ use Rattle.format.specs.Head.{head-checks, full-head}
 use Rattle.format.specs.Order.{Bytes}
 use Rattle.format.specs.Meaning.{MeansAtCost}
 use Rattle.format.specs.Family.{long-form}
-use Rattle.format.specs.Readings.{run-rules, run-numbers, fold-numbers, as-run-reading, run-outcome, run-reading, rules-at, outcome-in, alone-rules, alone-in, fold-reading, short-reading, as-fold-reading}
+use Rattle.format.specs.Readings.{run-rules, run-numbers, fold-numbers, as-run-reading, run-outcome-in, run-outcome, run-reading-in, run-reading, rules-at, outcome-by, outcome-in, alone-rules, alone-in, reading-by, fold-reading, short-reading, as-fold-reading}
 use Rattle.format.specs.declared.Head.{Head}
 use Rattle.format.specs.declared.RunReading.{RunReading}
 use Rattle.format.specs.declared.Tally.{Tally}
@@ -26,11 +26,11 @@ use Rattle.walk.specs.declared.command.Walk.{Walk}
 -- The run reader's answer.
 module _ (s : List ℕ) (w : Walk) (read-it : Whole run-rules s w) where
   pub run-refused : (w .refusal ≡ 0 → ⊥) → (t : Tally) → t ≡ none → run-numbers (w .refusal) (w .at) t ≡ run-reading s
-  unfolding run-reading
+  unfolding run-reading-in
   run-refused e t f = rw (read-it .refuses e, f)
 
   pub run-read : w .refusal ≡ 0 → run-numbers 0 0 (w .tally) ≡ run-reading s
-  unfolding run-reading
+  unfolding run-reading-in
   run-read e = rw (read-it .reads e .1)
 
 -- What a walk says of a fold is what the reading says.
@@ -49,11 +49,11 @@ alone-read short s w walked = answered (alone-rules short) s w walked
 -- The answers at an entry point: by the head's refusal, or by what follows.
 module _ (h : Head) (n : ℕ) (checked : n ≡ first-of (head-checks limits h)) where
   pub admit-refused : (s : List ℕ) → n ≢ 0 → (t : Tally) → t ≡ none → run-numbers n 0 t ≡ as-run-reading (run-outcome h s)
-  unfolding run-outcome
+  unfolding run-outcome-in
   admit-refused s some t f = rw (headed-refused limits h (read run-rules s) n checked some, f)
 
   pub admit-read : (s : List ℕ) → n ≡ 0 → (r : RunReading) → r ≡ run-reading s → r ≡ as-run-reading (run-outcome h s)
-  unfolding run-reading run-outcome
+  unfolding run-reading-in run-outcome-in
   admit-read s none r e = e ∙ rw (headed-passed limits h (read run-rules s) (sym none ∙ checked))
 
   module _ (short : Bool) (T : Tariff) (s : List ℕ) where
@@ -61,11 +61,11 @@ module _ (h : Head) (n : ℕ) (checked : n ≡ first-of (head-checks limits h)) 
     R = rules-at short h T
 
     pub fold-refused : n ≢ 0 → (t : Tally) → t ≡ none → fold-numbers n 0 t ≡ as-fold-reading (outcome-in short h T s)
-    unfolding outcome-in
+    unfolding outcome-by
     fold-refused some t f = rw (headed-refused limits h (read R s) n checked some, f)
 
     pub fold-read : n ≡ 0 → (w : Walk) → Whole R s w → as-fold-reading (outcome w) ≡ as-fold-reading (outcome-in short h T s)
-    unfolding outcome-in
+    unfolding outcome-by
     fold-read none w walked =
         rw (headed-passed limits h (read R s) (sym none ∙ checked)) (answered R s w walked)
 
@@ -73,11 +73,11 @@ module _ (h : Head) (n : ℕ) (checked : n ≡ first-of (head-checks limits h)) 
 module _ (s : List ℕ) (k : ℕ) (T : Tariff) (small : Bytes s) (r : FoldReading) where
   pub with-meaning : r ≡ as-fold-reading (outcome-in false (full-head T k) T s)
       → (r ≡ fold-reading s k T) × (r .refusal ≡ 0 → MeansAtCost k T s (r .length) (r .cost))
-  unfolding fold-reading
-  with-meaning e = (e, reading-means s k T small r e)
+  unfolding reading-by
+  with-meaning e = (e, reading-means limits s k T small r e)
 
   -- And the short reader's: its long form means that.
   pub with-long-meaning : r ≡ as-fold-reading (outcome-in true (full-head T k) T s)
       → (r ≡ short-reading s k T) × (r .refusal ≡ 0 → MeansAtCost k T (long-form s) (r .length) (r .cost))
-  unfolding short-reading
+  unfolding reading-by
   with-long-meaning e = (e, λ z. rw e (short-means s small k T (rw e at z)))

@@ -10,6 +10,7 @@ use lib.Dec.{ltb}
 use lib.ListN.{length, take, drop}
 use lib.Seq.{sets-eq, take-at}
 use borrow.Author.Tests.{lt-ltb, le-ltb}
+use Rattle.format.specs.Limits.{limits}
 use Rattle.format.specs.Forest.{at-most}
 use Rattle.format.specs.Machine.{Outcome, refused, accepted}
 use Rattle.format.specs.Order.{Bytes}
@@ -47,11 +48,11 @@ module _ (s : List ℕ) (k : ℕ) where
       by-room t x m false b e f z =
           let long : r .length ≡ length x = ap (λ (u : Written). u .length) (rw b at e) in
           rw (long, rw b at f, take-at x (drop (length x) before) (length x) refl)
-          (accepted-means (at-most k) free s small t x (outcome-read (limit-head k) no-costs s t x m))
+          (accepted-means limits (at-most k) free s small t x (outcome-read limits (limit-head k) no-costs s t x m))
 
       by-outcome : (o : Outcome) → measured s k ≡ o → r ≡ written-answer o (length before) → after ≡ written-output o before
           → r .refusal ≡ 0 → Means (at-most k) s (take (r .length) after)
-      by-outcome (refused n p) m e f z = absurd (outcome-some (limit-head k) no-costs s n p m (sym (ap (λ (u : Written). u .refusal) e) ∙ z))
+      by-outcome (refused n p) m e f z = absurd (outcome-some limits (limit-head k) no-costs s n p m (sym (ap (λ (u : Written). u .refusal) e) ∙ z))
       by-outcome (accepted t x) m e f z = by-room t x m (ltb (length before) (length x)) refl e f z
 
 -- A fold that was measured and not refused: it is the byte form of a tree, and n is the length of its run.
@@ -69,14 +70,14 @@ top = record { at = 0; to = 0 }
 module _ (s : List ℕ) (small : Bytes s) (k : ℕ) (m : FoldReading) (reads : m ≡ as-fold-reading (measured s k)) where
   pub fold-measured : m .refusal ≡ 0 → Measured s k (m .length)
   fold-measured e =
-      let a = answered-accepted (measured s k) m reads (outcome-some (limit-head k) no-costs s) e in
-      let r = outcome-read (limit-head k) no-costs s (a .tally) (a .text) (a .reading) in
+      let a = answered-accepted (measured s k) m reads (outcome-some limits (limit-head k) no-costs s) e in
+      let r = outcome-read limits (limit-head k) no-costs s (a .tally) (a .text) (a .reading) in
       record {
         tally = a .tally;
         text = a .text;
         reading = a .reading;
         tree = parses (fold-rules (at-most k) free) s small (a .tally) (a .text) r;
-        size = ap (λ (u : FoldReading). u .length) (a .answer) ∙ sym (accepted-length (at-most k) free s small (a .tally) (a .text) r);
+        size = ap (λ (u : FoldReading). u .length) (a .answer) ∙ sym (accepted-length limits (at-most k) free s small (a .tally) (a .text) r);
       }
 
   module _ (out : List ℕ) where
