@@ -41,7 +41,7 @@ decided s small = by-outcome (read run-rules s) refl
     by-outcome : (o : Outcome) → read run-rules s ≡ o → Decided (as-run-reading o .nodes) (verdict (allowed (limits .width) free-marks) (priced unit) s o)
     by-outcome (refused n p) e = refusing n p (refused-some run-rules s n p e)
     by-outcome (accepted t x) e =
-        folded _ _ (cheapest-room s small t x e false (allowed (limits .width) free-marks) (priced unit))
+        folded _ _ (cheapest-room limits s small t x e false (allowed (limits .width) free-marks) (priced unit))
 
 -- What the folder answers and writes with this work and this output.
 abbrev answered : Verdict → Folded

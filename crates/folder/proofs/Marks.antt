@@ -45,6 +45,6 @@ module _ (s : List ℕ) (small : Bytes s) (k : ℕ) (steps groups : List ℕ) (f
   all-marked-folding t x e =
       let A : Allowed = allowed k all-marks in
       let run = headed-accepted limits (full-head T k) (read run-rules s) t x e in
-      let shape = run-shape s small t x run in
+      let shape = run-shape limits s small t x run in
       let same = preferred-itself A (all-allowed k) (priced T) (tree-of s) (shaped-run A (tree-of s) shape) (shape .coded) in
-      ap (verdict A (priced T) s) e ∙ rw (same, run-form s small t x run)
+      ap (verdict A (priced T) s) e ∙ rw (same, run-form limits s small t x run)

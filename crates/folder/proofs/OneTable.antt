@@ -17,7 +17,7 @@ use Rattle.format.proofs.OneTable.{equal-tables-headed}
 use Rattle.optimum.specs.Fewest.{preferred}
 use Rattle.optimum.specs.Verdict.{folds, verdict}
 use Rattle.optimum.specs.OneTable.{CheapestByLabel}
-use Rattle.optimum.proofs.Demands.{cheapest-small, cheapest-bytes}
+use Rattle.optimum.proofs.Demands.{format-bars-none, cheapest-small, cheapest-bytes}
 use Rattle.optimum.proofs.OneTable.{equal-tables-cheapest}
 use Rattle.folder.specs.Folding.{folding-in, folding}
 use Rattle.folder.specs.OneTable.{one-table-folding}
@@ -47,8 +47,8 @@ module _ (s : List ℕ) (k : ℕ) (table marks : List ℕ) (first each : ℕ) wh
           let g = bytes (preferred A P (tree-of s)) in
           let accepts = headed-accepted limits (full-head T k) (read run-rules s) t x e in
           let narrow = headed-narrow limits (full-head T k) (read run-rules s) t x e in
-          let best = cheapest-bytes s small t x accepts k narrow T in
-          let coded = cheapest-small s small t x accepts A P in
+          let best = cheapest-bytes limits s small t x accepts format-bars-none k narrow T in
+          let coded = cheapest-small limits s small t x accepts format-bars-none A P in
           let same : folds (t .nodes) g (cost P (preferred A P (tree-of s))) ≡ folds n f c =
           sym (ap (verdict A P s) e) ∙ decided in
           let fold : g ≡ f = cc same in

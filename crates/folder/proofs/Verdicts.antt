@@ -28,7 +28,7 @@ use Rattle.format.proofs.Refusals.{refused-some, refused-numbered}
 use Rattle.optimum.specs.Fewest.{preferred}
 use Rattle.optimum.specs.Verdict.{Verdict, refuses, folds, verdict-in, verdict}
 use Rattle.optimum.specs.Demands.{CheapestWithin, CheapestOver, ShortOver, MinimumTree}
-use Rattle.optimum.proofs.Demands.{run-form, run-shape, run-nodes, run-few, cheapest-small, cheapest-bytes}
+use Rattle.optimum.proofs.Demands.{format-bars-none, run-form, run-shape, run-nodes, run-few, cheapest-small, cheapest-bytes}
 use Rattle.optimum.proofs.Minimum.{cheapest-minimum}
 use Rattle.optimum.proofs.Fewest.{counted-repeat}
 use Rattle.table.specs.Listing.{Spelled}
@@ -143,9 +143,9 @@ module _ (s : List ℕ) (k : ℕ) (T : Tariff) (r : RunReading) (admitted : r �
     module _ (small : Bytes s) where
       pub spelled : Spelled s
       spelled =
-          let h = run-shape s small (a .tally) (a .text) accepts in
+          let h = run-shape limits s small (a .tally) (a .text) accepts in
           record {
-            form = run-form s small (a .tally) (a .text) accepts;
+            form = run-form limits s small (a .tally) (a .text) accepts;
             run = λ A. record {
               plain = h .plain refl;
               sound = sound-plain (at-most 0) A (tree-of s) (h .plain refl) (h .sound);
@@ -153,10 +153,10 @@ module _ (s : List ℕ) (k : ℕ) (T : Tariff) (r : RunReading) (admitted : r �
           }
 
       pub node-count-is : nodes (tree-of s) ≡ r .nodes
-      node-count-is = sym (run-nodes s small (a .tally) (a .text) accepts) ∙ a .all
+      node-count-is = sym (run-nodes limits s small (a .tally) (a .text) accepts) ∙ a .all
 
       pub few : r .nodes ≤ 1024
-      few = omega (arith, a .all, run-few s small (a .tally) (a .text) accepts)
+      few = omega (arith, a .all, run-few limits s small (a .tally) (a .text) accepts)
 
       pub level-ready : (prices costs choices : List ℕ) → cells (r .nodes) ≤ length costs → cells (r .nodes) ≤ length choices
           → Prepared (T .steps) (T .groups) prices → LevelReady s 0 k (T .steps) (T .groups) prices costs choices
@@ -173,9 +173,9 @@ module _ (s : List ℕ) (k : ℕ) (T : Tariff) (r : RunReading) (admitted : r �
       pub demands : CheapestWithin s k (format-rules T) (bytes (preferred (allowed k (T .marks)) (priced T) (tree-of s))) (cost (priced T) (preferred (allowed k (T .marks)) (priced T) (tree-of s)))
           × MinimumTree s k T (bytes (preferred (allowed k (T .marks)) (priced T) (tree-of s)))
       demands =
-          let best = cheapest-bytes s small (a .tally) (a .text) accepts k narrow T in
-          let coded = cheapest-small s small (a .tally) (a .text) accepts (allowed k (T .marks)) (priced T) in
-          (best, cheapest-minimum s small (a .tally) (a .text) accepts k narrow T _ _ coded best)
+          let best = cheapest-bytes limits s small (a .tally) (a .text) accepts format-bars-none k narrow T in
+          let coded = cheapest-small limits s small (a .tally) (a .text) accepts format-bars-none (allowed k (T .marks)) (priced T) in
+          (best, cheapest-minimum limits s small (a .tally) (a .text) accepts format-bars-none k narrow T _ _ coded best)
 
 -- Work that is not too short has its entries.
 pub long-enough : (n costs choices : ℕ) → short-work n costs choices ≡ false → (cells n ≤ costs) × (cells n ≤ choices)
