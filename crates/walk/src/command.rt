@@ -121,14 +121,15 @@ pub fn enter_group(
     ensures { λ r. ⌜ ((steps : List ℕ) → OpenRead (rules-of a steps (now (groups .entry)) (now (marks .entry))) (now (s .entry)) d (in-group-of d) at t (a-group t) 2 1 65535 r) ⌝ }
 {
     let bounds = a.limits;
+    let most = bounds.groups;
     let left = s.len() - at;
-    if bounds.groups == 0 {
+    if most == 0 {
         return refused(21, at, t);
     }
     if left < 2 {
         return refused(3, s.len(), t);
     }
-    if bounds.groups <= d.groups {
+    if most <= d.groups {
         return refused(8, at, t);
     }
     if is_barred(marks, s[at + 1], d) {

@@ -9,10 +9,10 @@ use Rattle.walk.proofs.command.enter_group.Tie as tie
 -- The function's start, from where groups may be open; that place, from where the depth is within its limit, the label being there;
 -- and that one, from where the label may stand.
 abbrev start : tie.Else1 → tie.Start
-start c = c .before .before .before .before .before .before
+start c = c .before .before .before .before .before
 
 abbrev labelled : tie.Else3 → tie.Else2
-labelled c = c .before .before .before
+labelled c = c .before .before
 
 abbrev shallow : tie.Else4 → tie.Else3
 shallow c = c .before .before .before
@@ -25,7 +25,7 @@ refused-requires c κs = search needs
 
 returns : tie.Need-returns
 returns c =
-    let S = c .before .before .before .before .before .before .before in
+    let S = c .before .before .before .before .before .before in
     λ steps. rw (c .refused .ensures) (group-banned (S .args .a) steps (S .args .groups .now) (S .args .marks .now) (S .args .s .now) (S .args .d) (S .args .at) (S .args .t) (S .pre .0) (c .before .if1 .taken) _ _)
 
 refused-requires-2 : tie.Need-refused-requires-2
@@ -42,7 +42,7 @@ refused-requires-3 c κs = search needs
 
 returns-3 : tie.Need-returns-3
 returns-3 c =
-    let l = c .before .before .before .before in
+    let l = c .before .before .before in
     let S = start (l .before) in
     λ steps. rw (c .refused3 .ensures) (group-deep (S .args .a) steps (S .args .groups .now) (S .args .marks .now) (S .args .s .now) (S .args .d) (S .args .at) (S .args .t) (S .pre .0) (l .before .if1 .left) (omega (arith, S .pre .0 .below, l .if2 .left)) (c .before .if3 .taken) _ _)
 
@@ -86,8 +86,8 @@ shared-slice-read-price c = search needs
 price-requires : tie.Need-price-requires
 price-requires c κs = search needs
 
-add-t11 : tie.Need-add-t11
-add-t11 c = search needs
+add-t12 : tie.Need-add-t12
+add-t12 c = search needs
 
 inside-group-requires : tie.Need-inside-group-requires
 inside-group-requires c κs =
@@ -126,6 +126,6 @@ enter-group-spec =
     add-price
     shared-slice-read-price
     price-requires
-    add-t11
+    add-t12
     inside-group-requires
     returns-6)
