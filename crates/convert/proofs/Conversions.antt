@@ -34,7 +34,7 @@ module _ (from short : Bool) (s : List ℕ) (small : Bytes s) (m : FoldReading) 
 
     pub form-fits : length (converted short s) ≤ most-bytes
     unfolding alone-in
-    form-fits = converted-fits (alone-rules from) s small (read-as .tally) (read-as .text) (read-as .reading) short
+    form-fits = omega (arith, converted-fits (alone-rules from) s small (read-as .tally) (read-as .text) (read-as .reading) short)
 
     module _ (n : ℕ) (is-length : n ≡ length (converted short s)) where
       pub too-short : length out < n → Promised out (record { refusal = 14; place = 0; length = 0 })

@@ -14,7 +14,7 @@ use Rattle.format.specs.Order.{Bytes}
 use Rattle.format.specs.Head.{marks-in-order}
 use Rattle.format.specs.Marks.{free-marks}
 use Rattle.format.specs.Machine.{Outcome, refused, accepted, read}
-use Rattle.format.specs.Readings.{run-rules, as-run-reading, run-reading}
+use Rattle.format.specs.Readings.{run-rules, as-run-reading, run-reading-in, run-reading}
 use Rattle.format.specs.declared.RunReading.{RunReading}
 use Rattle.format.specs.declared.Folded.{Folded}
 use Rattle.format.proofs.Refusals.{refused-some}
@@ -35,13 +35,13 @@ data Decided (nodes : ℕ) : Verdict → Type 0 where
   folded : (f : List ℕ) (c : ℕ) → length f ≤ 4 * nodes → Decided nodes (folds nodes f c)
 
 decided : (s : List ℕ) → Bytes s → Decided (run-reading s .nodes) (folding s (limits .width) unit)
-unfolding run-reading folding-in marks-in-order
+unfolding run-reading-in folding-in marks-in-order
 decided s small = by-outcome (read run-rules s) refl
   where
     by-outcome : (o : Outcome) → read run-rules s ≡ o → Decided (as-run-reading o .nodes) (verdict (allowed (limits .width) free-marks) (priced unit) s o)
     by-outcome (refused n p) e = refusing n p (refused-some run-rules s n p e)
     by-outcome (accepted t x) e =
-        folded _ _ (cheapest-room s small t x e false (allowed (limits .width) free-marks) (priced unit))
+        folded _ _ (cheapest-room limits s small t x e false (allowed (limits .width) free-marks) (priced unit))
 
 -- What the folder answers and writes with this work and this output.
 abbrev answered : Verdict → Folded

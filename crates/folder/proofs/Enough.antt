@@ -6,7 +6,7 @@ use Prim.Native.Nat.{ℕ, _*_, _≤_}
 use native.Mathlib.Omega.{arith}
 use lib.ListN.{length}
 use borrow.Author.Tests.{le-ltb}
-use Rattle.format.specs.Limits.{Tariff, priced, allowed, cells}
+use Rattle.format.specs.Limits.{limits, Tariff, priced, allowed, cells}
 use Rattle.format.specs.Order.{Bytes}
 use Rattle.format.specs.Forest.{form-in}
 use Rattle.format.specs.Head.{full-head}
@@ -33,7 +33,7 @@ enough-in short s small k T z costs choices room x y o =
     let n = r .nodes in
     let f = form-in short (preferred (allowed k (T .marks)) (priced T) (tree-of s)) in
     let few : length f ≤ room =
-    omega (arith, cheapest-room s small (a .tally) (a .text) (accepts s k T r refl a) short (allowed k (T .marks)) (priced T), a .all) in
+    omega (arith, cheapest-room limits s small (a .tally) (a .text) (accepts s k T r refl a) short (allowed k (T .marks)) (priced T), a .all) in
     rw (verdict-folds s k T r refl a short, le-ltb costs (cells n) x, le-ltb choices (cells n) y, le-ltb room (length f) few)
 
 module _ (s : List ℕ) (small : Bytes s) (k : ℕ) (T : Tariff) (z : admission s k T .refusal ≡ 0) (costs choices room : ℕ)

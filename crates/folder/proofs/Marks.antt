@@ -10,7 +10,7 @@ use Rattle.format.specs.Order.{Bytes}
 use Rattle.format.specs.Forest.{cost}
 use Rattle.format.specs.Machine.{accepted, read}
 use Rattle.format.specs.Head.{full-head}
-use Rattle.format.specs.Readings.{run-rules, run-outcome}
+use Rattle.format.specs.Readings.{run-rules, run-outcome-in, run-outcome}
 use Rattle.format.specs.Tree.{tree-of}
 use Rattle.format.specs.Marks.{free-marks, all-marks}
 use Rattle.format.specs.FreeMarks.{unmarked-headed}
@@ -25,7 +25,7 @@ use Rattle.folder.specs.FreeMarks.{unmarked-folding}
 
 module _ (s : List ℕ) (k : ℕ) (steps groups : List ℕ) (first each : ℕ) where
   pub free-folding : folding s k (tariff steps groups free-marks first each) ≡ unmarked-folding s k steps groups first each
-  unfolding folding-in run-outcome unmarked-folding
+  unfolding folding-in run-outcome-in unmarked-folding
   free-folding =
       let T : Tariff = tariff steps groups free-marks first each in
       ap (verdict (allowed k free-marks) (priced T) s) (free-headed steps groups first each k (read run-rules s))
@@ -41,10 +41,10 @@ module _ (s : List ℕ) (small : Bytes s) (k : ℕ) (steps groups : List ℕ) (f
 
   pub all-marked-folding : (t : Tally) (x : List ℕ) → run-outcome (full-head T k) s ≡ accepted t x
       → folding s k T ≡ folds (t .nodes) s (cost (priced T) (tree-of s))
-  unfolding folding-in run-outcome
+  unfolding folding-in run-outcome-in
   all-marked-folding t x e =
       let A : Allowed = allowed k all-marks in
       let run = headed-accepted limits (full-head T k) (read run-rules s) t x e in
-      let shape = run-shape s small t x run in
+      let shape = run-shape limits s small t x run in
       let same = preferred-itself A (all-allowed k) (priced T) (tree-of s) (shaped-run A (tree-of s) shape) (shape .coded) in
-      ap (verdict A (priced T) s) e ∙ rw (same, run-form s small t x run)
+      ap (verdict A (priced T) s) e ∙ rw (same, run-form limits s small t x run)

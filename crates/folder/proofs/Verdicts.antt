@@ -15,7 +15,7 @@ use Rattle.format.specs.Order.{Bytes}
 use Rattle.format.specs.Forest.{Forest, nodes, cost, form-in, bytes, at-most, Allowed}
 use Rattle.format.specs.Machine.{Outcome, refused, accepted, read}
 use Rattle.format.specs.Head.{head-checks, full-head}
-use Rattle.format.specs.Readings.{run-rules, format-rules, as-run-reading, run-outcome}
+use Rattle.format.specs.Readings.{run-rules, format-rules, as-run-reading, run-outcome-in, run-outcome}
 use Rattle.format.specs.Tree.{tree-of}
 use Rattle.format.specs.Family.{long-form}
 use Rattle.format.specs.declared.Tally.{Tally}
@@ -28,7 +28,7 @@ use Rattle.format.proofs.Refusals.{refused-some, refused-numbered}
 use Rattle.optimum.specs.Fewest.{preferred}
 use Rattle.optimum.specs.Verdict.{Verdict, refuses, folds, verdict-in, verdict}
 use Rattle.optimum.specs.Demands.{CheapestWithin, CheapestOver, ShortOver, MinimumTree}
-use Rattle.optimum.proofs.Demands.{run-form, run-shape, run-nodes, run-few, cheapest-small, cheapest-bytes}
+use Rattle.optimum.proofs.Demands.{format-bars-none, run-form, run-shape, run-nodes, run-few, cheapest-small, cheapest-bytes}
 use Rattle.optimum.proofs.Minimum.{cheapest-minimum}
 use Rattle.optimum.proofs.Fewest.{counted-repeat}
 use Rattle.table.specs.Listing.{Spelled}
@@ -100,7 +100,7 @@ module _ (s : List ℕ) (k : ℕ) (T : Tariff) (r : RunReading) (admitted : r �
 
   -- A number of the admission is none of the folder's own, and 0 only where the run is accepted.
   number-low : (n p : ℕ) → run-outcome (full-head T k) s ≡ refused n p → (n ≡ 0 → ⊥) × (n ≡ 14 → ⊥)
-  unfolding run-outcome head-checks
+  unfolding run-outcome-in head-checks
   number-low =
       headed-each limits (full-head T k) (read run-rules s) (λ n. (n ≡ 0 → ⊥) × (n ≡ 14 → ⊥))
       ((omega arith, omega arith), ((omega arith, omega arith), ((omega arith, omega arith), ((omega arith, omega arith), tt))))
@@ -129,11 +129,11 @@ module _ (s : List ℕ) (k : ℕ) (T : Tariff) (r : RunReading) (admitted : r �
 
   module _ (a : Accepted) where
     pub accepts : read run-rules s ≡ accepted (a .tally) (a .text)
-    unfolding run-outcome
+    unfolding run-outcome-in
     accepts = headed-accepted limits (full-head T k) (read run-rules s) (a .tally) (a .text) (a .admits)
 
     narrow : k ≤ limits .width
-    unfolding run-outcome
+    unfolding run-outcome-in
     narrow = headed-narrow limits (full-head T k) (read run-rules s) (a .tally) (a .text) (a .admits)
 
     pub verdict-folds : (short : Bool)
@@ -143,9 +143,9 @@ module _ (s : List ℕ) (k : ℕ) (T : Tariff) (r : RunReading) (admitted : r �
     module _ (small : Bytes s) where
       pub spelled : Spelled s
       spelled =
-          let h = run-shape s small (a .tally) (a .text) accepts in
+          let h = run-shape limits s small (a .tally) (a .text) accepts in
           record {
-            form = run-form s small (a .tally) (a .text) accepts;
+            form = run-form limits s small (a .tally) (a .text) accepts;
             run = λ A. record {
               plain = h .plain refl;
               sound = sound-plain (at-most 0) A (tree-of s) (h .plain refl) (h .sound);
@@ -153,10 +153,10 @@ module _ (s : List ℕ) (k : ℕ) (T : Tariff) (r : RunReading) (admitted : r �
           }
 
       pub node-count-is : nodes (tree-of s) ≡ r .nodes
-      node-count-is = sym (run-nodes s small (a .tally) (a .text) accepts) ∙ a .all
+      node-count-is = sym (run-nodes limits s small (a .tally) (a .text) accepts) ∙ a .all
 
       pub few : r .nodes ≤ 1024
-      few = omega (arith, a .all, run-few s small (a .tally) (a .text) accepts)
+      few = omega (arith, a .all, run-few limits s small (a .tally) (a .text) accepts)
 
       pub level-ready : (prices costs choices : List ℕ) → cells (r .nodes) ≤ length costs → cells (r .nodes) ≤ length choices
           → Prepared (T .steps) (T .groups) prices → LevelReady s 0 k (T .steps) (T .groups) prices costs choices
@@ -173,9 +173,9 @@ module _ (s : List ℕ) (k : ℕ) (T : Tariff) (r : RunReading) (admitted : r �
       pub demands : CheapestWithin s k (format-rules T) (bytes (preferred (allowed k (T .marks)) (priced T) (tree-of s))) (cost (priced T) (preferred (allowed k (T .marks)) (priced T) (tree-of s)))
           × MinimumTree s k T (bytes (preferred (allowed k (T .marks)) (priced T) (tree-of s)))
       demands =
-          let best = cheapest-bytes s small (a .tally) (a .text) accepts k narrow T in
-          let coded = cheapest-small s small (a .tally) (a .text) accepts (allowed k (T .marks)) (priced T) in
-          (best, cheapest-minimum s small (a .tally) (a .text) accepts k narrow T _ _ coded best)
+          let best = cheapest-bytes limits s small (a .tally) (a .text) accepts format-bars-none k narrow T in
+          let coded = cheapest-small limits s small (a .tally) (a .text) accepts format-bars-none (allowed k (T .marks)) (priced T) in
+          (best, cheapest-minimum limits s small (a .tally) (a .text) accepts format-bars-none k narrow T _ _ coded best)
 
 -- Work that is not too short has its entries.
 pub long-enough : (n costs choices : ℕ) → short-work n costs choices ≡ false → (cells n ≤ costs) × (cells n ≤ choices)

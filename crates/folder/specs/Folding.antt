@@ -6,14 +6,14 @@ use lib.Dec.{ltb}
 use lib.ListN.{length, drop, replicate}
 use Rattle.format.specs.Limits.{Tariff, priced, allowed, cells}
 use Rattle.format.specs.Head.{full-head}
-use Rattle.format.specs.Readings.{run-outcome}
+use Rattle.format.specs.Readings.{run-outcome-in, run-outcome}
 use Rattle.format.specs.Family.{short-form}
 use Rattle.format.specs.declared.Folded.{Folded}
 use Rattle.optimum.specs.Verdict.{Verdict, refuses, folds, verdict-in}
 
 -- The checks of tables, limit and marks, then the run's own refusals; or the cheapest fold, in a family.
 unfoldable pub folding-in : (short : Bool) → List ℕ → (limit : ℕ) → Tariff → Verdict
-unfolding run-outcome
+unfolding run-outcome-in
 folding-in short s k T = verdict-in short (allowed k (T .marks)) (priced T) s (run-outcome (full-head T k) s)
 
 -- Where no family is named, the long one.

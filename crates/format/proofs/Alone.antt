@@ -79,7 +79,7 @@ module _ (short : Bool) (k m : ℕ) (wider : k ≤ m) where
       → (refusal (at k) st c rest ≡ refusal (at m) st c rest) ⊎ (refusal (at k) st c rest ≡ 7)
   unfolding refusal checks
   same-or-seven st c rest =
-      seven-or-same (take 6 (checks (at k) st c rest)) _ _ (drop 7 (checks (at k) st c rest)) (still-within k m wider (opens-repeat c) (width-operand c rest))
+      seven-or-same (take 7 (checks (at k) st c rest)) _ _ (drop 8 (checks (at k) st c rest)) (still-within k m wider (opens-repeat c) (width-operand c rest))
 
   scan-or-seven : (p j : ℕ) (st : State) (s : List ℕ) → SameOrSeven (scan (at k) p j st s) (scan (at m) p j st s)
   unfolding scan

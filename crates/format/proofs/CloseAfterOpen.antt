@@ -75,10 +75,10 @@ module _ (R : Rules) (st : State) (rest : List ℕ) where
       repeat-end-kept (st .opens) z (y .inner) (y .some)
   kept (other-byte {c} u) z e = absurd (omega (arith, refusal-other R st rest c u))
 
-  -- Where check 5 answers none of the first four checks applies.
-  fifth : (c : ℕ) → refusal R st c rest ≡ 5 → None (take 4 (checks R st c rest)) × (is-close c && eqb (st .tally .siblings) 0 ≡ true)
+  -- Where check 5 answers none of the five checks before it applies.
+  fifth : (c : ℕ) → refusal R st c rest ≡ 5 → None (take 5 (checks R st c rest)) × (is-close c && eqb (st .tally .siblings) 0 ≡ true)
   unfolding refusal
-  fifth c e = only-check 5 (omega arith) (take 4 (checks R st c rest)) _ (drop 5 (checks R st c rest)) (omega arith) (omega arith) e
+  fifth c e = only-check 5 (omega arith) (take 5 (checks R st c rest)) _ (drop 6 (checks R st c rest)) (omega arith) (omega arith) e
 
   shut : {c : ℕ} → Command c → refusal R st c rest ≡ 5 → Shuts c st
   unfolding checks
@@ -86,12 +86,12 @@ module _ (R : Rules) (st : State) (rest : List ℕ) where
   shut group-byte e = absurd (false≢true (fifth 0x11 e .1))
   shut group-end-byte e =
       let z = fifth 0x12 e in
-      shut-group refl (not-false _ (rw or-false at (z .0 .1 .1 .1 .0))) (eqb-true _ _ (z .1))
+      shut-group refl (not-false _ (rw or-false at (z .0 .1 .1 .1 .1 .0))) (eqb-true _ _ (z .1))
   shut (repeat-byte by-two) e = absurd (false≢true (fifth 0x20 e .1))
   shut (repeat-byte by-one) e = absurd (false≢true (fifth 0x22 e .1))
   shut repeat-end-byte e =
       let z = fifth 0x21 e in
-      shut-repeat refl (not-false _ (z .0 .1 .1 .1 .0)) (eqb-true _ _ (z .1))
+      shut-repeat refl (not-false _ (z .0 .1 .1 .1 .1 .0)) (eqb-true _ _ (z .1))
   shut (other-byte {c} u) e = absurd (omega (arith, refusal-other R st rest c u))
 
   -- Check 5 answers at the close of what was just opened.

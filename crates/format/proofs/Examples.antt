@@ -8,16 +8,19 @@ use Rattle.format.specs.Limits.{Tariff, tariff}
 use Rattle.format.specs.Machine.{times}
 use Rattle.format.specs.Head.{marks-in-order}
 use Rattle.format.specs.Marks.{free-marks, mark-of, all-marks}
-use Rattle.format.specs.Readings.{run-reading, fold-reading, short-reading}
+use Rattle.format.specs.Readings.{run-reading-in, run-reading, reading-by, fold-reading, short-reading, season-run-reading, season-reading}
 use Rattle.format.specs.Parts.{part-of}
 use Rattle.format.specs.declared.RunReading.{RunReading}
 use Rattle.format.specs.declared.FoldReading.{FoldReading}
 
--- What a reader is asked: a run; or a fold, or a short fold, at a width limit and what is lent to price it.
+-- What a reader is asked: a run, or a season run; or a fold, a short fold or a season fold, at a width limit and what is lent to price
+-- it.
 pub data Asked : Type 0 where
   run : (input : List ℕ) → Asked
   fold-with : (limit : ℕ) → Tariff → (input : List ℕ) → Asked
   short-with : (limit : ℕ) → Tariff → (input : List ℕ) → Asked
+  season-run : (input : List ℕ) → Asked
+  season-with : (limit : ℕ) → Tariff → (input : List ℕ) → Asked
 
 -- A table of that many entries, each 1.
 abbrev pub ones : ℕ → List ℕ
@@ -73,10 +76,12 @@ from-run-reading r =
     }
 
 unfoldable pub answer : Asked → FoldReading
-unfolding run-reading fold-reading short-reading
+unfolding run-reading-in reading-by
 answer (run s) = from-run-reading (run-reading s)
 answer (fold-with k T s) = fold-reading s k T
 answer (short-with k T s) = short-reading s k T
+answer (season-run s) = from-run-reading (season-run-reading s)
+answer (season-with k T s) = season-reading s k T
 
 unfoldable pub answered : Case → FoldReading
 unfolding answer

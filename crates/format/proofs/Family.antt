@@ -14,7 +14,7 @@ use Rattle.format.specs.Order.{Bytes}
 use Rattle.format.specs.Forest.{Forest, end, step, group, repeat, opening, form-in, two-bytes}
 use Rattle.format.specs.Machine.{Rules, State, refusal, read, accepted}
 use Rattle.format.specs.Head.{Head, headed, full-head}
-use Rattle.format.specs.Readings.{in-family, rules-at, WellFormed, as-fold-reading, outcome-in, fold-reading, short-reading}
+use Rattle.format.specs.Readings.{in-family, rules-at, WellFormed, as-fold-reading, outcome-by, outcome-in, reading-by, fold-reading, short-reading}
 use Rattle.format.specs.Tree.{tree-of}
 use Rattle.format.specs.Meaning.{MeansAtCost}
 use Rattle.format.specs.Shape.{Shaped, tally-of, Reads}
@@ -160,9 +160,9 @@ exactly-one-short-form R s small a g few = (
 -- At an entry point with a head: accepted in one family means accepted in the other, with the same counts and the same run.
 pub outcome-converted : (from short : Bool) (h : Head) (T : Tariff) (s : List ℕ) → Bytes s → (t : Tally) (x : List ℕ)
     → outcome-in from h T s ≡ accepted t x → outcome-in short h T (converted short s) ≡ outcome-in from h T s
-unfolding outcome-in
+unfolding outcome-by
 outcome-converted from short h T s small t x e =
-    let a = in-read from h T s t x e in
+    let a = in-read limits from h T s t x e in
     ap (headed limits h) (converted-accepted (rules-at from h T) s small t x a short ∙ sym a)
 
 -- THE SHORT READER ANSWERS FOR A FOLD'S SHORT FORM WHAT THE FOLD READER ANSWERS FOR THE FOLD, and the other way round.
@@ -170,25 +170,25 @@ module _ (s : List ℕ) (small : Bytes s) (k : ℕ) (T : Tariff) where
   read-alike : (from short : Bool) → as-fold-reading (outcome-in from (full-head T k) T s) .refusal ≡ 0
       → as-fold-reading (outcome-in short (full-head T k) T (converted short s)) ≡ as-fold-reading (outcome-in from (full-head T k) T s)
   read-alike from short success =
-      let a = answered-accepted (outcome-in from (full-head T k) T s) _ refl (in-some from (full-head T k) T s) success in
+      let a = answered-accepted (outcome-in from (full-head T k) T s) _ refl (in-some limits from (full-head T k) T s) success in
       ap as-fold-reading (outcome-converted from short (full-head T k) T s small (a .tally) (a .text) (a .reading))
 
   pub short-form-alike : fold-reading s k T .refusal ≡ 0 → short-reading (short-form s) k T ≡ fold-reading s k T
-  unfolding fold-reading short-reading
+  unfolding reading-by
   short-form-alike success = read-alike false true success
 
   pub long-form-alike : short-reading s k T .refusal ≡ 0 → fold-reading (long-form s) k T ≡ short-reading s k T
-  unfolding fold-reading short-reading
+  unfolding reading-by
   long-form-alike success = read-alike true false success
 
   -- What the short reader accepts means, in the report's words, what its long form means.
   pub short-means : short-reading s k T .refusal ≡ 0
       → MeansAtCost k T (long-form s) (short-reading s k T .length) (short-reading s k T .cost)
-  unfolding short-reading
+  unfolding reading-by
   short-means success =
-      let a = answered-accepted (outcome-in true (full-head T k) T s) _ refl (in-some true (full-head T k) T s) success in
-      let r = in-read true (full-head T k) T s (a .tally) (a .text) (a .reading) in
-      reading-means (long-form s) k T (converted-bytes (rules-at true (full-head T k) T) s small (a .tally) (a .text) r false) (short-reading s k T)
+      let a = answered-accepted (outcome-in true (full-head T k) T s) _ refl (in-some limits true (full-head T k) T s) success in
+      let r = in-read limits true (full-head T k) T s (a .tally) (a .text) (a .reading) in
+      reading-means limits (long-form s) k T (converted-bytes (rules-at true (full-head T k) T) s small (a .tally) (a .text) r false) (short-reading s k T)
       (sym (long-form-alike success)) success
 
 -- THE RULES FOR `20` BIND `22`: in the short family a `22` is refused as the long family refuses the `20` of its count and width.

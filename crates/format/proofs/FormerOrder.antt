@@ -15,7 +15,7 @@ use Rattle.format.specs.Machine.{Rules, State, is-node, node-total, none
 use Rattle.format.specs.Limits.{limits, Tariff, priced, allowed}
 use Rattle.format.specs.Reasons.{holds-check, Reached, Because, at-command, left-open}
 use Rattle.format.specs.Head.{Head, head-checks, headed, marks-in-order, full-head}
-use Rattle.format.specs.Readings.{fold-rules, fold-numbers, as-fold-reading, outcome-in, fold-outcome, fold-reading}
+use Rattle.format.specs.Readings.{fold-rules, fold-numbers, as-fold-reading, outcome-by, fold-outcome, reading-by, fold-reading}
 use Rattle.format.specs.FormerOrder.{former-checks, former-refusal, former-read, former-outcome, former-reading, NineAndTen}
 use Rattle.format.specs.declared.Tally.{Tally}
 use Rattle.format.proofs.Machine.{first-none, refusal-repeat-end}
@@ -71,7 +71,7 @@ module _ (R : Rules) (st : State) (c : ℕ) (rest : List ℕ) where
   unfolding refusal former-refusal holds-check
   ten-first =
       let full : Bool = ltb (R .limits .nodes) (node-total c (st .opens) (st .tally .nodes)) in
-      rw or-false (last-three (take 9 (checks R st c rest)) (omega arith) _ full _ (no-node c _ _))
+      rw or-false (last-three (take 10 (checks R st c rest)) (omega arith) _ full _ (no-node c _ _))
 
   -- What was said at a command is what is said; or it was 9, and is 10.
   abbrev Renamed : Type 0
@@ -214,14 +214,14 @@ module _ (h : Head) (T : Tariff) (s : List ℕ) where
           absurd (found-each (λ m. m ≢ 9) (head-checks limits h) (suc n) (omega arith) e (omega arith) (sym same))
 
   pub outcome-ten : (p : ℕ) → former-outcome h T s ≡ refused 9 p → NineAndTen rules s p → fold-outcome h T s ≡ refused 10 p
-  unfolding outcome-in
+  unfolding outcome-by
   outcome-ten p said both = headed-passed limits h (read rules s) (head-passed p said) ∙ ten-named rules s p both
 
   abbrev Nine : Type 0
   Nine = (p : ℕ) × (former-outcome h T s ≡ refused 9 p) × NineAndTen rules s p
 
   outcome-moves : (fold-outcome h T s ≡ former-outcome h T s) ⊎ Nine
-  unfolding outcome-in former-outcome
+  unfolding outcome-by former-outcome
   outcome-moves = go head refl (moves rules s)
     where
       go : (n : ℕ) → head ≡ n → (read rules s ≡ former-read rules s) ⊎ Both rules s → (fold-outcome h T s ≡ former-outcome h T s) ⊎ Nine
@@ -249,11 +249,11 @@ module _ (s : List ℕ) (k : ℕ) (T : Tariff) where
   WasNine p = (former-reading s k T ≡ fold-numbers 9 p none) × NineAndTen (fold-rules (allowed k (T .marks)) (priced T)) s p
 
   pub reading-ten : (p : ℕ) → WasNine p → fold-reading s k T ≡ fold-numbers 10 p none
-  unfolding fold-reading former-reading
+  unfolding reading-by former-reading
   reading-ten p m = ap as-fold-reading (outcome-ten (full-head T k) T s p (said-nine _ p (m .0)) (m .1))
 
   reading-moves : (fold-reading s k T ≡ former-reading s k T) ⊎ ((p : ℕ) × WasNine p)
-  unfolding fold-reading former-reading
+  unfolding reading-by former-reading
   reading-moves =
       ⊎-elim (λ e. inl (ap as-fold-reading e)) (λ m. inr (m .0, (ap as-fold-reading (m .1), m .2))) (outcome-moves (full-head T k) T s)
 

@@ -12,7 +12,7 @@ use Rattle.format.specs.Order.{Bytes}
 use Rattle.format.specs.Forest.{Forest, end, step, group, repeat, holds, Sound}
 use Rattle.format.specs.Machine.{Rules, State, is-node, checks, first-of, refusal, Outcome, accepted, read}
 use Rattle.format.specs.Head.{head-checks, headed, marks-in-order, full-head}
-use Rattle.format.specs.Readings.{fold-rules, as-fold-reading, outcome-in, fold-reading}
+use Rattle.format.specs.Readings.{fold-rules, as-fold-reading, outcome-by, reading-by, fold-reading}
 use Rattle.format.specs.Meaning.{NoneRepeated, report, report-of}
 use Rattle.format.specs.Shape.{Reads}
 use Rattle.format.specs.Tree.{tree-of}
@@ -90,5 +90,5 @@ module _ (steps groups : List ℕ) (first each : ℕ) where
 
   -- The fold reader's whole answer is the one without marks.
   pub free-reading : (s : List ℕ) (k : ℕ) → fold-reading s k T ≡ unmarked-reading s k steps groups first each
-  unfolding fold-reading outcome-in unmarked-reading
+  unfolding reading-by outcome-by unmarked-reading
   free-reading s k = ap as-fold-reading (free-headed k _ ∙ ap (λ (A : Allowed). unmarked-headed steps groups k (read (fold-rules A (priced T)) s)) (free-allowed k))

@@ -25,6 +25,8 @@ pub mod OneTable
 pub mod FreeMarks
 pub mod FormerOrder
 pub mod StepsAndDepth
+pub mod SeasonRuns
 pub mod Parts
 pub mod Examples
 pub mod ShortExamples
+pub mod SeasonExamples

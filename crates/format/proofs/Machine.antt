@@ -37,7 +37,8 @@ module _ (R : Rules) (st : State) (rest : List ℕ) where
 
   abbrev pub group-checks : List Check
   group-checks =
-      3 when ltb (length rest) 1
+      21 when eqb (R .limits .groups) 0
+      ∷ 3 when ltb (length rest) 1
       ∷ 8 when leb (R .limits .groups) (open-groups (st .opens))
       ∷ 19 when (R .allowed .marked (label-operand rest) && ltb 0 (open-repeats (st .opens)))
       ∷ 10 when ltb (R .limits .nodes) (st .tally .nodes + 1)
@@ -133,12 +134,12 @@ module _ (R : Rules) (st : State) (rest : List ℕ) where
   -- A passed command has its operands.
   pub operands-there : (c : ℕ) → refusal R st c rest ≡ 0 → operands c ≤ length rest
   unfolding refusal
-  operands-there c e = ltb-false _ _ (first-none (checks R st c rest) (omega arith) e .1 .1 .0)
+  operands-there c e = ltb-false _ _ (first-none (checks R st c rest) (omega arith) e .1 .1 .1 .0)
 
   -- And the node total that it makes is within the limit.
   pub total-within : (c : ℕ) → refusal R st c rest ≡ 0 → node-total c (st .opens) (st .tally .nodes) ≤ R .limits .nodes
   unfolding refusal
-  total-within c e = ltb-false _ _ (first-none (checks R st c rest) (omega arith) e .1 .1 .1 .1 .1 .1 .1 .1 .1 .1 .0)
+  total-within c e = ltb-false _ _ (first-none (checks R st c rest) (omega arith) e .1 .1 .1 .1 .1 .1 .1 .1 .1 .1 .1 .0)
 
 -- When each command is passed.
 pub record StepPasses (R : Rules) (st : State) (rest : List ℕ) : Type 0 where
@@ -204,16 +205,17 @@ module _ (R : Rules) (st : State) (rest : List ℕ) where
   group-passed e =
       let z = first-none (group-checks R st rest) (omega arith) (sym (refusal-group R st rest) ∙ e) in
       record {
-        operand = ltb-false _ _ (z .0);
-        room = leb-false _ _ (z .1 .0);
-        unmarked = unmarked-inside _ _ (z .1 .1 .0);
-        total = ltb-false _ _ (z .1 .1 .1 .0);
+        operand = ltb-false _ _ (z .1 .0);
+        room = leb-false _ _ (z .1 .1 .0);
+        unmarked = unmarked-inside _ _ (z .1 .1 .1 .0);
+        total = ltb-false _ _ (z .1 .1 .1 .1 .0);
       }
 
   pub group-passes : GroupPasses R st rest → refusal R st 0x11 rest ≡ 0
   group-passes h =
+      let some : 0 < R .limits .groups = omega (arith, h .room) in
       refusal-group R st rest
-      ∙ rw (le-ltb _ _ (h .operand), lt-leb _ _ (h .room), inside-unmarked _ _ (h .unmarked), le-ltb _ _ (h .total))
+      ∙ rw (zero-not _ some, le-ltb _ _ (h .operand), lt-leb _ _ (h .room), inside-unmarked _ _ (h .unmarked), le-ltb _ _ (h .total))
 
   pub repeat-end-passed : refusal R st 0x21 rest ≡ 0 → RepeatEndPasses R st
   repeat-end-passed e =

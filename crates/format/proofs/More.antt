@@ -40,14 +40,16 @@ module _ (R : Rules) (st : State) (x y : List ℕ) where
 
   same-refusal : (c : ℕ) → refusal R st c x ≢ 3 → refusal R st c (x ++ y) ≡ refusal R st c x
   unfolding refusal
-  same-refusal c not3 = go _ _ _ refl refl refl
+  same-refusal c not3 = go _ _ _ _ refl refl refl refl
     where
-      go : (unknown banned missing : Bool) → not (is-known (R .short) c) ≡ unknown → ((opens-repeat c || eqb c 0x21) && not (R .folds)) ≡ banned
+      go : (unknown banned grouped missing : Bool) → not (is-known (R .short) c) ≡ unknown
+          → ((opens-repeat c || eqb c 0x21) && not (R .folds)) ≡ banned → (eqb c 0x11 && eqb (R .limits .groups) 0) ≡ grouped
           → ltb (length x) (operands c) ≡ missing → refusal R st c (x ++ y) ≡ refusal R st c x
-      go true banned missing p q r = rw p
-      go false true missing p q r = rw (p, q)
-      go false false true p q r = absurd (not3 (rw (p, q, r)))
-      go false false false p q r = with-operands (command c) (ltb-false _ _ r)
+      go true banned grouped missing p q g r = rw p
+      go false true grouped missing p q g r = rw (p, q)
+      go false false true missing p q g r = rw (p, q, g)
+      go false false false true p q g r = absurd (not3 (rw (p, q, g, r)))
+      go false false false false p q g r = with-operands (command c) (ltb-false _ _ r)
 
   same-advance : {c : ℕ} (P : Prices) → Command c → refusal R st c x ≡ 0 → operands c ≤ length x
       → advance P c (x ++ y) st ≡ advance P c x st
@@ -142,7 +144,7 @@ not-missing : (R : Rules) (st : State) (c : ℕ) (rest : List ℕ) → operands 
 unfolding refusal
 not-missing R st c rest h e =
     let rs = checks R st c rest in
-    first-each (λ n. n ≢ 3) (take 2 rs ++ drop 3 rs) (omega arith) (omega arith) (rw (le-ltb _ _ h) at e)
+    first-each (λ n. n ≢ 3) (take 3 rs ++ drop 4 rs) (omega arith) (omega arith) (rw (le-ltb _ _ h) at e)
 
 -- A run that is refused whatever follows it.
 pub record SettledRefusal (s : List ℕ) : Type 0 where

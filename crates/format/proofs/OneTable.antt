@@ -12,7 +12,7 @@ use Rattle.format.specs.Order.{Bytes}
 use Rattle.format.specs.Forest.{Forest, end, step, group, repeat, cost}
 use Rattle.format.specs.Machine.{Outcome, accepted, read, unless, first-of, Check, _when_}
 use Rattle.format.specs.Head.{head-checks, headed, marks-in-order, full-head}
-use Rattle.format.specs.Readings.{fold-rules, as-fold-reading, outcome-in, fold-reading}
+use Rattle.format.specs.Readings.{fold-rules, as-fold-reading, outcome-by, reading-by, fold-reading}
 use Rattle.format.specs.Tree.{tree-of}
 use Rattle.format.specs.OneTable.{label-cost, by-label, one-table-headed, one-table-reading}
 use Rattle.format.specs.declared.Tally.{Tally}
@@ -33,7 +33,7 @@ module _ (table marks : List ℕ) (first each : ℕ) where
   -- And so is the cost of all bytes that the rules of folds accept.
   pub equal-tables-accepted : (A : Allowed) (s : List ℕ) → Bytes s → (t : Tally) (x : List ℕ)
       → read (fold-rules A (priced T)) s ≡ accepted t x → t .cost ≡ label-cost table first each (tree-of s)
-  equal-tables-accepted A s small t x e = accepted-cost A (priced T) s small t x e ∙ equal-tables-cost (tree-of s)
+  equal-tables-accepted A s small t x e = accepted-cost limits A (priced T) s small t x e ∙ equal-tables-cost (tree-of s)
 
   -- 15 is never said: 11 comes first.
   pub equal-tables-headed : (k : ℕ) (o : Outcome) → headed limits (full-head T k) o ≡ one-table-headed table marks k o
@@ -50,5 +50,5 @@ module _ (table marks : List ℕ) (first each : ℕ) where
 
   -- The fold reader's whole answer is the one by one table.
   pub equal-tables-reading : (s : List ℕ) (k : ℕ) → fold-reading s k T ≡ one-table-reading s k table marks first each
-  unfolding fold-reading outcome-in one-table-reading
+  unfolding reading-by outcome-by one-table-reading
   equal-tables-reading s k = ap as-fold-reading (equal-tables-headed k (read (fold-rules (allowed k marks) (by-label table first each)) s))

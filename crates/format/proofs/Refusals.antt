@@ -13,7 +13,7 @@ use lib.Seq.{drop-cons, drop-drop, drop-length}
 use borrow.Author.Tests.{eq-eqb}
 use Rattle.format.specs.Machine.{Rules, State, Open, Check, _when_, first-of, checks, refusal, scan-by, scan, read, start, advance, operands, place-of, at-end, Outcome, refused, accepted}
 use Rattle.format.specs.declared.Tally.{Tally}
-use Rattle.format.specs.Reasons.{None, holds-check, First, Reached, at-start, passed, Because, at-command, left-open, Finished}
+use Rattle.format.specs.Reasons.{None, numbers, holds-check, First, Reached, at-start, passed, Because, at-command, left-open, Finished}
 use Rattle.format.proofs.Machine.{scan-end, by-past, scan-refuse, operands-there}
 
 first-found : (rs : List Check) (n : ℕ) → n ≢ 0 → first-of rs ≡ n → First rs n
@@ -57,6 +57,12 @@ pub refusal-exactly : (R : Rules) (st : State) (c : ℕ) (rest : List ℕ) (n : 
 unfolding refusal
 refusal-exactly R st c rest n some = first-exactly (checks R st c rest) n some
 
+-- THE ORDER OF THE CHECKS at a command.
+pub order-of-checks : (R : Rules) (st : State) (c : ℕ) (rest : List ℕ)
+    → numbers (checks R st c rest) ≡ 1 ∷ 2 ∷ 21 ∷ 3 ∷ 4 ∷ 5 ∷ 6 ∷ 7 ∷ 20 ∷ 8 ∷ 19 ∷ 10 ∷ 9 ∷ []
+unfolding numbers checks
+order-of-checks R st c rest = refl
+
 -- What holds of 0 and of every check's number holds of the first that applies.
 abbrev pub Each : (ℕ → Type 0) → List Check → Type 0
 Each Q [] = Unit
@@ -73,13 +79,13 @@ found-each Q [] n some e q = absurd (some (sym e))
 found-each Q (m when true ∷ rs) n some e q = rw e at (q .0)
 found-each Q (m when false ∷ rs) n some e q = found-each Q rs n some e (q .1)
 
--- The numbers of the table are 1 to 10, and above these 19 and 20 alone.
+-- The numbers of the table are 1 to 10, and above these 19, 20 and 21 alone.
 abbrev pub Numbered : ℕ → Type 0
-Numbered n = 10 < n → (19 ≤ n) × (n ≤ 20)
+Numbered n = 10 < n → (19 ≤ n) × (n ≤ 21)
 
 refusal-numbered : (R : Rules) (st : State) (c : ℕ) (rest : List ℕ) → Numbered (refusal R st c rest)
 unfolding refusal checks
-refusal-numbered R st c rest = first-each Numbered (checks R st c rest) (omega arith) (omega arith)
+refusal-numbered R st c rest = first-each Numbered (checks R st c rest) (omega arith) (omega arith, omega arith)
 
 pub open-end : (p : ℕ) (os : List Open) (st : State) → 0 < length os → at-end p os st ≡ refused 3 p
 open-end p [] st some = absurd (omega arith)

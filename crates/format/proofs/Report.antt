@@ -9,16 +9,16 @@ use Prim.Native.Nat.{ℕ, zero, suc, _<_}
 use native.Mathlib.Nat.{mul-le-mul-right}
 use native.Mathlib.Omega.{arith}
 use lib.ListN.{length}
-use Rattle.format.specs.Limits.{limits, Prices, Tariff, priced, allowed}
+use Rattle.format.specs.Limits.{Limits, Prices, Tariff, priced, allowed}
 use Rattle.format.specs.Forest.{Forest, end, step, group, repeat, join, copies, unroll, siblings, cost, bytes, holds, Plain, Allowed, at-most, Sound}
 use Rattle.format.specs.Machine.{Rules, Outcome, refused, accepted, read}
 use Rattle.format.specs.Order.{Bytes}
 use Rattle.format.specs.Tree.{tree-of}
-use Rattle.format.specs.Readings.{rules-at, fold-rules, as-fold-reading, outcome-in, fold-outcome, fold-reading}
+use Rattle.format.specs.Readings.{fold-rules-in, as-fold-reading, entry-rules, outcome-by, reading-by}
 use Rattle.format.specs.Head.{Head, head-checks, full-head}
 use Rattle.format.specs.Shape.{Reads, tally-of}
 use Rattle.format.specs.Report.{RRT, empty, letter, repetition, count, Valid, append, series, Represents, Width, WidthAtMost, size}
-use Rattle.format.specs.Meaning.{Letter, step-of, group-of, report, report-of, TrueWidths, NoneMarked, NoneRepeated, Means, report-size, MeansAtCost}
+use Rattle.format.specs.Meaning.{Letter, step-of, group-of, report, report-of, TrueWidths, NoneMarked, NoneRepeated, MeansIn, report-size, MeansAtCostIn}
 use Rattle.format.specs.declared.Tally.{Tally}
 use Rattle.format.specs.declared.FoldReading.{FoldReading}
 use Rattle.format.proofs.Forests.{siblings-unroll, plain-unroll, sound-unroll}
@@ -190,7 +190,8 @@ module _ (A : Allowed) where
   )
 
 -- Bytes that are the byte form of a tree of the right shape mean the run that it unrolls to.
-pub reads-mean : (A : Allowed) (P : Prices) (s : List ℕ) (t : Tally) (x : List ℕ) → Reads (fold-rules A P) s t x → Means A s x
+pub reads-mean : {L : Limits} (A : Allowed) (P : Prices) (s : List ℕ) (t : Tally) (x : List ℕ) → Reads (fold-rules-in L A P) s t x
+    → MeansIn L A s x
 reads-mean A P s t x r =
     let f = r .tree in
     let z = r .shape in
@@ -207,20 +208,21 @@ reads-mean A P s t x r =
     }
 
 -- What a fold means is one run.
-pub means-one : (A : Allowed) (s x y : List ℕ) → Bytes x → Bytes y → Means A s x → Means A s y → x ≡ y
-means-one A s x y small small' a b =
-    let p = run-tree x small (a .run) in
-    let q = run-tree y small' (b .run) in
+pub means-one : {L : Limits} (A : Allowed) (s x y : List ℕ) → Bytes x → Bytes y → MeansIn L A s x → MeansIn L A s y → x ≡ y
+means-one {L} A s x y small small' a b =
+    let p = run-tree L x small (a .run) in
+    let q = run-tree L y small' (b .run) in
     let e : report-of x ≡ report-of y =
     represents (report-of s) (report-of x) .0 (a .represented) ∙ sym (represents (report-of s) (report-of y) .0 (b .represented)) in
     sym (p .0) ∙ ap bytes (report-injective (at-most 0) (tree-of x) (tree-of y) (p .1) (q .1) e) ∙ q .0
 
 -- DEMAND 2, first sentence: bytes that the fold reader accepts mean what the report says.
-module _ (A : Allowed) (P : Prices) (s : List ℕ) (small : Bytes s) (t : Tally) (x : List ℕ) (e : read (fold-rules A P) s ≡ accepted t x) where
-  spelled : Reads (fold-rules A P) s t x
-  spelled = parses (fold-rules A P) s small t x e
+module _ (L : Limits) (A : Allowed) (P : Prices) (s : List ℕ) (small : Bytes s) (t : Tally) (x : List ℕ)
+    (e : read (fold-rules-in L A P) s ≡ accepted t x) where
+  spelled : Reads (fold-rules-in L A P) s t x
+  spelled = parses (fold-rules-in L A P) s small t x e
 
-  pub accepted-means : Means A s x
+  pub accepted-means : MeansIn L A s x
   accepted-means = reads-mean A P s t x spelled
 
   pub accepted-cost : t .cost ≡ cost P (tree-of s)
@@ -232,45 +234,46 @@ module _ (A : Allowed) (P : Prices) (s : List ℕ) (small : Bytes s) (t : Tally)
   accepted-length = rw (← spelled .text) (ap (λ (u : Tally). u .size) (spelled .counts))
 
 -- A fold of a family at an entry point: what is accepted is read, and what is refused has a number.
-module _ (short : Bool) (h : Head) (T : Tariff) (s : List ℕ) where
+module _ (L : Limits) (short : Bool) (h : Head) (T : Tariff) (s : List ℕ) where
   abbrev R : Rules
-  R = rules-at short h T
+  R = entry-rules L short h T
 
-  pub in-read : (t : Tally) (x : List ℕ) → outcome-in short h T s ≡ accepted t x → read R s ≡ accepted t x
-  unfolding outcome-in
-  in-read t x e = headed-accepted limits h (read R s) t x e
+  pub in-read : (t : Tally) (x : List ℕ) → outcome-by L short h T s ≡ accepted t x → read R s ≡ accepted t x
+  unfolding outcome-by
+  in-read t x e = headed-accepted L h (read R s) t x e
 
-  pub in-some : (n p : ℕ) → outcome-in short h T s ≡ refused n p → n ≢ 0
-  unfolding outcome-in head-checks
-  in-some n p e = headed-each limits h (read R s) (λ m. m ≢ 0) (omega arith) (refused-some R s) n p e
+  pub in-some : (n p : ℕ) → outcome-by L short h T s ≡ refused n p → n ≢ 0
+  unfolding outcome-by head-checks
+  in-some n p e = headed-each L h (read R s) (λ m. m ≢ 0) (omega arith) (refused-some R s) n p e
 
-module _ (h : Head) (T : Tariff) (s : List ℕ) where
-  pub outcome-read : (t : Tally) (x : List ℕ) → fold-outcome h T s ≡ accepted t x
-      → read (fold-rules (allowed (h .limit) (T .marks)) (priced T)) s ≡ accepted t x
-  outcome-read = in-read false h T s
+module _ (L : Limits) (h : Head) (T : Tariff) (s : List ℕ) where
+  pub outcome-read : (t : Tally) (x : List ℕ) → outcome-by L false h T s ≡ accepted t x
+      → read (fold-rules-in L (allowed (h .limit) (T .marks)) (priced T)) s ≡ accepted t x
+  outcome-read = in-read L false h T s
 
-  pub outcome-some : (n p : ℕ) → fold-outcome h T s ≡ refused n p → n ≢ 0
-  outcome-some = in-some false h T s
+  pub outcome-some : (n p : ℕ) → outcome-by L false h T s ≡ refused n p → n ≢ 0
+  outcome-some = in-some L false h T s
 
 -- What the fold reader's success says.
-module _ (s : List ℕ) (k : ℕ) (T : Tariff) (small : Bytes s) (r : FoldReading) (answered : r ≡ fold-reading s k T) (success : r .refusal ≡ 0) where
+module _ (L : Limits) (s : List ℕ) (k : ℕ) (T : Tariff) (small : Bytes s) (r : FoldReading) (answered : r ≡ reading-by L false s k T)
+    (success : r .refusal ≡ 0) where
   abbrev A : Allowed
   A = allowed k (T .marks)
 
-  pub reading-means : MeansAtCost k T s (r .length) (r .cost)
-  unfolding fold-reading
-  reading-means = by-outcome (fold-outcome (full-head T k) T s) refl
+  pub reading-means : MeansAtCostIn L k T s (r .length) (r .cost)
+  unfolding reading-by
+  reading-means = by-outcome (outcome-by L false (full-head T k) T s) refl
     where
-      by-outcome : (o : Outcome) → fold-outcome (full-head T k) T s ≡ o → MeansAtCost k T s (r .length) (r .cost)
+      by-outcome : (o : Outcome) → outcome-by L false (full-head T k) T s ≡ o → MeansAtCostIn L k T s (r .length) (r .cost)
       by-outcome (refused n p) e =
           let q = answered ∙ ap as-fold-reading e in
-          absurd (outcome-some (full-head T k) T s n p e (sym (ap (λ (y : FoldReading). y .refusal) q) ∙ success))
+          absurd (outcome-some L (full-head T k) T s n p e (sym (ap (λ (y : FoldReading). y .refusal) q) ∙ success))
       by-outcome (accepted t x) e =
           let q = answered ∙ ap as-fold-reading e in
-          let a = outcome-read (full-head T k) T s t x e in
+          let a = outcome-read L (full-head T k) T s t x e in
           record {
             text = x;
-            means = accepted-means A (priced T) s small t x a;
-            long = accepted-length A (priced T) s small t x a ∙ sym (ap (λ (y : FoldReading). y .length) q);
-            weighed = ap (λ (y : FoldReading). y .cost) q ∙ accepted-cost A (priced T) s small t x a ∙ cost-report (priced T) (tree-of s);
+            means = accepted-means L A (priced T) s small t x a;
+            long = accepted-length L A (priced T) s small t x a ∙ sym (ap (λ (y : FoldReading). y .length) q);
+            weighed = ap (λ (y : FoldReading). y .cost) q ∙ accepted-cost L A (priced T) s small t x a ∙ cost-report (priced T) (tree-of s);
           }

@@ -6,11 +6,11 @@ use Prim.Native.Nat.{ℕ, _≤_}
 use native.Mathlib.Nat.{mul-le-mul-left, le-of-mul-le-mul-left}
 use native.Mathlib.Omega.{arith}
 use lib.ListN.{length}
-use Rattle.format.specs.Limits.{Prices, Tariff, priced, allowed}
+use Rattle.format.specs.Limits.{limits, Prices, Tariff, priced, allowed}
 use Rattle.format.specs.Order.{Bytes}
 use Rattle.format.specs.Forest.{Forest, end, step, group, repeat, Allowed, at-most, Sound, unroll, nodes, steps, group-depth}
 use Rattle.format.specs.Machine.{Rules, Outcome, refused, accepted, read}
-use Rattle.format.specs.Readings.{no-costs, free, run-rules, fold-rules, run-numbers, run-reading, fold-numbers, as-fold-reading, fold-outcome, measured, fold-reading}
+use Rattle.format.specs.Readings.{no-costs, free, run-rules, fold-rules, run-numbers, run-reading-in, run-reading, fold-numbers, as-fold-reading, fold-outcome, measured, reading-by, fold-reading}
 use Rattle.format.specs.Head.{limit-head, full-head}
 use Rattle.format.specs.StepsAndDepth.{StepsAndDepth, Alike}
 use Rattle.format.specs.Shape.{Reads, tally-of}
@@ -78,7 +78,7 @@ module _ (s : List ℕ) (small : Bytes s) (A : Allowed) (P : Prices) (t : Tally)
   one-tree = bytes-injective (a .tree) (b .tree) (a .form ∙ sym (b .form))
 
   run-of-fold : run-reading x ≡ run-numbers 0 0 t
-  unfolding run-reading tally-of
+  unfolding run-reading-in tally-of
   run-of-fold =
       let f = b .tree in
       rw (← b .text, accepts run-rules (unroll f) (unrolled-shape B Q f (b .shape)), ← a .counts, one-tree, nodes-unroll f, steps-unroll f, group-depth-unroll B f (b .shape .sound))
@@ -107,12 +107,12 @@ module _ (s : List ℕ) (small : Bytes s) (k : ℕ) (T : Tariff) (success : fold
   A = allowed k (T .marks)
 
   pub unrolled-alike : (j : ℕ) (u : Tally) (x : List ℕ) → measured s j ≡ accepted u x → Alike (fold-reading s k T) x
-  unfolding fold-reading
+  unfolding reading-by
   unrolled-alike j u x e = by-outcome (fold-outcome (full-head T k) T s) refl
     where
       by-outcome : (o : Outcome) → fold-outcome (full-head T k) T s ≡ o → Alike (fold-reading s k T) x
       by-outcome (refused n p) f =
-          absurd (outcome-some (full-head T k) T s n p f (sym (ap (λ (o : Outcome). as-fold-reading o .refusal) f) ∙ success))
+          absurd (outcome-some limits (full-head T k) T s n p f (sym (ap (λ (o : Outcome). as-fold-reading o .refusal) f) ∙ success))
       by-outcome (accepted t y) f =
           rw f
-          (alike-of-fold s small A (priced T) t y (outcome-read (full-head T k) T s t y f) (at-most j) free u x (outcome-read (limit-head j) no-costs s u x e))
+          (alike-of-fold s small A (priced T) t y (outcome-read limits (full-head T k) T s t y f) (at-most j) free u x (outcome-read limits (limit-head j) no-costs s u x e))

@@ -26,7 +26,7 @@ in-order (n ∷ ns) rs = numbered n rs ++ in-order ns rs
 -- The checks at a command in their former order, and the refusal by it.
 unfoldable pub former-checks : Rules → State → (command : ℕ) → (rest : List ℕ) → List Check
 unfolding in-order checks
-former-checks R st c rest = in-order (1 ∷ 2 ∷ 3 ∷ 4 ∷ 5 ∷ 6 ∷ 7 ∷ 20 ∷ 8 ∷ 9 ∷ 19 ∷ 10 ∷ []) (checks R st c rest)
+former-checks R st c rest = in-order (1 ∷ 2 ∷ 21 ∷ 3 ∷ 4 ∷ 5 ∷ 6 ∷ 7 ∷ 20 ∷ 8 ∷ 9 ∷ 19 ∷ 10 ∷ []) (checks R st c rest)
 
 unfoldable pub former-refusal : Rules → State → (command : ℕ) → (rest : List ℕ) → ℕ
 unfolding former-checks

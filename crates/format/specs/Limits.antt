@@ -10,6 +10,11 @@ pub use Rattle.format.specs.declared.Limits.{Limits}
 abbrev pub limits : Limits
 limits = record { nodes = 1024; groups = 8; repeats = 10; width = 1024; labels = 256 }
 
+-- The limits of season runs, flat runs that a station records over a season: those of the type `Season`, which `Season::limits`
+-- gives. No group may be open.
+abbrev pub season : Limits
+season = record { nodes = 65535; groups = 0; repeats = 10; width = 32; labels = 256 }
+
 -- The weights of the report's length: of a step's label, of a group's label, and of a repeat, first + each × (h − 2) for h copies.
 pub record Prices : Type 0 where
   pub of-step : ℕ → ℕ

@@ -223,11 +223,13 @@ pub data Check : Type 0 where
   _when_ : ℕ → Bool → Check
 
 infix 68 _when_
--- Refusals 1 to 10, 19 and 20 at one command, in the order of docs/REFUSALS.md. `rest` is what follows the command's byte.
+-- Refusals 1 to 10 and 19 to 21 at one command, in the order of docs/REFUSALS.md: 1, 2, 21, 3, 4, 5, 6, 7, 20, 8, 19, 10, 9. `rest` is
+-- what follows the command's byte. 21 is for limits that have no groups, those of season runs.
 unfoldable pub checks : Rules → State → (command : ℕ) → (rest : List ℕ) → List Check
 checks R st c rest =
     1 when not (is-known (R .short) c)
     ∷ 2 when ((opens-repeat c || eqb c 0x21) && not (R .folds))
+    ∷ 21 when (eqb c 0x11 && eqb (R .limits .groups) 0)
     ∷ 3 when ltb (length rest) (operands c)
     ∷ 4 when ((eqb c 0x12 && not (in-group (st .opens))) || (eqb c 0x21 && not (in-repeat (st .opens))))
     ∷ 5 when (is-close c && eqb (st .tally .siblings) 0)

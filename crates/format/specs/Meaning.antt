@@ -4,9 +4,9 @@ use mathlib.Core.Bool.{Bool, false}
 use mathlib.Core.List.{List}
 use Prim.Native.Nat.{ℕ}
 use lib.ListN.{length}
-use Rattle.format.specs.Limits.{Prices, of-repeat, Tariff, priced, Allowed, allowed}
+use Rattle.format.specs.Limits.{Limits, limits, Prices, of-repeat, Tariff, priced, Allowed, allowed}
 use Rattle.format.specs.Forest.{Forest, end, step, group, repeat, bytes}
-use Rattle.format.specs.Readings.{run-reading}
+use Rattle.format.specs.Readings.{run-reading-in}
 use Rattle.format.specs.Tree.{tree-of}
 use Rattle.format.specs.Report.{RRT, empty, letter, repetition, Valid, Represents, Width, WidthAtMost, size}
 
@@ -50,17 +50,20 @@ NoneRepeated m empty = Unit
 NoneRepeated m (letter a c r) = NoneRepeated m c × NoneRepeated m r
 NoneRepeated m (repetition h c r) = NoneMarked m c × NoneRepeated m r
 
--- The bytes s, read with these repeats allowed, mean the run x: s is the byte form of its tree; that tree is one of the report's,
--- within the width limit, with true width operands and no marked letter repeated; x is a run, and the tree of s represents the
--- tree of x.
-pub record Means (A : Allowed) (s x : List ℕ) : Type 0 where
+-- The bytes s, read within limits and with these repeats allowed, mean the run x: s is the byte form of its tree; that tree is one of
+-- the report's, within the width limit, with true width operands and no marked letter repeated; x is a run within those limits, and
+-- the tree of s represents the tree of x. Where no limits are named, here and below, the format's are meant.
+pub record MeansIn (L : Limits) (A : Allowed) (s x : List ℕ) : Type 0 where
   pub form : bytes (tree-of s) ≡ s
   pub valid : Valid (report-of s)
   pub within : WidthAtMost (A .widest) (report-of s)
   pub widths : TrueWidths (tree-of s)
   pub marks : NoneRepeated (A .marked) (report-of s)
-  pub run : run-reading x .refusal ≡ 0
+  pub run : run-reading-in L x .refusal ≡ 0
   pub represented : Represents (report-of s) (report-of x)
+
+abbrev pub Means : Allowed → (s x : List ℕ) → Type 0
+Means A s x = MeansIn limits A s x
 
 -- The weight of a letter: a step's price or a group's, by its label.
 abbrev pub weight : Prices → Letter → ℕ
@@ -73,8 +76,11 @@ unfolding size
 report-size P r = size (weight P) (of-repeat P) r
 
 -- The bytes s, read at width limit k and these costs, mean a run of n bytes, and the cost is the report's length.
-pub record MeansAtCost (k : ℕ) (T : Tariff) (s : List ℕ) (n cost : ℕ) : Type 0 where
+pub record MeansAtCostIn (L : Limits) (k : ℕ) (T : Tariff) (s : List ℕ) (n cost : ℕ) : Type 0 where
   pub text : List ℕ
-  pub means : Means (allowed k (T .marks)) s text
+  pub means : MeansIn L (allowed k (T .marks)) s text
   pub long : length text ≡ n
   pub weighed : cost ≡ report-size (priced T) (report-of s)
+
+abbrev pub MeansAtCost : (k : ℕ) → Tariff → (s : List ℕ) → (n cost : ℕ) → Type 0
+MeansAtCost k T s n c = MeansAtCostIn limits k T s n c

@@ -6,7 +6,7 @@ use lib.Dec.{eqb}
 use lib.ListN.{length, take, drop}
 use Rattle.format.specs.Forest.{Forest, end, step, group, bytes}
 use Rattle.format.specs.Machine.{is-node, operands}
-use Rattle.format.specs.Readings.{run-reading}
+use Rattle.format.specs.Readings.{run-reading-in, run-reading}
 
 -- A node starts at offset p: the command there is a step or opens a group. `skip` operand bytes come first.
 unfoldable pub starts : (p skip : ℕ) → List ℕ → Bool
@@ -42,7 +42,7 @@ node-part s p = take (node-size (drop p s)) (drop p s)
 -- The part of a run at an offset: the node that starts there, with all it holds; nothing where the run is refused or no node
 -- starts there.
 unfoldable pub part-of : List ℕ → (offset : ℕ) → List ℕ
-unfolding starts node-part run-reading
+unfolding starts node-part run-reading-in
 part-of s p =
     cond (eqb (run-reading s .refusal) 0) (cond (starts p 0 s) (node-part s p) []) []
 

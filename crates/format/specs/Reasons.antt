@@ -14,6 +14,11 @@ abbrev pub None : List Check → Type 0
 None [] = Unit
 None (n when b ∷ rs) = (b ≡ false) × None rs
 
+-- The numbers of checks, in their order.
+unfoldable pub numbers : List Check → List ℕ
+numbers [] = []
+numbers (n when b ∷ rs) = n ∷ numbers rs
+
 -- Whether a check of this number holds.
 unfoldable pub holds-check : ℕ → List Check → Bool
 holds-check n [] = false

@@ -4,7 +4,7 @@
 ghost use mathlib.Core.Path.{_≡_};
 ghost use mathlib.Core.Bool.{_&&_};
 ghost use Prim.Native.Nat.{ℕ, _<_};
-ghost use Rattle.format.specs.Limits.{limits, tariff, marked-in, in-one-byte};
+ghost use Rattle.format.specs.Limits.{limits, season, tariff, marked-in, in-one-byte};
 ghost use Rattle.format.specs.Machine.{none, first-of, is-node, operands, opens-in};
 ghost use Rattle.format.specs.Head.{head-checks, marks-in-order, full-head};
 
@@ -71,6 +71,36 @@ impl Format {
             repeats: Format::REPEATS,
             width: Format::WIDTH,
             labels: Format::LABELS,
+        }
+    }
+}
+
+// The format of season runs: flat runs that a station records over a season, and their folds. The commands, the cost tables and the
+// marks are the format's; the limits are these.
+pub struct Season {}
+
+impl Season {
+    // The most steps that a season run, or the run of its fold, may have.
+    pub const NODES: usize = 65535;
+    // No group may be open.
+    pub const GROUPS: usize = 0;
+    // The most repeats open at a time.
+    pub const REPEATS: usize = 10;
+    // The largest width limit.
+    pub const WIDTH: usize = 32;
+    // The entries of a cost table and of the marks: those of the format.
+    pub const LABELS: usize = Format::LABELS;
+
+    // The limits together: those that the definitions have.
+    pub fn limits() -> Limits
+        ensures { λ r. ⌜ r ≡ season ⌝ }
+    {
+        Limits {
+            nodes: Season::NODES,
+            groups: Season::GROUPS,
+            repeats: Season::REPEATS,
+            width: Season::WIDTH,
+            labels: Season::LABELS,
         }
     }
 }

@@ -112,7 +112,7 @@ module _ (s : List ℕ) (small : Bytes s) (offsets before : List ℕ) (n : ℕ) 
           rw f
           (record {
             run = x;
-            means = accepted-means (at-most (limits .width)) free s small t x (alone-well-formed false s small t x .0 q);
+            means = accepted-means limits (at-most (limits .width)) free s small t x (alone-well-formed false s small t x .0 q);
             node = rw (← written-run s small t x q) (nth-map (λ (w : Written). w .node) (written-by s) n ∙ rw v);
             stands = written-stands s small t x q n w v;
           })

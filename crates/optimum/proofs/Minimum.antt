@@ -4,27 +4,28 @@ use mathlib.Core.Path.{_≡_, sym, ap, subst, _∙_}
 use mathlib.Core.List.{List}
 use Prim.Native.Nat.{ℕ, _≤_}
 use native.Mathlib.Omega.{arith}
-use Rattle.format.specs.Limits.{limits, Prices, Tariff, priced, Allowed, allowed}
+use Rattle.format.specs.Limits.{Prices, Tariff, priced, Allowed, allowed}
 use Rattle.format.specs.Order.{Bytes}
 use Rattle.format.specs.Forest.{Forest, cost, bytes, Sound}
 use Rattle.format.specs.Machine.{accepted, read}
-use Rattle.format.specs.Readings.{run-rules, fold-rules, format-rules}
+use Rattle.format.specs.Readings.{run-rules-in, fold-rules-in, rules-by}
 use Rattle.format.specs.Shape.{Reads}
 use Rattle.format.specs.Tree.{tree-of}
-use Rattle.format.specs.Meaning.{Letter, NoneRepeated, Means, report, report-size}
+use Rattle.format.specs.Meaning.{Letter, NoneRepeated, MeansIn, report, report-size}
 use Rattle.format.specs.Report.{RRT, Valid, WidthAtMost, Represents}
+use Rattle.format.specs.declared.Limits.{Limits}
 use Rattle.format.specs.declared.Tally.{Tally}
 use Rattle.format.proofs.Forests.{coded-bytes}
 use Rattle.format.proofs.Tree.{tree-of-bytes}
 use Rattle.format.proofs.Letters.{Lettered, fold-of, report-fold-of}
 use Rattle.format.proofs.Report.{reads-mean, cost-report, sound-fold-of, represents-lettered, represents-run}
 use Rattle.optimum.specs.Optimal.{FoldOf}
-use Rattle.optimum.specs.Demands.{CheapestWithin, MinimumTree}
-use Rattle.optimum.proofs.Demands.{shaped-run, form, tree-fold, tree-cost, fold-shaped, is-fold, run-form, run-shape}
+use Rattle.optimum.specs.Demands.{CheapestWithin, MinimumTreeIn}
+use Rattle.optimum.proofs.Demands.{BarsNone, shaped-run, form, tree-fold, tree-cost, fold-shaped, is-fold, run-form, run-shape}
 
-module _ (s : List ℕ) (small : Bytes s) (t : Tally) (x : List ℕ) (run : read run-rules s ≡ accepted t x)
-    (k : ℕ) (narrow : k ≤ limits .width) (T : Tariff) (f : List ℕ) (c : ℕ) (written : Bytes f)
-    (best : CheapestWithin s k (format-rules T) f c) where
+module _ (L : Limits) (s : List ℕ) (small : Bytes s) (t : Tally) (x : List ℕ) (run : read (run-rules-in L) s ≡ accepted t x)
+    (none : BarsNone L) (k : ℕ) (narrow : k ≤ L .width) (T : Tariff) (f : List ℕ) (c : ℕ) (written : Bytes f)
+    (best : CheapestWithin s k (rules-by L T) f c) where
   abbrev A : Allowed
   A = allowed k (T .marks)
 
@@ -35,19 +36,19 @@ module _ (s : List ℕ) (small : Bytes s) (t : Tally) (x : List ℕ) (run : read
   u = tree-of s
 
   spelled : bytes u ≡ s
-  spelled = run-form s small t x run
+  spelled = run-form L s small t x run
 
-  cheapest : CheapestWithin (bytes u) k (format-rules T) f c
-  cheapest = subst (λ (r : List ℕ). CheapestWithin r k (format-rules T) f c) (sym spelled) best
+  cheapest : CheapestWithin (bytes u) k (rules-by L T) f c
+  cheapest = subst (λ (r : List ℕ). CheapestWithin r k (rules-by L T) f c) (sym spelled) best
 
-  meaning : Means A f s
+  meaning : MeansIn L A f s
   meaning =
-      let r = form k T u f c written (cheapest .fold) in
-      let again : Reads (fold-rules A P) f (cheapest .fold .formed .tally) (bytes u) =
+      let r = form L k T u f c written (cheapest .fold) in
+      let again : Reads (fold-rules-in L A P) f (cheapest .fold .formed .tally) (bytes u) =
       record {
         tree = r .tree;
         form = r .form;
-        shape = fold-shaped A P u (r .tree) (run-shape s small t x run) (tree-fold k T u f c written (cheapest .fold));
+        shape = fold-shaped none A narrow P u (r .tree) (run-shape L s small t x run) (tree-fold L k T u f c written (cheapest .fold));
         counts = r .counts;
         text = r .text;
       } in
@@ -56,13 +57,13 @@ module _ (s : List ℕ) (small : Bytes s) (t : Tally) (x : List ℕ) (run : read
   -- The size of the fold's tree is its cost.
   sized : report-size P (report (tree-of f)) ≡ c
   sized =
-      let r = form k T u f c written (cheapest .fold) in
+      let r = form L k T u f c written (cheapest .fold) in
       let e : tree-of f ≡ r .tree = ap tree-of (sym (r .form)) ∙ tree-of-bytes (r .tree) in
-      rw e (sym (cost-report P (r .tree)) ∙ tree-cost k T u f c written (cheapest .fold))
+      rw e (sym (cost-report P (r .tree)) ∙ tree-cost L k T u f c written (cheapest .fold))
 
   module _ (r : RRT Letter) (valid : Valid r) (within : WidthAtMost k r) (marks : NoneRepeated (A .marked) r) (represented : Represents r (report u)) where
     sound-run : Sound A u
-    sound-run = shaped-run A u (run-shape s small t x run) .sound
+    sound-run = shaped-run A u (run-shape L s small t x run) .sound
 
     lettered : Lettered r
     lettered = represents-lettered A r u valid sound-run represented
@@ -78,10 +79,10 @@ module _ (s : List ℕ) (small : Bytes s) (t : Tally) (x : List ℕ) (run : read
     no-smaller : report-size P (report (tree-of f)) ≤ report-size P r
     no-smaller =
         let g = fold-of r in
-        let shape = run-shape s small t x run in
-        let coded = coded-bytes g (fold-shaped A P u g shape rival .coded) in
-        let l : c ≤ cost P g = cheapest .no-cheaper (bytes g) (cost P g) coded (is-fold k narrow T u shape g rival) in
+        let shape = run-shape L s small t x run in
+        let coded = coded-bytes g (fold-shaped none A narrow P u g shape rival .coded) in
+        let l : c ≤ cost P g = cheapest .no-cheaper (bytes g) (cost P g) coded (is-fold L none k narrow T u shape g rival) in
         omega (arith, sized, cost-report P g ∙ ap (report-size P) (report-fold-of r lettered))
 
-  pub cheapest-minimum : MinimumTree s k T f
+  pub cheapest-minimum : MinimumTreeIn L s k T f
   cheapest-minimum = record { means = meaning; smallest = no-smaller }

@@ -3,14 +3,15 @@ use mathlib.Core.Path.{_≡_}
 use mathlib.Core.List.{List}
 use Prim.Native.Nat.{ℕ, _<_, _≤_}
 use lib.ListN.{length}
-use Rattle.format.specs.Limits.{Tariff, priced, allowed}
+use Rattle.format.specs.Limits.{limits, Tariff, priced, allowed}
+use Rattle.format.specs.declared.Limits.{Limits}
 use Rattle.format.specs.Order.{Bytes}
 use Rattle.format.specs.Forest.{widest-of}
 use Rattle.format.specs.Machine.{Rules}
 use Rattle.format.specs.Readings.{WellFormed}
 use Rattle.format.specs.Family.{short-form}
 use Rattle.format.specs.Tree.{tree-of}
-use Rattle.format.specs.Meaning.{Letter, NoneRepeated, Means, report-of, report-size}
+use Rattle.format.specs.Meaning.{Letter, NoneRepeated, MeansIn, report-of, report-size}
 use Rattle.format.specs.Report.{RRT, Valid, WidthAtMost, Represents}
 use Rattle.optimum.specs.Fewest.{ComesFirst}
 
@@ -45,8 +46,12 @@ pub record ShortOver (room : ℕ) (run : List ℕ) (limit : ℕ) (R : Rules) : T
   pub longer : room < length (short-form fold)
 
 -- The report's own problem (minimum width-k repetition representation tree) under the marks: the tree of f is of width k, repeats no
--- marked letter and represents the tree of the run, and no such tree is smaller, the prices as weights.
-pub record MinimumTree (run : List ℕ) (k : ℕ) (T : Tariff) (f : List ℕ) : Type 0 where
-  pub means : Means (allowed k (T .marks)) f run
+-- marked letter and represents the tree of the run, and no such tree is smaller, the prices as weights. Where no limits are named, the
+-- format's are meant.
+pub record MinimumTreeIn (L : Limits) (run : List ℕ) (k : ℕ) (T : Tariff) (f : List ℕ) : Type 0 where
+  pub means : MeansIn L (allowed k (T .marks)) f run
   pub smallest : (r : RRT Letter) → Valid r → WidthAtMost k r → NoneRepeated (allowed k (T .marks) .marked) r
       → Represents r (report-of run) → report-size (priced T) (report-of f) ≤ report-size (priced T) r
+
+abbrev pub MinimumTree : (run : List ℕ) → (k : ℕ) → Tariff → (f : List ℕ) → Type 0
+MinimumTree run k T f = MinimumTreeIn limits run k T f

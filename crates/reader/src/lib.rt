@@ -1,11 +1,14 @@
-// The readers: run reader, part of a node, fold reader with cost, the same of the short family, and without limit and costs. One
-// walk serves them all (crate walk). Each answers for every input whatsoever, and none writes anywhere.
+// The readers: run reader, part of a node, fold reader with cost, the same of the short family, and without limit and costs; and those
+// of season runs, which differ in their limits alone. One walk serves them all (crate walk). Each answers for every input whatsoever,
+// and none writes anywhere.
 mod node;
 
 use format::FoldReading;
 use format::Format;
 use format::Head;
+use format::Limits;
 use format::RunReading;
+use format::Season;
 use format::Tally;
 use format::full_head;
 use format::head_refusal;
@@ -17,10 +20,11 @@ use walk::Walk;
 use walk::whole;
 ghost use mathlib.Core.Path.{_≡_};
 ghost use mathlib.Core.Bool.{true};
-ghost use Rattle.format.specs.Limits.{tariff};
-ghost use Rattle.format.specs.Readings.{run-numbers, fold-numbers, as-run-reading, run-outcome, run-reading, outcome-in, measured, alone-in, fold-reading, short-reading, as-fold-reading};
+ghost use Prim.Native.Nat.{_<_};
+ghost use Rattle.format.specs.Limits.{season, tariff};
+ghost use Rattle.format.specs.Readings.{run-numbers, fold-numbers, as-run-reading, run-outcome-in, run-outcome, run-reading-in, run-reading, season-run-reading, outcome-by, measured-by, measured, season-measured, alone-in, fold-reading, short-reading, season-reading, as-fold-reading};
 ghost use Rattle.format.specs.Family.{long-form};
-ghost use Rattle.format.specs.Meaning.{MeansAtCost};
+ghost use Rattle.format.specs.Meaning.{MeansAtCostIn, MeansAtCost};
 ghost use Rattle.format.specs.Parts.{node-part, part-of};
 ghost use Rattle.walk.specs.Walk.{outcome};
 
@@ -52,13 +56,15 @@ fn as_fold(refusal: u8, place: usize, fold: Tally) -> FoldReading
     }
 }
 
-// The run reader: refusals 1 to 5, 8 and 10, or how many nodes there are, how many of them are steps, and the depth.
-pub fn read_run(run: &[u8]) -> RunReading
-    ensures { λ r. ⌜ r ≡ run-reading (now (run .entry)) ⌝ }
+// A run within limits of 16 bits: refusals 1 to 5, 21, 8 and 10, or how many nodes there are, how many of them are steps, and the
+// depth.
+fn read_run_in(run: &[u8], bounds: Limits) -> RunReading
+    requires { ⌜ (bounds .nodes < 65536) × (bounds .groups < 65536) × (bounds .repeats < 65536) ⌝ }
+    ensures { λ r. ⌜ r ≡ run-reading-in bounds (now (run .entry)) ⌝ }
 {
     let free: [u16; 0] = [0; 0];
     let a = Terms {
-        limits: Format::limits(),
+        limits: bounds,
         folds: false,
         short: false,
         widest: 0,
@@ -74,16 +80,45 @@ pub fn read_run(run: &[u8]) -> RunReading
     as_run(0, 0, w.tally)
 }
 
-// The admission of a run at an entry point with this head: the checks of the head, then the run's own refusals; or what the
-// run reader gives.
-pub fn admit(run: &[u8], head: Head) -> RunReading
-    ensures { λ r. ⌜ r ≡ as-run-reading (run-outcome head (now (run .entry))) ⌝ }
+// The run reader: refusals 1 to 5, 8 and 10, or the nodes, the steps and the depth.
+pub fn read_run(run: &[u8]) -> RunReading
+    ensures { λ r. ⌜ r ≡ run-reading (now (run .entry)) ⌝ }
 {
-    let refusal = head_refusal(Format::limits(), head);
+    read_run_in(run, Format::limits())
+}
+
+// The season run reader: refusals 1 to 4, 21 and 10, or the nodes, all of them steps, at depth 0.
+pub fn read_season_run(run: &[u8]) -> RunReading
+    ensures { λ r. ⌜ r ≡ season-run-reading (now (run .entry)) ⌝ }
+{
+    read_run_in(run, Season::limits())
+}
+
+// A run within limits at an entry point with this head: the checks of the head, then the run's own refusals; or what the run reader
+// gives.
+fn admit_in(run: &[u8], head: Head, bounds: Limits) -> RunReading
+    requires { ⌜ (bounds .nodes < 65536) × (bounds .groups < 65536) × (bounds .repeats < 65536) ⌝ }
+    ensures { λ r. ⌜ r ≡ as-run-reading (run-outcome-in bounds head (now (run .entry))) ⌝ }
+{
+    let refusal = head_refusal(bounds, head);
     if refusal != 0 {
         return as_run(refusal, 0, Tally::none());
     }
-    read_run(run)
+    read_run_in(run, bounds)
+}
+
+// The admission of a run.
+pub fn admit(run: &[u8], head: Head) -> RunReading
+    ensures { λ r. ⌜ r ≡ as-run-reading (run-outcome head (now (run .entry))) ⌝ }
+{
+    admit_in(run, head, Format::limits())
+}
+
+// The admission of a season run.
+pub fn admit_season(run: &[u8], head: Head) -> RunReading
+    ensures { λ r. ⌜ r ≡ as-run-reading (run-outcome-in season head (now (run .entry))) ⌝ }
+{
+    admit_in(run, head, Season::limits())
 }
 
 // The node that stands at an offset, with all it holds; what is left where it does not end.
@@ -131,10 +166,11 @@ fn answer(w: Walk) -> FoldReading
     as_fold(0, 0, w.tally)
 }
 
-// A fold of a family at an entry point with this head: the checks of the head, then refusals 1, 3 to 10 and 19, in the short family
-// 20 as well; or the nodes, bytes, steps and depth of the run and the fold's cost.
+// A fold of a family, within limits, at an entry point with this head: the checks of the head, then refusals 1, 21, 3 to 10 and 19, in
+// the short family 20 as well; or the nodes, bytes, steps and depth of the run and the fold's cost.
 fn read_headed(
     fold: &[u8],
+    bounds: Limits,
     short: bool,
     head: Head,
     steps: &[u16],
@@ -143,9 +179,9 @@ fn read_headed(
     first: u16,
     each: u16,
 ) -> FoldReading
-    ensures { λ r. ⌜ r ≡ as-fold-reading (outcome-in short head (tariff (now (steps .entry)) (now (groups .entry)) (now (marks .entry)) first each) (now (fold .entry))) ⌝ }
+    requires { ⌜ (bounds .nodes < 65536) × (bounds .groups < 65536) × (bounds .repeats < 65536) ⌝ }
+    ensures { λ r. ⌜ r ≡ as-fold-reading (outcome-by bounds short head (tariff (now (steps .entry)) (now (groups .entry)) (now (marks .entry)) first each) (now (fold .entry))) ⌝ }
 {
-    let bounds = Format::limits();
     let number = head_refusal(bounds, head);
     if number != 0 {
         return as_fold(number, 0, Tally::none());
@@ -161,9 +197,11 @@ fn read_headed(
     answer(whole(fold, steps, groups, marks, a))
 }
 
-// A fold at a width limit, without costs: refusals 12, 1 and 3 to 10, or the nodes, bytes, steps and depth of the run at cost 0.
-pub fn measure(fold: &[u8], limit: usize) -> FoldReading
-    ensures { λ r. ⌜ r ≡ as-fold-reading (measured (now (fold .entry)) limit) ⌝ }
+// A fold within limits at a width limit, without costs: refusals 12, 1, 21 and 3 to 10, or the nodes, bytes, steps and depth of the run
+// at cost 0.
+fn measure_in(fold: &[u8], bounds: Limits, limit: usize) -> FoldReading
+    requires { ⌜ (bounds .nodes < 65536) × (bounds .groups < 65536) × (bounds .repeats < 65536) ⌝ }
+    ensures { λ r. ⌜ r ≡ as-fold-reading (measured-by bounds (now (fold .entry)) limit) ⌝ }
 {
     let free: [u16; 0] = [0; 0];
     let unmarked: [u8; 0] = [0; 0];
@@ -173,7 +211,20 @@ pub fn measure(fold: &[u8], limit: usize) -> FoldReading
         limit,
         marks: true,
     };
-    read_headed(fold, false, head, &free, &free, &unmarked, 0, 0)
+    read_headed(fold, bounds, false, head, &free, &free, &unmarked, 0, 0)
+}
+
+// A fold at a width limit, and a season fold.
+pub fn measure(fold: &[u8], limit: usize) -> FoldReading
+    ensures { λ r. ⌜ r ≡ as-fold-reading (measured (now (fold .entry)) limit) ⌝ }
+{
+    measure_in(fold, Format::limits(), limit)
+}
+
+pub fn measure_season(fold: &[u8], limit: usize) -> FoldReading
+    ensures { λ r. ⌜ r ≡ as-fold-reading (season-measured (now (fold .entry)) limit) ⌝ }
+{
+    measure_in(fold, Season::limits(), limit)
 }
 
 // A fold of a family by itself, without limit and costs: refusals 1, 3 to 6 and 8 to 10, in the short family 20 as well, or the
@@ -210,7 +261,17 @@ pub fn read_fold(
     ensures meant { λ r. ⌜ (r .refusal ≡ 0 → MeansAtCost limit (tariff (now (steps .entry)) (now (groups .entry)) (now (marks .entry)) first each) (now (fold .entry)) (r .length) (r .cost)) ⌝ }
 {
     let head = full_head(limit, steps, groups, marks);
-    read_headed(fold, false, head, steps, groups, marks, first, each)
+    read_headed(
+        fold,
+        Format::limits(),
+        false,
+        head,
+        steps,
+        groups,
+        marks,
+        first,
+        each,
+    )
 }
 
 // The short reader: the fold reader of the short family, which refuses with 20 as well. What it accepts means, in the report's
@@ -228,5 +289,42 @@ pub fn read_short(
     ensures meant { λ r. ⌜ (r .refusal ≡ 0 → MeansAtCost limit (tariff (now (steps .entry)) (now (groups .entry)) (now (marks .entry)) first each) (long-form (now (fold .entry))) (r .length) (r .cost)) ⌝ }
 {
     let head = full_head(limit, steps, groups, marks);
-    read_headed(fold, true, head, steps, groups, marks, first, each)
+    read_headed(
+        fold,
+        Format::limits(),
+        true,
+        head,
+        steps,
+        groups,
+        marks,
+        first,
+        each,
+    )
+}
+
+// The season fold reader: the fold reader within the limits of season runs, which refuses with 21 as well.
+pub fn read_season(
+    fold: &[u8],
+    limit: usize,
+    steps: &[u16],
+    groups: &[u16],
+    marks: &[u8],
+    first: u16,
+    each: u16,
+) -> FoldReading
+    ensures answered { λ r. ⌜ r ≡ season-reading (now (fold .entry)) limit (tariff (now (steps .entry)) (now (groups .entry)) (now (marks .entry)) first each) ⌝ }
+    ensures meant { λ r. ⌜ (r .refusal ≡ 0 → MeansAtCostIn season limit (tariff (now (steps .entry)) (now (groups .entry)) (now (marks .entry)) first each) (now (fold .entry)) (r .length) (r .cost)) ⌝ }
+{
+    let head = full_head(limit, steps, groups, marks);
+    read_headed(
+        fold,
+        Season::limits(),
+        false,
+        head,
+        steps,
+        groups,
+        marks,
+        first,
+        each,
+    )
 }

@@ -9,7 +9,7 @@ use native.Mathlib.Omega.{arith}
 use lib.Dec.{eqb}
 use lib.ListN.{length, getD, drop, length-drop}
 use lib.Seq.{getD-drop, drop-drop}
-use borrow.Author.Tests.{lt-ltb, le-ltb, ne-eqb, le-leb, lt-leb}
+use borrow.Author.Tests.{lt-ltb, le-ltb, eq-eqb, ne-eqb, le-leb, lt-leb}
 use Rattle.format.specs.Machine.{Rules, Open, a-group, a-repeat, first-of, refusal, place-of, operands, is-node, is-close, is-known, put-step, enter-group, leave-group, enter-repeat, leave-repeat, with-step, group-entered, repeat-entered, after-group, after-repeat, label-operand, times}
 use Rattle.format.specs.Limits.{in-one-byte}
 use Rattle.format.specs.declared.Limits.{Limits}
@@ -67,25 +67,34 @@ module _ (a : Terms) (steps groups marks s : List ℕ) (d : Depth) (p : ℕ) (t 
       }
 
   -- `11`
-  pub group-short : At s p 0x11 → length s < p + 2 → (o : Open) (u : Tally) → OpenRead R s d (in-group-of d) p t o 2 1 65535 (record { refusal = 3; at = length s; tally = u })
-  group-short h e o u =
+  pub group-banned : At s p 0x11 → a .limits .groups ≡ 0 → (o : Open) (u : Tally) → OpenRead R s d (in-group-of d) p t o 2 1 65535 (record { refusal = 21; at = p; tally = u })
+  group-banned h e o u =
       open-refused R s d p t _ (λ z. omega arith) (in-group-of d) o 2 1 65535
-      (λ os m x. stop R s p os t x 3 (h .below) (omega arith) (rw (h .byte, refusal-group R (at os t x) (drop (p + 1) s), lt-ltb _ _ (rest-short s p 1 (h .below) e))))
+      (λ os m x. stop R s p os t x 21 (h .below) (omega arith) (rw (h .byte, refusal-group R (at os t x) (drop (p + 1) s), eq-eqb _ _ e)))
 
-  pub group-deep : At s p 0x11 → p + 2 ≤ length s → a .limits .groups ≤ d .groups → (o : Open) (u : Tally) → OpenRead R s d (in-group-of d) p t o 2 1 65535 (record { refusal = 8; at = p; tally = u })
-  group-deep h e f o u =
+  -- Where groups may be open, 21 does not apply.
+  some-groups : d .groups < a .limits .groups → eqb (a .limits .groups) 0 ≡ false
+  some-groups e = ne-eqb (a .limits .groups) 0 (omega arith)
+
+  pub group-short : At s p 0x11 → (a .limits .groups ≡ 0 → ⊥) → length s < p + 2 → (o : Open) (u : Tally) → OpenRead R s d (in-group-of d) p t o 2 1 65535 (record { refusal = 3; at = length s; tally = u })
+  group-short h some e o u =
       open-refused R s d p t _ (λ z. omega arith) (in-group-of d) o 2 1 65535
-      (λ os m x. stop R s p os t x 8 (h .below) (omega arith) (rw (h .byte, refusal-group R (at os t x) (drop (p + 1) s), le-ltb _ _ (rest-long s p 1 e), m .groups, le-leb (a .limits .groups) (d .groups) f)))
+      (λ os m x. stop R s p os t x 3 (h .below) (omega arith) (rw (h .byte, refusal-group R (at os t x) (drop (p + 1) s), ne-eqb _ _ some, lt-ltb _ _ (rest-short s p 1 (h .below) e))))
+
+  pub group-deep : At s p 0x11 → (a .limits .groups ≡ 0 → ⊥) → p + 2 ≤ length s → a .limits .groups ≤ d .groups → (o : Open) (u : Tally) → OpenRead R s d (in-group-of d) p t o 2 1 65535 (record { refusal = 8; at = p; tally = u })
+  group-deep h some e f o u =
+      open-refused R s d p t _ (λ z. omega arith) (in-group-of d) o 2 1 65535
+      (λ os m x. stop R s p os t x 8 (h .below) (omega arith) (rw (h .byte, refusal-group R (at os t x) (drop (p + 1) s), ne-eqb _ _ some, le-ltb _ _ (rest-long s p 1 e), m .groups, le-leb (a .limits .groups) (d .groups) f)))
 
   pub group-barred : At s p 0x11 → p + 2 ≤ length s → d .groups < a .limits .groups → barred marks (getD s (p + 1) 0) d ≡ true → (o : Open) (u : Tally) → OpenRead R s d (in-group-of d) p t o 2 1 65535 (record { refusal = 19; at = p; tally = u })
   group-barred h e f b o u =
       open-refused R s d p t _ (λ z. omega arith) (in-group-of d) o 2 1 65535
-      (λ os m x. stop R s p os t x 19 (h .below) (omega arith) (rw (h .byte, refusal-group R (at os t x) (drop (p + 1) s), le-ltb _ _ (rest-long s p 1 e), m .groups, lt-leb (a .limits .groups) (d .groups) f, label-at s p, m .repeats, b)))
+      (λ os m x. stop R s p os t x 19 (h .below) (omega arith) (rw (h .byte, refusal-group R (at os t x) (drop (p + 1) s), some-groups f, le-ltb _ _ (rest-long s p 1 e), m .groups, lt-leb (a .limits .groups) (d .groups) f, label-at s p, m .repeats, b)))
 
   pub group-full : At s p 0x11 → p + 2 ≤ length s → d .groups < a .limits .groups → barred marks (getD s (p + 1) 0) d ≡ false → a .limits .nodes ≤ t .nodes → (o : Open) (u : Tally) → OpenRead R s d (in-group-of d) p t o 2 1 65535 (record { refusal = 10; at = p; tally = u })
   group-full h e f b g o u =
       open-refused R s d p t _ (λ z. omega arith) (in-group-of d) o 2 1 65535
-      (λ os m x. stop R s p os t x 10 (h .below) (omega arith) (rw (h .byte, refusal-group R (at os t x) (drop (p + 1) s), le-ltb _ _ (rest-long s p 1 e), m .groups, lt-leb (a .limits .groups) (d .groups) f, label-at s p, m .repeats, b, lt-ltb (a .limits .nodes) (t .nodes + 1) (omega arith))))
+      (λ os m x. stop R s p os t x 10 (h .below) (omega arith) (rw (h .byte, refusal-group R (at os t x) (drop (p + 1) s), some-groups f, le-ltb _ _ (rest-long s p 1 e), m .groups, lt-leb (a .limits .groups) (d .groups) f, label-at s p, m .repeats, b, lt-ltb (a .limits .nodes) (t .nodes + 1) (omega arith))))
 
   pub group-on : Room (a .limits) d t → At s p 0x11 → p + 2 ≤ length s → d .groups < a .limits .groups → barred marks (getD s (p + 1) 0) d ≡ false → t .nodes < a .limits .nodes → (k : ℕ) → k ≡ getD groups (getD s (p + 1) 0) 0 → k < 65536 → OpenRead R s d (in-group-of d) p t (a-group t) 2 1 65535 (record { refusal = 0; at = p + 2; tally = group-entered (d .groups) t k })
   unfolding enter-group
@@ -93,7 +102,7 @@ module _ (a : Terms) (steps groups marks s : List ℕ) (d : Depth) (p : ℕ) (t 
       record {
         moves = record {
           goes = λ z os o x.
-              (x ++ 0x11 ∷ getD s (p + 1) 0 ∷ [], rw (cut-two s p e, h .byte, q, ← o .groups) (scan-group R p (at os t x) (drop (p + 2) s) (getD s (p + 1) 0) (refusal-group R (at os t x) (getD s (p + 1) 0 ∷ drop (p + 2) s) ∙ rw (le-ltb (suc (length (drop (p + 2) s))) 1 (omega arith), o .groups, lt-leb (a .limits .groups) (d .groups) f, o .repeats, b, le-ltb (a .limits .nodes) (t .nodes + 1) (omega arith)))));
+              (x ++ 0x11 ∷ getD s (p + 1) 0 ∷ [], rw (cut-two s p e, h .byte, q, ← o .groups) (scan-group R p (at os t x) (drop (p + 2) s) (getD s (p + 1) 0) (refusal-group R (at os t x) (getD s (p + 1) 0 ∷ drop (p + 2) s) ∙ rw (some-groups f, le-ltb (suc (length (drop (p + 2) s))) 1 (omega arith), o .groups, lt-leb (a .limits .groups) (d .groups) f, o .repeats, b, le-ltb (a .limits .nodes) (t .nodes + 1) (omega arith)))));
           stops = λ z. absurd (z refl);
         };
         ahead = λ z. omega arith;

@@ -105,7 +105,7 @@ pub fn step(s: &[u8], steps: &[u16], marks: &[u8], a: Terms, at: usize, d: Depth
     }
 }
 
-// The open of a group: refusals 3, 8, 19 and 10.
+// The open of a group: refusals 21, 3, 8, 19 and 10.
 pub fn enter_group(
     s: &[u8],
     groups: &[u16],
@@ -120,11 +120,16 @@ pub fn enter_group(
     requires { ⌜ Sane a ⌝ }
     ensures { λ r. ⌜ ((steps : List ℕ) → OpenRead (rules-of a steps (now (groups .entry)) (now (marks .entry))) (now (s .entry)) d (in-group-of d) at t (a-group t) 2 1 65535 r) ⌝ }
 {
-    if s.len() - at < 2 {
+    let bounds = a.limits;
+    let most = bounds.groups;
+    let left = s.len() - at;
+    if most == 0 {
+        return refused(21, at, t);
+    }
+    if left < 2 {
         return refused(3, s.len(), t);
     }
-    let bounds = a.limits;
-    if bounds.groups <= d.groups {
+    if most <= d.groups {
         return refused(8, at, t);
     }
     if is_barred(marks, s[at + 1], d) {

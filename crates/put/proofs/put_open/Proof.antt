@@ -1,11 +1,12 @@
 -- `put_open` meets its contract: in either branch the bytes are stored one behind the other.
 use mathlib.Core.Path.{_≡_, refl, sym, _∙_}
 use mathlib.Core.Bool.{true, false, _&&_}
-use Prim.Native.Nat.{suc, _+_, _<_}
+use Prim.Native.Nat.{suc, _+_, _<_, _≤_}
 use native.Mathlib.Omega.{arith}
 use borrow.Author.Needs.{needs}
 use Rattle.format.specs.Limits.{in-one-byte}
 use Rattle.format.proofs.Forests.{one-byte-each}
+use Rattle.put.specs.Bounds.{most-bytes}
 use Rattle.put.proofs.put_open.Statement.{statement}
 use Rattle.put.proofs.put_open.Tie as tie
 
@@ -24,7 +25,7 @@ held : (c : tie.Then1) → (let a = start (c .before) .args in (a .h < 256) × (
 held c = let a = start (c .before) .args in one-byte-each (a .short) (a .h) (a .w) (one c)
 
 -- There is a place for each of its bytes.
-placed : (c : tie.Then1) → start (c .before) .args .to + 3 < 65536
+placed : (c : tie.Then1) → start (c .before) .args .to + 3 ≤ most-bytes
 placed c = let e = one c in omega (arith, rw e at (start (c .before) .pre .0))
 
 cast-count : tie.Need-cast-count
@@ -69,7 +70,7 @@ returns c =
 two : (c : tie.Else1) → (let a = start (c .before) .args in (a .short && in-one-byte (a .h) (a .w)) ≡ false)
 two c = sym (c .before .opens-short .ensures) ∙ c .if1 .left
 
-placed-two : (c : tie.Else1) → start (c .before) .args .to + 5 < 65536
+placed-two : (c : tie.Else1) → start (c .before) .args .to + 5 ≤ most-bytes
 placed-two c = let e = two c in omega (arith, rw e at (start (c .before) .pre .0))
 
 put-byte-requires-4 : tie.Need-put-byte-requires-4

@@ -1,5 +1,6 @@
 -- `read_short` meets its contract.
 use borrow.Author.Needs.{needs}
+use native.Mathlib.Omega.{arith}
 use Rattle.format.specs.Limits.{tariff}
 use Rattle.reader.proofs.Answers.{with-long-meaning}
 use Rattle.reader.proofs.read_short.Statement.{statement}
@@ -8,15 +9,19 @@ use Rattle.reader.proofs.read_short.Tie as tie
 full-head-requires : tie.Need-full-head-requires
 full-head-requires c κs = search needs
 
+limits-requires : tie.Need-limits-requires
+limits-requires c κs = search needs
+
 read-headed-requires : tie.Need-read-headed-requires
-read-headed-requires c κs = search needs
+read-headed-requires c κs = rw (c .limits .ensures) (omega arith)
 
 returns : tie.Need-returns
 returns c =
-    let known = c .before .before .before .before .before in
+    let headed = c .before .before in
+    let known = headed .before .before .before .before in
     let a = known .before .args in
     with-long-meaning (a .fold .now) (a .limit) (tariff (a .steps .now) (a .groups .now) (a .marks .now) (a .first) (a .each)) (λ i. known .shared-slice-known .given i .fits)
-    (c .read-headed .result) (rw (c .before .full-head .ensures (a .first) (a .each)) at (c .read-headed .ensures))
+    (c .read-headed .result) (rw (c .before .limits .ensures, headed .full-head .ensures (a .first) (a .each)) at (c .read-headed .ensures))
 
 pub read-short-spec : {M : Type 1} → statement M
-read-short-spec = tie.close (tie.spec full-head-requires read-headed-requires returns)
+read-short-spec = tie.close (tie.spec full-head-requires limits-requires read-headed-requires returns)

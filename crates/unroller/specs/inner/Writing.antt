@@ -3,9 +3,15 @@
 use mathlib.Core.Path.{_≡_}
 use mathlib.Core.List.{List}
 use Prim.Native.Nat.{ℕ, _+_, _≤_}
-use lib.ListN.{length}
+use lib.ListN.{length, take}
 use lib.Seq.{sets}
-use Rattle.format.specs.Forest.{Forest, bytes, unroll}
+use Rattle.format.specs.Forest.{Forest, bytes, unroll, at-most}
+use Rattle.format.specs.Readings.{as-fold-reading, measured-by}
+use Rattle.format.specs.Output.{written-answer, written-output}
+use Rattle.format.specs.Meaning.{MeansIn}
+use Rattle.format.specs.declared.Limits.{Limits}
+use Rattle.format.specs.declared.FoldReading.{FoldReading}
+use Rattle.format.specs.declared.Written.{Written}
 use Rattle.format.specs.inner.Standing.{SequenceAt, ItemAt}
 use Rattle.unroller.specs.declared.write.Place.{Place}
 
@@ -24,3 +30,13 @@ pub record PassedOver (before after : List ℕ) (w : Place) (f : Forest) (r : Pl
   pub passed : r .at ≡ w .at + length (bytes f)
   pub reached : r .to ≡ w .to + length (bytes (unroll f))
   pub output : after ≡ sets before (w .to) (bytes (unroll f))
+
+-- What the reader answered about a fold at limits and a width limit, without costs.
+pub record ReadingOf (L : Limits) (s : List ℕ) (k : ℕ) (m : FoldReading) : Type 0 where
+  pub read : m ≡ as-fold-reading (measured-by L s k)
+
+-- What the unroller answers and writes, by its contract.
+pub record Unrolled (L : Limits) (s : List ℕ) (k : ℕ) (before after : List ℕ) (r : Written) : Type 0 where
+  pub answered : r ≡ written-answer (measured-by L s k) (length before)
+  pub written : after ≡ written-output (measured-by L s k) before
+  pub meant : r .refusal ≡ 0 → MeansIn L (at-most k) s (take (r .length) after)
