@@ -5,9 +5,10 @@ use Prim.Native.Nat.{ℕ, zero, suc, _+_, _-_, _≤_}
 use native.Mathlib.Decide.{decLe}
 use native.Mathlib.Omega.{arith}
 use lib.ListN.{length, length-append, length-set, length-drop, set, take, drop, drop-of-length-le}
-use lib.Seq.{sets, set-out, take-all}
+use lib.Seq.{sets, set-out, take-all, length-sets}
 use borrow.Rule.Slice.PartMut.{putMid}
 use Rattle.format.proofs.Lists.{sets-append}
+use Rattle.put.specs.Written.{Written}
 
 -- Nothing is stored past the end, and what is stored from a place on is stored in the part that begins there.
 sets-out : (vs l : List ℕ) (i : ℕ) → length l ≤ i → sets l i vs ≡ l
@@ -78,3 +79,13 @@ pub along-whole : {whole : List ℕ} {to : ℕ} {before : List ℕ} {at : ℕ} {
 along-whole {whole} z =
     let all : z .done ≡ whole = sym (append-nil (z .done)) ∙ z .splits in
     (rw (← all) (z .place), rw (← all) (z .list))
+
+-- Bytes are written when nothing of them is left.
+pub all-written : {X : Type 0} {of-each : X → List ℕ} {to : ℕ} {before : List ℕ} {p : ℕ} {now : List ℕ}
+    → ((x : X) → Along (of-each x) [] to before p now) → Written of-each to before now p
+all-written f = record { is-end = λ x. along-whole (f x) .0; written = λ x. along-whole (f x) .1 }
+
+-- The output is as long as it was.
+pub written-kept : {X : Type 0} {of-each : X → List ℕ} {to : ℕ} {before after : List ℕ} {r : ℕ} → X → Written of-each to before after r
+    → length after ≡ length before
+written-kept {of-each = of-each} {to} {before} x w = ap length (w .written x) ∙ length-sets before to (of-each x)

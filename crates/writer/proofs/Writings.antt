@@ -8,24 +8,14 @@ use lib.ListN.{length, length-append, getD, set, take, drop}
 use lib.Seq.{sets, length-sets}
 use borrow.Rule.Slice.PartMut.{putMid}
 use Rattle.put.specs.Bounds.{most-bytes}
-use Rattle.put.proofs.Along.{lent-back, Along, along-none, along-end, along-more, along-byte, along-whole}
+use Rattle.put.proofs.Along.{lent-back, Along, along-none, along-end, along-more, along-byte, all-written}
 use Rattle.format.specs.Forest.{opening, opening-size}
 use Rattle.format.proofs.Forests.{opening-append}
 use Rattle.format.proofs.Bridge.{opening-length}
 use Rattle.table.specs.Keys.{pair-digits, count-digit, width-digit, covered}
 use Rattle.table.specs.Table.{cell}
-use Rattle.writer.specs.Writing.{WriteReady, NodeReady, SpanFits, NodeFits, FoldWritten, SpanWritten, NodeWritten, Written, fold-bytes, node-bytes, Follows, follow}
+use Rattle.writer.specs.Writing.{WriteReady, NodeReady, SpanFits, NodeFits, FoldWritten, SpanWritten, NodeWritten, fold-bytes, node-bytes, Follows, follow}
 use Rattle.writer.proofs.Spans.{Plainly, Repeated, fold-small, fold-none, node-cell, node-plain, node-body, node-power, node-start, node-two, node-step, node-group}
-
--- Bytes are written when nothing of them is left.
-all-written : {X : Type 0} {of-each : X → List ℕ} {to : ℕ} {before : List ℕ} {p : ℕ} {now : List ℕ}
-    → ((x : X) → Along (of-each x) [] to before p now) → Written of-each to before now p
-all-written f = record { is-end = λ x. along-whole (f x) .0; written = λ x. along-whole (f x) .1 }
-
--- The output is as long as it was.
-pub written-kept : {X : Type 0} {of-each : X → List ℕ} {to : ℕ} {before after : List ℕ} {r : ℕ} → X → Written of-each to before after r
-    → length after ≡ length before
-written-kept {of-each = of-each} {to} {before} x w = ap length (w .written x) ∙ length-sets before to (of-each x)
 
 -- What is left of a sequence begins at the number q, and its fold is to be written from the place p on.
 pub record Left {short : Bool} {run places nexts choices : List ℕ} {first behind : ℕ} (z : WriteReady short run places nexts choices first behind) (to : ℕ) (before : List ℕ) (q p : ℕ) (now : List ℕ) : Type 0 where

@@ -11,6 +11,7 @@ use Rattle.optimum.specs.Cheapest.{Run, front, cheapest}
 use Rattle.table.specs.Used.{UsedFilled}
 use Rattle.table.specs.Nodes.{NodesListed}
 use Rattle.put.specs.Bounds.{most-bytes}
+use Rattle.put.specs.Written.{Written}
 
 -- All that the length and the bytes of the cheapest fold of a sequence, in a family, rest on: the sequence stands in the run, its
 -- nodes are listed by their numbers, from `first` down to `behind`, and the table has the stretches of it that a fold can use.
@@ -61,12 +62,6 @@ pub record FoldLength (short : Bool) (run places nexts choices : List ℕ) (firs
 pub record FoldWritten (short : Bool) (run places nexts choices : List ℕ) (first behind : ℕ) (before after : List ℕ) (r : ℕ) : Type 0 where
   pub is-length : (z : WriteReady short run places nexts choices first behind) → r ≡ length (fold-bytes z)
   pub written : (z : WriteReady short run places nexts choices first behind) → after ≡ sets before 0 (fold-bytes z)
-
--- The bytes that each of X has are written from the place `to` on, as far as there is room, and nothing else; the answer is the place
--- behind them.
-pub record Written {X : Type 0} (of-each : X → List ℕ) (to : ℕ) (before after : List ℕ) (r : ℕ) : Type 0 where
-  pub is-end : (x : X) → r ≡ to + length (of-each x)
-  pub written : (x : X) → after ≡ sets before to (of-each x)
 
 abbrev pub SpanWritten : (short : Bool) (run places nexts choices : List ℕ) (first behind to : ℕ) (before after : List ℕ) (r : ℕ) → Type 0
 SpanWritten short run places nexts choices first behind = Written (λ (z : WriteReady short run places nexts choices first behind). fold-bytes z)

@@ -9,8 +9,9 @@ use borrow.Rule.Slice.PartMut.{putMid}
 use borrow.Fn.Kinds.{PK, In, Out}
 use borrow.Fn.PlainCycle.{Measures, is, falls, and}
 use Rattle.put.specs.Bounds.{most-bytes}
+use Rattle.put.proofs.Along.{written-kept}
 use Rattle.writer.proofs.Spans.{Grouped, node-group}
-use Rattle.writer.proofs.Writings.{Putting, Turn, written-kept, putting-none, putting-all, left-held, plainly, plain-fits, putting-plain, power-body, Power, power-next, power-wide, power-rest, power-falls, open-fits, body-fits, power-close, putting-power, fold-fits, fold-written, node-bounds, step-written, Unclosed, inside-written, close-fits, closed}
+use Rattle.writer.proofs.Writings.{Putting, Turn, putting-none, putting-all, left-held, plainly, plain-fits, putting-plain, power-body, Power, power-next, power-wide, power-rest, power-falls, open-fits, body-fits, power-close, putting-power, fold-fits, fold-written, node-bounds, step-written, Unclosed, inside-written, close-fits, closed}
 use Rattle.writer.proofs.put_fold.Reads as put-fold
 use Rattle.writer.proofs.put_fold.Kinds as put-fold-kinds
 use Rattle.writer.proofs.+put_fold+put_node+put_span.Lts-put_fold as fold

@@ -1,0 +1,2 @@
+-- Laws of the season's writer.
+pub mod Writings

@@ -1,0 +1,4 @@
+// The season folder.
+mod write;
+
+pub use write::put_steps;
