@@ -19,7 +19,7 @@ use Rattle.format.specs.declared.RunReading.{RunReading}
 use Rattle.format.specs.declared.Folded.{Folded}
 use Rattle.format.proofs.Refusals.{refused-some}
 use Rattle.optimum.proofs.Demands.{cheapest-room}
-use Rattle.optimum.specs.Verdict.{Verdict, refuses, folds, verdict}
+use Rattle.optimum.specs.Verdict.{Verdict, refuses, folds, verdict, folding-by}
 use Rattle.folder.specs.Folding.{folding-in, folding, fold-answer, fold-output}
 use Rattle.fold.specs.Text.{three-lines, refusal-line}
 use Rattle.fold.specs.Printed.{lines-of, printed}
@@ -35,7 +35,7 @@ data Decided (nodes : ℕ) : Verdict → Type 0 where
   folded : (f : List ℕ) (c : ℕ) → length f ≤ 4 * nodes → Decided nodes (folds nodes f c)
 
 decided : (s : List ℕ) → Bytes s → Decided (run-reading s .nodes) (folding s (limits .width) unit)
-unfolding run-reading-in folding-in marks-in-order
+unfolding run-reading-in folding-by marks-in-order
 decided s small = by-outcome (read run-rules s) refl
   where
     by-outcome : (o : Outcome) → read run-rules s ≡ o → Decided (as-run-reading o .nodes) (verdict (allowed (limits .width) free-marks) (priced unit) s o)

@@ -6,7 +6,7 @@ use lib.Dec.{ltb}
 use lib.ListN.{replicate}
 use Rattle.format.specs.Limits.{limits, tariff}
 use Rattle.format.specs.Marks.{free-marks}
-use Rattle.optimum.specs.Verdict.{Verdict, refuses, folds}
+use Rattle.optimum.specs.Verdict.{Verdict, refuses, folds, folding-by}
 use Rattle.folder.specs.Folding.{folding-in, folding}
 use Rattle.fold.specs.Text.{three-lines, refusal-line}
 
@@ -19,5 +19,5 @@ lines-of (folds n f c) =
 
 -- At unit costs, every label 1 for steps and groups and free, first 1 and each 0, and the largest width limit.
 unfoldable pub printed : List ℕ → List ℕ
-unfolding folding-in
+unfolding folding-by
 printed run = lines-of (folding run (limits .width) (tariff (replicate 256 1) (replicate 256 1) free-marks 1 0))

@@ -16,7 +16,8 @@ use Rattle.format.specs.declared.RunReading.{RunReading}
 use Rattle.optimum.specs.Fewest.{preferred}
 use Rattle.optimum.proofs.Demands.{cheapest-room}
 use Rattle.folder.specs.Folding.{folding-in, folding, shortened, fold-answer}
-use Rattle.folder.proofs.Verdicts.{accepted-run, accepts, verdict-folds, short-folding}
+use Rattle.optimum.proofs.Verdicts.{accepted-run, accepts, verdict-folds}
+use Rattle.folder.proofs.Verdicts.{short-folding}
 
 -- What the folder's call makes of the run before it looks at work and output.
 abbrev pub admission : (s : List ℕ) (k : ℕ) (T : Tariff) → RunReading
@@ -29,12 +30,12 @@ pub enough-in : (short : Bool) (s : List ℕ) → Bytes s → (k : ℕ) (T : Tar
     → fold-answer (folding-in short s k T) costs choices room .refusal ≡ 0
 enough-in short s small k T z costs choices room x y o =
     let r = admission s k T in
-    let a = accepted-run s k T r refl z in
+    let a = accepted-run limits s k T r refl z in
     let n = r .nodes in
     let f = form-in short (preferred (allowed k (T .marks)) (priced T) (tree-of s)) in
     let few : length f ≤ room =
-    omega (arith, cheapest-room limits s small (a .tally) (a .text) (accepts s k T r refl a) short (allowed k (T .marks)) (priced T), a .all) in
-    rw (verdict-folds s k T r refl a short, le-ltb costs (cells n) x, le-ltb choices (cells n) y, le-ltb room (length f) few)
+    omega (arith, cheapest-room limits s small (a .tally) (a .text) (accepts limits s k T r refl a) short (allowed k (T .marks)) (priced T), a .all) in
+    rw (verdict-folds limits s k T r refl a short, le-ltb costs (cells n) x, le-ltb choices (cells n) y, le-ltb room (length f) few)
 
 module _ (s : List ℕ) (small : Bytes s) (k : ℕ) (T : Tariff) (z : admission s k T .refusal ≡ 0) (costs choices room : ℕ)
     (x : cells (admission s k T .nodes) ≤ costs) (y : cells (admission s k T .nodes) ≤ choices) (o : 4 * admission s k T .nodes ≤ room) where

@@ -17,7 +17,7 @@ use Rattle.format.specs.FreeMarks.{unmarked-headed}
 use Rattle.format.specs.declared.Tally.{Tally}
 use Rattle.format.proofs.Heads.{headed-accepted}
 use Rattle.format.proofs.FreeMarks.{free-allowed, free-headed}
-use Rattle.optimum.specs.Verdict.{folds, verdict}
+use Rattle.optimum.specs.Verdict.{folds, verdict, folding-by}
 use Rattle.optimum.proofs.Demands.{shaped-run, run-form, run-shape}
 use Rattle.optimum.proofs.AllMarked.{AllMarked, preferred-itself}
 use Rattle.folder.specs.Folding.{folding-in, folding}
@@ -25,7 +25,7 @@ use Rattle.folder.specs.FreeMarks.{unmarked-folding}
 
 module _ (s : List ℕ) (k : ℕ) (steps groups : List ℕ) (first each : ℕ) where
   pub free-folding : folding s k (tariff steps groups free-marks first each) ≡ unmarked-folding s k steps groups first each
-  unfolding folding-in run-outcome-in unmarked-folding
+  unfolding folding-by run-outcome-in unmarked-folding
   free-folding =
       let T : Tariff = tariff steps groups free-marks first each in
       ap (verdict (allowed k free-marks) (priced T) s) (free-headed steps groups first each k (read run-rules s))
@@ -41,7 +41,7 @@ module _ (s : List ℕ) (small : Bytes s) (k : ℕ) (steps groups : List ℕ) (f
 
   pub all-marked-folding : (t : Tally) (x : List ℕ) → run-outcome (full-head T k) s ≡ accepted t x
       → folding s k T ≡ folds (t .nodes) s (cost (priced T) (tree-of s))
-  unfolding folding-in run-outcome-in
+  unfolding folding-by run-outcome-in
   all-marked-folding t x e =
       let A : Allowed = allowed k all-marks in
       let run = headed-accepted limits (full-head T k) (read run-rules s) t x e in

@@ -15,7 +15,7 @@ use Rattle.format.specs.OneTable.{by-label}
 use Rattle.format.proofs.Heads.{headed-accepted, headed-narrow}
 use Rattle.format.proofs.OneTable.{equal-tables-headed}
 use Rattle.optimum.specs.Fewest.{preferred}
-use Rattle.optimum.specs.Verdict.{folds, verdict}
+use Rattle.optimum.specs.Verdict.{folds, verdict, folding-by}
 use Rattle.optimum.specs.OneTable.{CheapestByLabel}
 use Rattle.optimum.proofs.Demands.{format-bars-none, cheapest-small, cheapest-bytes}
 use Rattle.optimum.proofs.OneTable.{equal-tables-cheapest}
@@ -30,12 +30,12 @@ module _ (s : List ℕ) (k : ℕ) (table marks : List ℕ) (first each : ℕ) wh
   A = allowed k marks
 
   pub equal-tables-folding : folding s k T ≡ one-table-folding s k table marks first each
-  unfolding folding-in run-outcome-in one-table-folding
+  unfolding folding-by run-outcome-in one-table-folding
   equal-tables-folding =
       ap (verdict A (by-label table first each) s) (equal-tables-headed table marks first each k (read run-rules s))
 
   pub equal-tables-fold : Bytes s → (n : ℕ) (f : List ℕ) (c : ℕ) → folding s k T ≡ folds n f c → CheapestByLabel s k table marks first each f c
-  unfolding folding-in run-outcome-in
+  unfolding folding-by run-outcome-in
   equal-tables-fold small n f c decided = by-outcome (run-outcome (full-head T k) s) refl
     where
       by-outcome : (o : Outcome) → run-outcome (full-head T k) s ≡ o → CheapestByLabel s k table marks first each f c

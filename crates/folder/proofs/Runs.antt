@@ -27,7 +27,7 @@ use Rattle.filling.specs.Filling.{prices-of, counted-of, LevelReady}
 use Rattle.writer.specs.Writing.{WriteReady, FoldLength, FoldWritten}
 use Rattle.writer.proofs.Spans.{some-siblings, no-nodes}
 use Rattle.folder.specs.inner.Run.{RunFilled, RunListed, RunWritten, RunFolded}
-use Rattle.folder.specs.Folding.{room-answer, room-output}
+use Rattle.optimum.specs.Verdict.{room-answer, room-output}
 use Rattle.table.proofs.Digits.{digits}
 use Rattle.table.proofs.Cells.{cell-in}
 use Rattle.table.proofs.Tables.{number-first, number-last}

@@ -26,10 +26,10 @@ use Rattle.format.proofs.Marks.{sound-plain}
 use Rattle.format.proofs.Family.{converted-form}
 use Rattle.format.proofs.Refusals.{refused-some, refused-numbered}
 use Rattle.optimum.specs.Fewest.{preferred}
-use Rattle.optimum.specs.Verdict.{Verdict, refuses, folds, verdict-in, verdict}
+use Rattle.optimum.specs.Verdict.{Verdict, refuses, folds, verdict-in, verdict, folding-by}
 use Rattle.optimum.specs.Demands.{CheapestWithin, CheapestOver, ShortOver, MinimumTree}
 use Rattle.optimum.proofs.Demands.{format-bars-none, run-form, run-shape, run-nodes, run-few, cheapest-small, cheapest-bytes}
-use Rattle.optimum.proofs.Minimum.{cheapest-minimum}
+use Rattle.optimum.proofs.Verdicts.{Accepted, accepts, node-count-is, few, refused-as, Told, other, wrote, over, told}
 use Rattle.optimum.proofs.Fewest.{counted-repeat}
 use Rattle.table.specs.Listing.{Spelled}
 use Rattle.table.specs.Keys.{factor, top-price}
@@ -81,101 +81,32 @@ pub prices-priced : (steps groups marks prices : List ℕ) (first each wide-firs
 prices-priced steps groups marks prices first each wide-first wide-each a b p =
     prices-same steps groups prices wide-first wide-each p marks ∙ rw (a, b)
 
--- The verdict, as the admission decides it.
-module _ (s : List ℕ) (k : ℕ) (T : Tariff) (r : RunReading) (admitted : r ≡ as-run-reading (run-outcome (full-head T k) s)) where
-  verdict-at : (short : Bool) (o : Outcome) → run-outcome (full-head T k) s ≡ o
-      → folding-in short s k T ≡ verdict-in short (allowed k (T .marks)) (priced T) s o
-  unfolding folding-in
-  verdict-at short o e = rw e
+-- What an accepted run gives the table to rest on.
+module _ (s : List ℕ) (k : ℕ) (T : Tariff) (r : RunReading) (admitted : r ≡ as-run-reading (run-outcome (full-head T k) s))
+    (a : Accepted limits s k T r admitted) (small : Bytes s) where
+  spelled : Spelled s
+  spelled =
+      let run = accepts limits s k T r admitted a in
+      let h = run-shape limits s small (a .tally) (a .text) run in
+      record {
+        form = run-form limits s small (a .tally) (a .text) run;
+        run = λ A. record {
+          plain = h .plain refl;
+          sound = sound-plain (at-most 0) A (tree-of s) (h .plain refl) (h .sound);
+        };
+      }
 
-  answer-at : (o : Outcome) → run-outcome (full-head T k) s ≡ o → r ≡ as-run-reading o
-  answer-at o e = admitted ∙ ap as-run-reading e
-
-  pub verdict-refused : (short : Bool) → (r .refusal ≡ 0 → ⊥) → folding-in short s k T ≡ refuses (r .refusal) (r .place)
-  verdict-refused short z = by-outcome (run-outcome (full-head T k) s) refl
-    where
-      by-outcome : (o : Outcome) → run-outcome (full-head T k) s ≡ o → folding-in short s k T ≡ refuses (r .refusal) (r .place)
-      by-outcome (refused n p) e = verdict-at short (refused n p) e ∙ rw (answer-at (refused n p) e)
-      by-outcome (accepted t x) e = absurd (z (ap (λ (y : RunReading). y .refusal) (answer-at (accepted t x) e)))
-
-  -- A number of the admission is none of the folder's own, and 0 only where the run is accepted.
-  number-low : (n p : ℕ) → run-outcome (full-head T k) s ≡ refused n p → (n ≡ 0 → ⊥) × (n ≡ 14 → ⊥)
-  unfolding run-outcome-in head-checks
-  number-low =
-      headed-each limits (full-head T k) (read run-rules s) (λ n. (n ≡ 0 → ⊥) × (n ≡ 14 → ⊥))
-      ((omega arith, omega arith), ((omega arith, omega arith), ((omega arith, omega arith), ((omega arith, omega arith), tt))))
-      (λ n p e. (refused-some run-rules s n p e, λ z. omega (arith, refused-numbered run-rules s n p e (omega arith))))
-
-  pub run-number : r .refusal ≡ 14 → ⊥
-  run-number z = by-outcome (run-outcome (full-head T k) s) refl
-    where
-      by-outcome : (o : Outcome) → run-outcome (full-head T k) s ≡ o → ⊥
-      by-outcome (refused n p) e = number-low n p e .1 (sym (ap (λ (y : RunReading). y .refusal) (answer-at (refused n p) e)) ∙ z)
-      by-outcome (accepted t x) e = omega (arith, ap (λ (y : RunReading). y .refusal) (answer-at (accepted t x) e))
-
-  -- An accepted run: its reading, and the verdict.
-  pub record Accepted : Type 0 where
-    pub tally : Tally
-    pub text : List ℕ
-    pub admits : run-outcome (full-head T k) s ≡ accepted tally text
-    pub all : tally .nodes ≡ r .nodes
-
-  pub accepted-run : r .refusal ≡ 0 → Accepted
-  accepted-run z = by-outcome (run-outcome (full-head T k) s) refl
-    where
-      by-outcome : (o : Outcome) → run-outcome (full-head T k) s ≡ o → Accepted
-      by-outcome (refused n p) e = absurd (number-low n p e .0 (sym (ap (λ (y : RunReading). y .refusal) (answer-at (refused n p) e)) ∙ z))
-      by-outcome (accepted t x) e = record { tally = t; text = x; admits = e; all = sym (ap (λ (y : RunReading). y .nodes) (answer-at (accepted t x) e)) }
-
-  module _ (a : Accepted) where
-    pub accepts : read run-rules s ≡ accepted (a .tally) (a .text)
-    unfolding run-outcome-in
-    accepts = headed-accepted limits (full-head T k) (read run-rules s) (a .tally) (a .text) (a .admits)
-
-    narrow : k ≤ limits .width
-    unfolding run-outcome-in
-    narrow = headed-narrow limits (full-head T k) (read run-rules s) (a .tally) (a .text) (a .admits)
-
-    pub verdict-folds : (short : Bool)
-        → folding-in short s k T ≡ folds (r .nodes) (form-in short (preferred (allowed k (T .marks)) (priced T) (tree-of s))) (cost (priced T) (preferred (allowed k (T .marks)) (priced T) (tree-of s)))
-    verdict-folds short = verdict-at short (accepted (a .tally) (a .text)) (a .admits) ∙ rw (a .all)
-
-    module _ (small : Bytes s) where
-      pub spelled : Spelled s
-      spelled =
-          let h = run-shape limits s small (a .tally) (a .text) accepts in
-          record {
-            form = run-form limits s small (a .tally) (a .text) accepts;
-            run = λ A. record {
-              plain = h .plain refl;
-              sound = sound-plain (at-most 0) A (tree-of s) (h .plain refl) (h .sound);
-            };
-          }
-
-      pub node-count-is : nodes (tree-of s) ≡ r .nodes
-      node-count-is = sym (run-nodes limits s small (a .tally) (a .text) accepts) ∙ a .all
-
-      pub few : r .nodes ≤ 1024
-      few = omega (arith, a .all, run-few limits s small (a .tally) (a .text) accepts)
-
-      pub level-ready : (prices costs choices : List ℕ) → cells (r .nodes) ≤ length costs → cells (r .nodes) ≤ length choices
-          → Prepared (T .steps) (T .groups) prices → LevelReady s 0 k (T .steps) (T .groups) prices costs choices
-      level-ready prices costs choices x y p =
-          record {
-            spelled = spelled;
-            total = omega (arith, node-count-is, few);
-            cost-room = rw (zero-add (nodes (tree-of s)), node-count-is) x;
-            choice-room = rw (zero-add (nodes (tree-of s)), node-count-is) y;
-            prepared = p;
-          }
-
-      -- Demand 3 and the report's problem, of the preferred fold.
-      pub demands : CheapestWithin s k (format-rules T) (bytes (preferred (allowed k (T .marks)) (priced T) (tree-of s))) (cost (priced T) (preferred (allowed k (T .marks)) (priced T) (tree-of s)))
-          × MinimumTree s k T (bytes (preferred (allowed k (T .marks)) (priced T) (tree-of s)))
-      demands =
-          let best = cheapest-bytes limits s small (a .tally) (a .text) accepts format-bars-none k narrow T in
-          let coded = cheapest-small limits s small (a .tally) (a .text) accepts format-bars-none (allowed k (T .marks)) (priced T) in
-          (best, cheapest-minimum limits s small (a .tally) (a .text) accepts format-bars-none k narrow T _ _ coded best)
+  pub level-ready : (prices costs choices : List ℕ) → cells (r .nodes) ≤ length costs → cells (r .nodes) ≤ length choices
+      → Prepared (T .steps) (T .groups) prices → LevelReady s 0 k (T .steps) (T .groups) prices costs choices
+  level-ready prices costs choices x y p =
+      let all = node-count-is limits s k T r admitted a small in
+      record {
+        spelled = spelled;
+        total = omega (arith, all, few limits s k T r admitted a small);
+        cost-room = rw (zero-add (nodes (tree-of s)), all) x;
+        choice-room = rw (zero-add (nodes (tree-of s)), all) y;
+        prepared = p;
+      }
 
 -- Work that is not too short has its entries.
 pub long-enough : (n costs choices : ℕ) → short-work n costs choices ≡ false → (cells n ≤ costs) × (cells n ≤ choices)
@@ -185,9 +116,6 @@ long-enough n costs choices e = by-tests (ltb costs (cells n)) (ltb choices (cel
     by-tests false false x y z = (ltb-false _ _ x, ltb-false _ _ y)
     by-tests false true x y z = absurd (true≢false (sym (rw (x, y)) ∙ z))
     by-tests true b x y z = absurd (true≢false (sym (rw x) ∙ z))
-
-abbrev refused-as : (n p : ℕ) → Folded
-refused-as n p = record { refusal = n; place = p; length = 0; cost = 0 }
 
 -- What the folder answers, writes and leaves in the work, at a verdict.
 module _ (v : Verdict) (costs choices out : List ℕ) where
@@ -215,55 +143,9 @@ module _ (v : Verdict) (costs choices out : List ℕ) where
     (folded .written ∙ rw (e, long), (folded .costs-cleared ∙ rw (e, long), folded .choices-cleared ∙ rw (e, long))),
   )
 
--- What an answer and an output say of the fold, in either family: nothing by other numbers; on success it is in front; after 14 it
--- has no room.
-module _ (short : Bool) (s : List ℕ) (small : Bytes s) (k : ℕ) (T : Tariff) (costs choices : ℕ) (out out′ : List ℕ) (r : Folded)
-    (answered : r ≡ fold-answer (folding-in short s k T) costs choices (length out))
-    (written : out′ ≡ fold-output (folding-in short s k T) costs choices out) where
-  abbrev best : Forest
-  best = preferred (allowed k (T .marks)) (priced T) (tree-of s)
-
-  abbrev Demanded : ℕ → Type 0
-  Demanded c = CheapestWithin s k (format-rules T) (bytes best) c × MinimumTree s k T (bytes best)
-
-  pub data Told : Type 0 where
-    other : (r .refusal ≡ 0 → ⊥) → (r .refusal ≡ 14 → ⊥) → Told
-    wrote : r .refusal ≡ 0 → Demanded (r .cost) → take (r .length) out′ ≡ form-in short best → Told
-    over : r .refusal ≡ 14 → (c : ℕ) → Demanded c → length out < length (form-in short best) → Told
-
-  abbrev admitted : RunReading
-  admitted = as-run-reading (run-outcome (full-head T k) s)
-
-  number : {u : Folded} → r ≡ u → r .refusal ≡ u .refusal
-  number e = ap (λ (x : Folded). x .refusal) e
-
-  told : Told
-  told = by-number (ℕ-discrete (admitted .refusal) 0)
-    where
-      folded : (a : Accepted s k T admitted refl) → (x y : Bool) → short-work (admitted .nodes) costs choices ≡ x
-          → ltb (length out) (length (form-in short best)) ≡ y → Told
-      folded a true y e f =
-          let q : r ≡ refused-as 13 0 = answered ∙ rw (verdict-folds s k T admitted refl a short, e) in
-          other (λ z. omega (arith, number q)) (λ z. omega (arith, number q))
-      folded a false true e f =
-          let q : r ≡ refused-as 14 0 = answered ∙ rw (verdict-folds s k T admitted refl a short, e, f) in
-          over (number q) _ (demands s k T admitted refl a small) (ltb-true _ _ f)
-      folded a false false e f =
-          let g = form-in short best in
-          let q : r ≡ record { refusal = 0; place = 0; length = length g; cost = cost (priced T) best } =
-          answered ∙ rw (verdict-folds s k T admitted refl a short, e, f) in
-          let w : out′ ≡ g ++ drop (length g) out = written ∙ rw (verdict-folds s k T admitted refl a short, e, f) in
-          wrote (number q) (rw q (demands s k T admitted refl a small)) (rw (q, w) (take-at g (drop (length g) out) (length g) refl))
-
-      by-number : Dec (admitted .refusal ≡ 0) → Told
-      by-number (yes z) = folded (accepted-run s k T admitted refl z) _ _ refl refl
-      by-number (no z) =
-          let q : r ≡ refused-as (admitted .refusal) (admitted .place) = answered ∙ rw (verdict-refused s k T admitted refl short z) in
-          other (λ y. z (sym (number q) ∙ y)) (λ y. run-number s k T admitted refl (sym (number q) ∙ y))
-
 -- THE SHORT FOLDER'S BYTES ARE THE SHORT FORM OF THE FOLDER'S, and all else is the same.
 pub short-folding : (s : List ℕ) (k : ℕ) (T : Tariff) → folding-in true s k T ≡ shortened (folding s k T)
-unfolding folding-in
+unfolding folding-by
 short-folding s k T = by-outcome (run-outcome (full-head T k) s)
   where
     by-outcome : (o : Outcome) → verdict-in true (allowed k (T .marks)) (priced T) s o ≡ shortened (verdict (allowed k (T .marks)) (priced T) s o)
@@ -279,9 +161,9 @@ module _ (s : List ℕ) (small : Bytes s) (k : ℕ) (T : Tariff) (costs choices 
 
   pub fold-held : r ≡ fold-answer (folding s k T) costs choices (length out) → out′ ≡ fold-output (folding s k T) costs choices out
       → Held (λ g. g) × (r .refusal ≡ 14 → CheapestOver (length out) s k (format-rules T))
-  fold-held e f = by-told (told false s small k T costs choices out out′ r e f)
+  fold-held e f = by-told (told limits format-bars-none (λ n. short-work n costs choices) false s small k T out out′ r e f)
     where
-      by-told : Told false s small k T costs choices out out′ r e f
+      by-told : Told limits format-bars-none (λ n. short-work n costs choices) false s small k T out out′ r e f
           → Held (λ g. g) × (r .refusal ≡ 14 → CheapestOver (length out) s k (format-rules T))
       by-told (other x y) = ((λ z. absurd (x z), λ z. absurd (x z)), λ z. absurd (y z))
       by-told (wrote n d g) = ((λ z. rw g (d .0), λ z. rw g (d .1)), λ z. absurd (omega arith))
@@ -290,12 +172,12 @@ module _ (s : List ℕ) (small : Bytes s) (k : ℕ) (T : Tariff) (costs choices 
 
   pub short-held : r ≡ fold-answer (folding-in true s k T) costs choices (length out) → out′ ≡ fold-output (folding-in true s k T) costs choices out
       → Held long-form × (r .refusal ≡ 14 → ShortOver (length out) s k (format-rules T))
-  short-held e f = by-told (told true s small k T costs choices out out′ r e f)
+  short-held e f = by-told (told limits format-bars-none (λ n. short-work n costs choices) true s small k T out out′ r e f)
     where
       fold : Forest
       fold = preferred (allowed k (T .marks)) (priced T) (tree-of s)
 
-      by-told : Told true s small k T costs choices out out′ r e f
+      by-told : Told limits format-bars-none (λ n. short-work n costs choices) true s small k T out out′ r e f
           → Held long-form × (r .refusal ≡ 14 → ShortOver (length out) s k (format-rules T))
       by-told (other x y) = ((λ z. absurd (x z), λ z. absurd (x z)), λ z. absurd (y z))
       by-told (wrote n d g) =

@@ -12,9 +12,8 @@ use Rattle.format.specs.declared.Folded.{Folded}
 use Rattle.optimum.specs.Verdict.{Verdict, refuses, folds, verdict-in}
 
 -- The checks of tables, limit and marks, then the run's own refusals; or the cheapest fold, in a family.
-unfoldable pub folding-in : (short : Bool) → List ℕ → (limit : ℕ) → Tariff → Verdict
-unfolding run-outcome-in
-folding-in short s k T = verdict-in short (allowed k (T .marks)) (priced T) s (run-outcome (full-head T k) s)
+abbrev pub folding-in : (short : Bool) → List ℕ → (limit : ℕ) → Tariff → Verdict
+folding-in short s k T = folding-by limits short s k T
 
 -- Where no family is named, the long one.
 abbrev pub folding : List ℕ → (limit : ℕ) → Tariff → Verdict
@@ -29,28 +28,12 @@ shortened (folds n f c) = folds n (short-form f) c
 abbrev pub short-work : (n costs choices : ℕ) → Bool
 short-work n a b = ltb a (cells n) || ltb b (cells n)
 
--- The answer and the output where the fold f of cost c is to be written: 14 where the output has no room for it, and then all stays
--- as it was; else the fold in front and the rest as it was.
-abbrev pub room-answer : (room : ℕ) → (f : List ℕ) → (c : ℕ) → Folded
-room-answer o f c =
-    cond (ltb o (length f)) (record { refusal = 14; place = 0; length = 0; cost = 0 })
-    (record { refusal = 0; place = 0; length = length f; cost = c })
-
-abbrev pub room-output : (f out : List ℕ) → List ℕ
-room-output f out = cond (ltb (length out) (length f)) out (f ++ drop (length f) out)
-
--- The answer: a refusal of the verdict's own, then 13 for the work slices, then 14.
+-- The answer, the output and a work slice afterwards.
 abbrev pub fold-answer : Verdict → (costs choices room : ℕ) → Folded
-fold-answer (refuses n p) a b o = record { refusal = n; place = p; length = 0; cost = 0 }
-fold-answer (folds n f c) a b o = cond (short-work n a b) (record { refusal = 13; place = 0; length = 0; cost = 0 }) (room-answer o f c)
+fold-answer v a b o = answer-by (λ n. short-work n a b) v o
 
--- The output afterwards: all as it was after a refusal.
 abbrev pub fold-output : Verdict → (costs choices : ℕ) → List ℕ → List ℕ
-fold-output (refuses n p) a b out = out
-fold-output (folds n f c) a b out = cond (short-work n a b) out (room-output f out)
+fold-output v a b out = output-by (λ n. short-work n a b) v out
 
--- A work slice afterwards: its first entries, as many as n nodes need, cleared and the others as they were; all as it was after
--- a refusal other than 14.
 abbrev pub fold-work : Verdict → (costs choices : ℕ) → List ℕ → List ℕ
-fold-work (refuses n p) a b w = w
-fold-work (folds n f c) a b w = cond (short-work n a b) w (replicate (cells n) 0 ++ drop (cells n) w)
+fold-work v a b w = work-by (λ n. short-work n a b) cells v w

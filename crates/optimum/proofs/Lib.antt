@@ -14,6 +14,7 @@ pub mod Level
 pub mod Fewest
 pub mod Demands
 pub mod Minimum
+pub mod Verdicts
 pub mod OneTable
 pub mod AllMarked
 pub mod Known

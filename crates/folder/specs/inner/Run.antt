@@ -8,7 +8,7 @@ use Rattle.format.specs.Limits.{Prices, cells}
 use Rattle.format.specs.Forest.{nodes, cost, form-in, Allowed}
 use Rattle.format.specs.Tree.{tree-of}
 use Rattle.format.specs.declared.Folded.{Folded}
-use Rattle.folder.specs.Folding.{room-answer, room-output}
+use Rattle.optimum.specs.Verdict.{room-answer, room-output}
 use Rattle.optimum.specs.Fewest.{counting, preferred}
 use Rattle.table.specs.Keys.{factor}
 use Rattle.table.specs.Listing.{Spelled}

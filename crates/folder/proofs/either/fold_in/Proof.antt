@@ -1,12 +1,13 @@
 -- `fold_in` meets its contract: admitted or refused, with work enough or not, and folded.
 use mathlib.Core.Path.{_≡_, sym, _∙_}
 use borrow.Author.Needs.{needs}
-use Rattle.format.specs.Limits.{Tariff, tariff}
+use Rattle.format.specs.Limits.{limits, Tariff, tariff}
 use Rattle.format.specs.Order.{Bytes}
 use Rattle.format.specs.Head.{full-head}
 use Rattle.format.specs.Readings.{as-run-reading, run-outcome}
 use Rattle.folder.specs.Folding.{folding-in}
-use Rattle.folder.proofs.Verdicts.{Accepted, prices-priced, prepared, verdict-refused, verdict-folds, accepted-run, few, level-ready, node-count-is, long-enough, met-refused, met-short, met-folded}
+use Rattle.optimum.proofs.Verdicts.{Accepted, verdict-refused, verdict-folds, accepted-run, few, node-count-is}
+use Rattle.folder.proofs.Verdicts.{prices-priced, prepared, level-ready, long-enough, met-refused, met-short, met-folded}
 use Rattle.folder.proofs.either.fold_in.Statement.{statement}
 use Rattle.folder.proofs.either.fold_in.Tie as tie
 
@@ -27,13 +28,13 @@ admits c = rw (c .before .full-head .ensures (start c .args .first) (start c .ar
 abbrev Accepts : tie.After-admit → Type 0
 Accepts c =
     let a = start c .args in
-    Accepted (a .run .now) (a .limit) (lent (start c)) (c .admit .result) (admits c)
+    Accepted limits (a .run .now) (a .limit) (lent (start c)) (c .admit .result) (admits c)
 
 accepts : (c : tie.Else1) → Accepts (c .before .before)
 accepts c =
     let A = c .before .before in
     let a = start A .args in
-    accepted-run (a .run .now) (a .limit) (lent (start A)) (A .admit .result) (admits A) (c .if1 .left)
+    accepted-run limits (a .run .now) (a .limit) (lent (start A)) (A .admit .result) (admits A) (c .if1 .left)
 
 full-head-requires : tie.Need-full-head-requires
 full-head-requires c κs = search needs
@@ -50,14 +51,14 @@ returns c =
     let a = start A .args in
     met-refused (folding-in (a .short) (a .run .now) (a .limit) (lent (start A))) (a .costs .now)
     (a .choices .now) (a .out .now) (A .admit .result .refusal) (A .admit .result .place)
-    (verdict-refused (a .run .now) (a .limit) (lent (start A)) (A .admit .result) (admits A) (a .short) (c .before .if1 .taken))
+    (verdict-refused limits (a .run .now) (a .limit) (lent (start A)) (A .admit .result) (admits A) (a .short) (c .before .if1 .taken))
     (c .refuse .result) (c .refuse .ensures)
 
 short-of-requires : tie.Need-short-of-requires
 short-of-requires c κs =
     let A = c .before .before in
     let a = start A .args in
-    few (a .run .now) (a .limit) (lent (start A)) (A .admit .result) (admits A) (accepts c) (small A)
+    few limits (a .run .now) (a .limit) (lent (start A)) (A .admit .result) (admits A) (accepts c) (small A)
 
 refuse-requires-2 : tie.Need-refuse-requires-2
 refuse-requires-2 c κs = search needs
@@ -69,7 +70,7 @@ returns-2 c =
     let a = start A .args in
     met-short (folding-in (a .short) (a .run .now) (a .limit) (lent (start A))) (a .costs .now)
     (a .choices .now) (a .out .now) _ _ _
-    (verdict-folds (a .run .now) (a .limit) (lent (start A)) (A .admit .result) (admits A) (accepts (W .before)) (a .short))
+    (verdict-folds limits (a .run .now) (a .limit) (lent (start A)) (A .admit .result) (admits A) (accepts (W .before)) (a .short))
     (sym (W .short-of .ensures) ∙ c .before .if2 .taken) (c .refuse2 .result) (c .refuse2 .ensures)
 
 wide-cost-requires : tie.Need-wide-cost-requires
@@ -103,7 +104,7 @@ fold-run-requires c κs =
           (prepared (a .steps .now) (a .groups .now) _ _ _ (P .prepare .ensures) (P .before .before .before .wide-cost .ensures .1) (P .before .before .wide-cost2 .ensures .1)
           (λ l. A .before .before .before .before .before .before .before .shared-slice-known2 .given l .fits)
           (λ l. A .before .before .before .before .before .before .shared-slice-known3 .given l .fits)),
-      node-count-is (a .run .now) (a .limit) (lent (start A)) (A .admit .result) (admits A) d (small A),
+      node-count-is limits (a .run .now) (a .limit) (lent (start A)) (A .admit .result) (admits A) d (small A),
     )
 
 same-length : tie.Need-same-length
@@ -128,7 +129,7 @@ returns-3 c =
     let same = prices-priced (a .steps .now) (a .groups .now) (a .marks .now) (P .prepare .last .1 .1 .0) (a .first) (a .each) _ _ (first .ensures .0) (each .ensures .0) (P .prepare .ensures) in
     met-folded (folding-in (a .short) (a .run .now) (a .limit) (lent (start A))) (a .costs .now)
     (a .choices .now) (a .out .now) (a .short) (a .run .now) _ _ _
-    (verdict-folds (a .run .now) (a .limit) (lent (start A)) (A .admit .result) (admits A) d (a .short))
+    (verdict-folds limits (a .run .now) (a .limit) (lent (start A)) (A .admit .result) (admits A) d (a .short))
     (sym (W .before .short-of .ensures) ∙ W .if2 .left) _ _ _ (F .fold-run .result)
     (rw same at (F .fold-run .ensures))
 
