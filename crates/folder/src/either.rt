@@ -1,10 +1,10 @@
 // The folder in either family: admission, work, prices, and the fold of the run, written in the long form or in the short one.
 use crate::prices::prepare;
 use crate::run::fold_run;
-use crate::run::refuse;
 use crate::run::short_of;
 use format::Folded;
 use format::full_head;
+use format::refuse;
 use format::wide_cost;
 use reader::admit;
 use table::Lists;

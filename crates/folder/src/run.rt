@@ -2,6 +2,7 @@
 use filling::Level;
 use filling::enter_tree;
 use format::Folded;
+use format::refuse;
 use table::Lists;
 use table::Span;
 use table::clear;
@@ -23,18 +24,6 @@ ghost use Rattle.filling.specs.Filling.{prices-of, counted-of, LevelReady, Leve
 ghost use Rattle.writer.specs.Writing.{WriteReady, FoldWritten};
 ghost use Rattle.folder.specs.Folding.{short-work};
 ghost use Rattle.folder.specs.inner.Run.{RunFilled, RunListed, RunWritten, RunFolded};
-
-// A refusal: its values are 0.
-pub fn refuse(refusal: u8, place: usize) -> Folded
-    ensures { λ r. ⌜ r ≡ record { refusal = refusal; place = place; length = 0; cost = 0 } ⌝ }
-{
-    Folded {
-        refusal,
-        place,
-        length: 0,
-        cost: 0,
-    }
-}
 
 // Whether a work slice is too short for n nodes.
 pub fn short_of(n: usize, costs: usize, choices: usize) -> bool

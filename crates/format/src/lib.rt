@@ -294,3 +294,15 @@ pub struct Folded {
     pub length: usize,
     pub cost: u64,
 }
+
+// A folder's refusal: its values are 0.
+pub fn refuse(refusal: u8, place: usize) -> Folded
+    ensures { λ r. ⌜ r ≡ record { refusal = refusal; place = place; length = 0; cost = 0 } ⌝ }
+{
+    Folded {
+        refusal,
+        place,
+        length: 0,
+        cost: 0,
+    }
+}
