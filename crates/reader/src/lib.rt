@@ -261,17 +261,8 @@ pub fn read_fold(
     ensures meant { λ r. ⌜ (r .refusal ≡ 0 → MeansAtCost limit (tariff (now (steps .entry)) (now (groups .entry)) (now (marks .entry)) first each) (now (fold .entry)) (r .length) (r .cost)) ⌝ }
 {
     let head = full_head(limit, steps, groups, marks);
-    read_headed(
-        fold,
-        Format::limits(),
-        false,
-        head,
-        steps,
-        groups,
-        marks,
-        first,
-        each,
-    )
+    let bounds = Format::limits();
+    read_headed(fold, bounds, false, head, steps, groups, marks, first, each)
 }
 
 // The short reader: the fold reader of the short family, which refuses with 20 as well. What it accepts means, in the report's
@@ -289,17 +280,8 @@ pub fn read_short(
     ensures meant { λ r. ⌜ (r .refusal ≡ 0 → MeansAtCost limit (tariff (now (steps .entry)) (now (groups .entry)) (now (marks .entry)) first each) (long-form (now (fold .entry))) (r .length) (r .cost)) ⌝ }
 {
     let head = full_head(limit, steps, groups, marks);
-    read_headed(
-        fold,
-        Format::limits(),
-        true,
-        head,
-        steps,
-        groups,
-        marks,
-        first,
-        each,
-    )
+    let bounds = Format::limits();
+    read_headed(fold, bounds, true, head, steps, groups, marks, first, each)
 }
 
 // The season fold reader: the fold reader within the limits of season runs, which refuses with 21 as well.
@@ -316,15 +298,6 @@ pub fn read_season(
     ensures meant { λ r. ⌜ (r .refusal ≡ 0 → MeansAtCostIn season limit (tariff (now (steps .entry)) (now (groups .entry)) (now (marks .entry)) first each) (now (fold .entry)) (r .length) (r .cost)) ⌝ }
 {
     let head = full_head(limit, steps, groups, marks);
-    read_headed(
-        fold,
-        Season::limits(),
-        false,
-        head,
-        steps,
-        groups,
-        marks,
-        first,
-        each,
-    )
+    let season = Season::limits();
+    read_headed(fold, season, false, head, steps, groups, marks, first, each)
 }
