@@ -1,6 +1,6 @@
-// The readers: run reader, part of a node, fold reader with cost, the same of the short family, and without limit and costs; and those
-// of season runs, which differ in their limits alone. One walk serves them all (crate walk). Each answers for every input whatsoever,
-// and none writes anywhere.
+// The readers: run reader, part of a node, fold reader with cost, the same of the short family, and without limit and costs; and
+// those of season runs, which differ in their limits alone. One walk serves them all (crate walk). Each answers for every input
+// whatsoever, and none writes anywhere.
 mod node;
 
 use format::FoldReading;
@@ -166,8 +166,8 @@ fn answer(w: Walk) -> FoldReading
     as_fold(0, 0, w.tally)
 }
 
-// A fold of a family, within limits, at an entry point with this head: the checks of the head, then refusals 1, 21, 3 to 10 and 19, in
-// the short family 20 as well; or the nodes, bytes, steps and depth of the run and the fold's cost.
+// A fold of a family, within limits, at an entry point with this head: the checks of the head, then refusals 1, 21, 3 to 10 and
+// 19, in the short family 20 as well; or the nodes, bytes, steps and depth of the run and the fold's cost.
 fn read_headed(
     fold: &[u8],
     bounds: Limits,
@@ -197,8 +197,8 @@ fn read_headed(
     answer(whole(fold, steps, groups, marks, a))
 }
 
-// A fold within limits at a width limit, without costs: refusals 12, 1, 21 and 3 to 10, or the nodes, bytes, steps and depth of the run
-// at cost 0.
+// A fold within limits at a width limit, without costs: refusals 12, 1, 21 and 3 to 10, or the nodes, bytes, steps and depth of
+// the run at cost 0.
 fn measure_in(fold: &[u8], bounds: Limits, limit: usize) -> FoldReading
     requires { ⌜ (bounds .nodes < 65536) × (bounds .groups < 65536) × (bounds .repeats < 65536) ⌝ }
     ensures { λ r. ⌜ r ≡ as-fold-reading (measured-by bounds (now (fold .entry)) limit) ⌝ }
