@@ -1,5 +1,5 @@
--- Why ten repeats inside each other are enough, for the format and for season runs: each level at least doubles the nodes of what it
--- holds.
+-- Why ten repeats inside each other are enough, for the format and for season runs: each level at least doubles the nodes of what
+-- it holds.
 use mathlib.Core.Path.{_≡_, refl}
 use Prim.Native.Nat.{ℕ, suc, _*_, _^_, _≤_, _<_, max}
 use native.Mathlib.Nat.{mul-le-mul, mul-le-mul-left, pow-succ', pow-le-pow-right}

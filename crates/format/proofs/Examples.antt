@@ -13,8 +13,8 @@ use Rattle.format.specs.Parts.{part-of}
 use Rattle.format.specs.declared.RunReading.{RunReading}
 use Rattle.format.specs.declared.FoldReading.{FoldReading}
 
--- What a reader is asked: a run, or a season run; or a fold, a short fold or a season fold, at a width limit and what is lent to price
--- it.
+-- What a reader is asked: a run, or a season run; or a fold, a short fold or a season fold, at a width limit and what is lent to
+-- price it.
 pub data Asked : Type 0 where
   run : (input : List ℕ) → Asked
   fold-with : (limit : ℕ) → Tariff → (input : List ℕ) → Asked

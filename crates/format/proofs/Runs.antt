@@ -1,5 +1,5 @@
--- What a well-formed fold unrolls to is a run, which the run reader of the same limits accepts; and what the run reader accepts is the byte form of a
--- sound tree.
+-- What a well-formed fold unrolls to is a run, which the run reader of the same limits accepts; and what the run reader accepts is
+-- the byte form of a sound tree.
 use mathlib.Core.Path.{_≡_, refl, sym, ap, _∙_}
 use mathlib.Core.List.{List}
 use Prim.Native.Nat.{ℕ}

@@ -1,5 +1,5 @@
--- Examples of season runs and season folds, checked by computation: 21 and its place among the checks, the season's own limits met and
--- passed, and what is counted.
+-- Examples of season runs and season folds, checked by computation: 21 and its place among the checks, the season's own limits met
+-- and passed, and what is counted.
 use mathlib.Core.Path.{refl}
 use mathlib.Core.List.{List, [], _∷_, _++_}
 use Prim.Native.Nat.{ℕ}

@@ -1,5 +1,5 @@
--- SHORT SEASON RUNS ARE RUNS: of at most 1,024 nodes, and of no group, what one of the two run readers accepts the other accepts, with
--- the same counts and the same text.
+-- SHORT SEASON RUNS ARE RUNS: of at most 1,024 nodes, and of no group, what one of the two run readers accepts the other accepts,
+-- with the same counts and the same text.
 use mathlib.Core.Path.{_≡_, refl, ap}
 use mathlib.Core.List.{List}
 use Prim.Native.Nat.{ℕ, _≤_}

@@ -49,7 +49,7 @@ pub data Open : Type 0 where
   a-group : (outer : Tally) → Open
   a-repeat : (count width : ℕ) (outer : Tally) → Open
 
--- By what rules bytes are read: the format's limits, whether repeats may stand in them (a fold) or not (a run), whether they are of
+-- By what rules bytes are read: within which limits, whether repeats may stand in them (a fold) or not (a run), whether they are of
 -- the short family, which repeats are allowed, and the prices.
 pub record Rules : Type 0 where
   pub limits : Limits
@@ -223,8 +223,8 @@ pub data Check : Type 0 where
   _when_ : ℕ → Bool → Check
 
 infix 68 _when_
--- Refusals 1 to 10 and 19 to 21 at one command, in the order of docs/REFUSALS.md: 1, 2, 21, 3, 4, 5, 6, 7, 20, 8, 19, 10, 9. `rest` is
--- what follows the command's byte. 21 is for limits that have no groups, those of season runs.
+-- Refusals 1 to 10 and 19 to 21 at one command, in the order of docs/REFUSALS.md: 1, 2, 21, 3, 4, 5, 6, 7, 20, 8, 19, 10, 9.
+-- `rest` is what follows the command's byte. 21 is for limits that have no groups, those of season runs.
 unfoldable pub checks : Rules → State → (command : ℕ) → (rest : List ℕ) → List Check
 checks R st c rest =
     1 when not (is-known (R .short) c)

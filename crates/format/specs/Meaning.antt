@@ -50,9 +50,9 @@ NoneRepeated m empty = Unit
 NoneRepeated m (letter a c r) = NoneRepeated m c × NoneRepeated m r
 NoneRepeated m (repetition h c r) = NoneMarked m c × NoneRepeated m r
 
--- The bytes s, read within limits and with these repeats allowed, mean the run x: s is the byte form of its tree; that tree is one of
--- the report's, within the width limit, with true width operands and no marked letter repeated; x is a run within those limits, and
--- the tree of s represents the tree of x. Where no limits are named, here and below, the format's are meant.
+-- The bytes s, read within limits and with these repeats allowed, mean the run x: s is the byte form of its tree; that tree is one
+-- of the report's, within the width limit, with true width operands and no marked letter repeated; x is a run within those limits,
+-- and the tree of s represents the tree of x. Where no limits are named, here and below, the format's are meant.
 pub record MeansIn (L : Limits) (A : Allowed) (s x : List ℕ) : Type 0 where
   pub form : bytes (tree-of s) ≡ s
   pub valid : Valid (report-of s)

@@ -17,8 +17,8 @@ no-costs = tariff [] [] [] 0 0
 abbrev pub free : Prices
 free = priced no-costs
 
--- The rules of runs within limits: no repeats, so neither what repeats are allowed nor prices matter. Where no limits are named, here
--- and below, the format's are meant.
+-- The rules of runs within limits: no repeats, so neither what repeats are allowed nor prices matter. Where no limits are named,
+-- here and below, the format's are meant.
 abbrev pub run-rules-in : Limits → Rules
 run-rules-in L = record { limits = L; folds = false; short = false; allowed = at-most 0; prices = free }
 
@@ -48,8 +48,8 @@ abbrev pub season-rules : Tariff → Rules
 season-rules T = rules-by season T
 
 -- Bytes are well formed by rules that refuse nothing in them: by the format's, none of refusals 1, 3 to 10, 19 and, in the short
--- family, 20 applies at the largest width limit; by those of season runs, 21 does not apply either. Of the costs the marks decide this; the prices decide nothing but the cost that
--- is counted.
+-- family, 20 applies at the largest width limit; by those of season runs, 21 does not apply either. Of the costs the marks decide
+-- this; the prices decide nothing but the cost that is counted.
 pub record WellFormed (R : Rules) (s : List ℕ) : Type 0 where
   pub tally : Tally
   pub text : List ℕ

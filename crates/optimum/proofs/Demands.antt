@@ -60,8 +60,8 @@ depth-fold A (repeat zero w b f) s = absurd (omega (arith, s .0 .twice))
 depth-fold A (repeat (suc h) w b f) s =
     omega (arith, group-depth-join (copies (suc h) (unroll b)) (unroll f), group-depth-join (unroll b) (copies h (unroll b)), depth-fold A b (s .1), depth-fold A f (s .2))
 
--- Limits within which every sound fold of a run fits that fits the width limit: numbers of 16 bits hold its counts and widths, and no
--- such fold has more repeats inside each other than may be open.
+-- Limits within which every sound fold of a run fits that fits the width limit: numbers of 16 bits hold its counts and widths, and
+-- no such fold has more repeats inside each other than may be open.
 pub record BarsNone (L : Limits) : Type 0 where
   pub few : L .nodes < 65536
   pub repeats : (A : Allowed) (f : Forest) → Sound A f → A .widest ≤ L .width → nodes f ≤ L .nodes → group-depth f ≤ L .groups
@@ -213,8 +213,8 @@ module _ (L : Limits) (s : List ℕ) (small : Bytes s) (t : Tally) (x : List ℕ
         let f = preferred (allowed k (T .marks)) (priced T) (tree-of s) in
         subst (λ (r : List ℕ). CheapestWithin r k (rules-by L T) (bytes f) (cost (priced T) f)) run-form (cheapest-within L none k narrow T (tree-of s) run-shape)
 
--- DEMANDS 2 AND 3 OF SEASON RUNS: ten open repeats and a width limit of at most 32 leave the preferred fold the cheapest of all season
--- folds.
+-- DEMANDS 2 AND 3 OF SEASON RUNS: ten open repeats and a width limit of at most 32 leave the preferred fold the cheapest of all
+-- season folds.
 pub season-cheapest : (s : List ℕ) → Bytes s → (t : Tally) (x : List ℕ) → read (run-rules-in season) s ≡ accepted t x
     → (k : ℕ) → k ≤ season .width → (T : Tariff) → (let f = preferred (allowed k (T .marks)) (priced T) (tree-of s) in
     CheapestWithin s k (season-rules T) (bytes f) (cost (priced T) f))

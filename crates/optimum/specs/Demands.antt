@@ -45,9 +45,9 @@ pub record ShortOver (room : ℕ) (run : List ℕ) (limit : ℕ) (R : Rules) : T
   pub cheapest : CheapestWithin run limit R fold cost
   pub longer : room < length (short-form fold)
 
--- The report's own problem (minimum width-k repetition representation tree) under the marks: the tree of f is of width k, repeats no
--- marked letter and represents the tree of the run, and no such tree is smaller, the prices as weights. Where no limits are named, the
--- format's are meant.
+-- The report's own problem (minimum width-k repetition representation tree) under the marks: the tree of f is of width k, repeats
+-- no marked letter and represents the tree of the run, and no such tree is smaller, the prices as weights. Where no limits are
+-- named, the format's are meant.
 pub record MinimumTreeIn (L : Limits) (run : List ℕ) (k : ℕ) (T : Tariff) (f : List ℕ) : Type 0 where
   pub means : MeansIn L (allowed k (T .marks)) f run
   pub smallest : (r : RRT Letter) → Valid r → WidthAtMost k r → NoneRepeated (allowed k (T .marks) .marked) r

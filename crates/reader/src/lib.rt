@@ -1,6 +1,6 @@
-// The readers: run reader, part of a node, fold reader with cost, the same of the short family, and without limit and costs; and those
-// of season runs, which differ in their limits alone. One walk serves them all (crate walk). Each answers for every input whatsoever,
-// and none writes anywhere.
+// The readers: run reader, part of a node, fold reader with cost, the same of the short family, and without limit and costs; and
+// those of season runs, which differ in their limits alone. One walk serves them all (crate walk). Each answers for every input
+// whatsoever, and none writes anywhere.
 mod node;
 
 use format::FoldReading;
@@ -166,8 +166,8 @@ fn answer(w: Walk) -> FoldReading
     as_fold(0, 0, w.tally)
 }
 
-// A fold of a family, within limits, at an entry point with this head: the checks of the head, then refusals 1, 21, 3 to 10 and 19, in
-// the short family 20 as well; or the nodes, bytes, steps and depth of the run and the fold's cost.
+// A fold of a family, within limits, at an entry point with this head: the checks of the head, then refusals 1, 21, 3 to 10 and
+// 19, in the short family 20 as well; or the nodes, bytes, steps and depth of the run and the fold's cost.
 fn read_headed(
     fold: &[u8],
     bounds: Limits,
@@ -197,8 +197,8 @@ fn read_headed(
     answer(whole(fold, steps, groups, marks, a))
 }
 
-// A fold within limits at a width limit, without costs: refusals 12, 1, 21 and 3 to 10, or the nodes, bytes, steps and depth of the run
-// at cost 0.
+// A fold within limits at a width limit, without costs: refusals 12, 1, 21 and 3 to 10, or the nodes, bytes, steps and depth of
+// the run at cost 0.
 fn measure_in(fold: &[u8], bounds: Limits, limit: usize) -> FoldReading
     requires { ⌜ (bounds .nodes < 65536) × (bounds .groups < 65536) × (bounds .repeats < 65536) ⌝ }
     ensures { λ r. ⌜ r ≡ as-fold-reading (measured-by bounds (now (fold .entry)) limit) ⌝ }
@@ -261,17 +261,8 @@ pub fn read_fold(
     ensures meant { λ r. ⌜ (r .refusal ≡ 0 → MeansAtCost limit (tariff (now (steps .entry)) (now (groups .entry)) (now (marks .entry)) first each) (now (fold .entry)) (r .length) (r .cost)) ⌝ }
 {
     let head = full_head(limit, steps, groups, marks);
-    read_headed(
-        fold,
-        Format::limits(),
-        false,
-        head,
-        steps,
-        groups,
-        marks,
-        first,
-        each,
-    )
+    let bounds = Format::limits();
+    read_headed(fold, bounds, false, head, steps, groups, marks, first, each)
 }
 
 // The short reader: the fold reader of the short family, which refuses with 20 as well. What it accepts means, in the report's
@@ -289,17 +280,8 @@ pub fn read_short(
     ensures meant { λ r. ⌜ (r .refusal ≡ 0 → MeansAtCost limit (tariff (now (steps .entry)) (now (groups .entry)) (now (marks .entry)) first each) (long-form (now (fold .entry))) (r .length) (r .cost)) ⌝ }
 {
     let head = full_head(limit, steps, groups, marks);
-    read_headed(
-        fold,
-        Format::limits(),
-        true,
-        head,
-        steps,
-        groups,
-        marks,
-        first,
-        each,
-    )
+    let bounds = Format::limits();
+    read_headed(fold, bounds, true, head, steps, groups, marks, first, each)
 }
 
 // The season fold reader: the fold reader within the limits of season runs, which refuses with 21 as well.
@@ -316,15 +298,6 @@ pub fn read_season(
     ensures meant { λ r. ⌜ (r .refusal ≡ 0 → MeansAtCostIn season limit (tariff (now (steps .entry)) (now (groups .entry)) (now (marks .entry)) first each) (now (fold .entry)) (r .length) (r .cost)) ⌝ }
 {
     let head = full_head(limit, steps, groups, marks);
-    read_headed(
-        fold,
-        Season::limits(),
-        false,
-        head,
-        steps,
-        groups,
-        marks,
-        first,
-        each,
-    )
+    let season = Season::limits();
+    read_headed(fold, season, false, head, steps, groups, marks, first, each)
 }
