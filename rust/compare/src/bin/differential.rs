@@ -637,24 +637,7 @@ impl Compare {
 
     /// Tables of 256 entries, and marks of 256 labels.
     fn sound_prices(&mut self) -> Prices {
-        let r = &mut self.random;
-        let (steps, first, each): (Vec<u16>, u16, u16) = match r.below(8) {
-            0 | 1 => (vec![1; 256], 1, 0),
-            2 => (vec![1; 256], 0, r.below(2) as u16),
-            3 => (vec![1; 256], 1, r.below(6) as u16),
-            4 => ((0..256).map(|_| r.below(4) as u16).collect(), r.below(4) as u16, r.below(3) as u16),
-            5 => ((0..256).map(|_| r.below(65536) as u16).collect(), r.below(65536) as u16, r.below(65536) as u16),
-            6 => ((0..256).map(|_| r.below(1000) as u16).collect(), r.below(3000) as u16, r.below(100) as u16),
-            _ => (vec![*r.pick(&[0, 1, 65535]); 256], *r.pick(&[0, 1, 2, 65535]), *r.pick(&[0, 1, 65535])),
-        };
-        // Groups cost what steps of their labels do; or each what some step does; or all the same; or anything.
-        let groups = match r.below(5) {
-            0 | 1 => steps.clone(),
-            2 => (0..256).map(|_| *r.pick(&steps)).collect(),
-            3 => vec![*r.pick(&[0, 2, 4, 65535]); 256],
-            _ => (0..256).map(|_| r.below(65536) as u16).collect(),
-        };
-        Prices { steps, groups, marks: inputs::marks(r), first, each }
+        inputs::prices(&mut self.random)
     }
 
     /// The same, but for a table or the marks now and then.
