@@ -15,4 +15,6 @@ pub mod reference;
 pub mod season;
 pub mod season_method;
 #[cfg(feature = "benchmark")]
+pub mod season_timing;
+#[cfg(feature = "benchmark")]
 pub mod timing;
