@@ -1567,11 +1567,13 @@ fn main() {
             c.season(&labels, limit, &prices);
         });
     }
-    for n in 0..=8 {
+    for n in 0..=10 {
         inputs::every_word(n, &mut |items| {
             let (limit, prices) = (c.limit().min(SEASON_WIDTH), c.sound_prices());
             c.season_trial(items, limit, &prices);
-            c.season_trial(items, SEASON_WIDTH, &Prices::by_label(vec![1; 256], 0, 1));
+            for each in [0, 1] {
+                c.season_trial(items, SEASON_WIDTH, &Prices::by_label(vec![1; 256], 0, each));
+            }
         });
     }
     done("flat runs of up to 12 steps over two labels as seasons, and a trial of every fold of the shorter ones");
