@@ -1,5 +1,6 @@
-/* The run folder for C and C++: run reader, part of a node, fold reader, unroller, folder, index builder and finder; and of
- * the short command family a reader, a folder and both conversions.
+/* The run folder for C and C++: run reader, part of a node, fold reader, unroller, folder, index builder and finder; of the
+ * short command family a reader, a folder and both conversions; and for whole seasons, flat runs of up to 65,535 steps, a run
+ * reader, a fold reader, an unroller and a folder.
  *
  * For C99 or C++11 and later. The functions are those of the crate `embed`, proved. scripts/library.sh builds
  * target/lib/librunfold.a (x86-64 Linux), and scripts/install.sh installs it with this header. Build a program with one of
@@ -24,27 +25,34 @@
  * calls nothing but memset. Calls may run in several threads at once. RUNFOLD_WORK and RUNFOLD_ROOM say how much to lend to the
  * folder for as many nodes as the run reader counts, RUNFOLD_MAX_RUN how much to the unroller, RUNFOLD_MAX_NODES how many
  * entries to the index builder, RUNFOLD_STACK how much stack a call takes. What is enough for the folder is enough for the
- * short folder, and RUNFOLD_ROOM(RUNFOLD_MAX_NODES) bytes are for either conversion.
+ * short folder, and RUNFOLD_ROOM(RUNFOLD_MAX_NODES) bytes are for either conversion. The season folder is lent
+ * RUNFOLD_SEASON_WORK entries and RUNFOLD_ROOM bytes, the season unroller RUNFOLD_SEASON_RUN.
  *
  * Slices. A slice passes as a pointer and a number of entries. One of 0 entries may have a null pointer, for nothing is read or
  * written there (tested by scripts/c.sh, not proved): an empty `answer` is answered with RUNFOLD_SHORT, else an empty `steps`
  * with refusal 11, else an empty `groups` with 15, else an empty `marks` with 18 where the limit is not refused by 12. Any
- * other points to so many entries, aligned for their type. A slice that is written (`out`, `costs`, `choices`, `answer`, and
- * the index that runfold_index writes) overlaps no other slice of the call; `steps` and `groups` may be one table. Nothing else
- * is asked of a caller: every input has a defined answer.
+ * other points to so many entries, aligned for their type. A slice that is written (`out`, `costs`, `choices`, `work`,
+ * `answer`, and the index that runfold_index writes) overlaps no other slice of the call; `steps` and `groups` may be one
+ * table. Nothing else is asked of a caller: every input has a defined answer.
  *
  * Prices. `steps` prices the steps by their labels and `groups` the groups, 256 entries each; a repeat of count h costs
  * first + each * (h - 2). The cost of a fold is the sum over the commands that stand in it.
  *
  * Marks. `marks` has 256 entries too: 1 for a label that may stand in no repeat, as that of a premix bag which is tipped by
  * hand, and 0 for any other. A marked label, of a step or of a group, stands nowhere inside a repeat, also not in a group or
- * another repeat in it: fold reader and short reader refuse that by 19, and neither folder writes such a fold. A marked group
- * may hold repeats. The other functions know no marks.
+ * another repeat in it: the readers of folds refuse that by 19, and no folder writes such a fold. A marked group may hold
+ * repeats. The other functions know no marks.
  *
  * Short folds. In the short command family a repeat is opened by 22, with one byte of count and one byte of width, wherever
  * both are below 256, and by 20 elsewhere; 21 closes either. So every fold has one short form, and comes back from it as it
  * was. Short reader and runfold_to_long take short folds, short folder and runfold_to_short write them. No other function
  * knows 22, and it stands in no run: it is refused there by 1.
+ *
+ * Seasons. A season run is flat: steps alone, up to RUNFOLD_SEASON_NODES of them. A season fold is a fold of one, of steps and
+ * repeats no wider than RUNFOLD_SEASON_WIDTH, opened by 20. The four functions for them do what the first readers, unroller
+ * and folder do; a group is refused by 21, at its 11. The season folder's work grows with the steps, not with their square,
+ * and for a run of up to RUNFOLD_MAX_NODES steps it writes the bytes that runfold_fold writes at the same limit and prices. It
+ * takes a table of groups as all folders do, though nothing is priced by it.
  *
  * Index. `offsets` and `before` have an entry each for every outermost item of a fold, that is for each step, group and repeat
  * that stands in nothing else: its byte offset in the fold, and the number of the run's nodes before it. Kept beside the fold,
@@ -58,8 +66,8 @@
  *     answer[RUNFOLD_PLACE]     place of the refusal: a byte offset in the input, 0 for refusals 11 to 18 and on success
  *
  * What the other five are depends on the function, so an entry can have several names; they are 0 where the function has no
- * such value. Of readers, unroller, folders and conversions (the short reader has what the fold reader has, the short folder
- * what the folder has):
+ * such value. Of readers, unrollers, folders and conversions (the readers of short folds and of seasons have what the first
+ * ones have, and so with unrollers and folders):
  *
  *     answer[RUNFOLD_NODES]     nodes of the run (run reader, fold reader; the folder leaves 0, so ask the run reader first)
  *     answer[RUNFOLD_LENGTH]    bytes: of the run that the fold unrolls to (fold reader), or those written (unroller, folder,
@@ -93,7 +101,7 @@ extern "C" {
 
 /* The version of the library, as numbers and as text. */
 #define RUNFOLD_VERSION_MAJOR 0
-#define RUNFOLD_VERSION_MINOR 8
+#define RUNFOLD_VERSION_MINOR 9
 #define RUNFOLD_VERSION_PATCH 0
 #define RUNFOLD_VERSION \
     RUNFOLD_QUOTE(RUNFOLD_VERSION_MAJOR) "." RUNFOLD_QUOTE(RUNFOLD_VERSION_MINOR) "." RUNFOLD_QUOTE(RUNFOLD_VERSION_PATCH)
@@ -113,20 +121,31 @@ extern "C" {
 #define RUNFOLD_MAX_REPEATS 10
 #define RUNFOLD_MAX_WIDTH 1024
 
+/* Those of season runs and season folds; as many repeats may be open there. */
+#define RUNFOLD_SEASON_NODES 65535
+#define RUNFOLD_SEASON_WIDTH 32
+
 /* The entries that each work slice of the folder needs for a run of n nodes; n is evaluated twice. */
 #define RUNFOLD_WORK(n) (RUNFOLD_SIZE(n) * (RUNFOLD_SIZE(n) + 1) / 2)
 
-/* A fold of a run of n nodes has at most so many bytes, also where it is longer than the run; its short form is no longer. */
+/* The entries that the season folder's work slice needs for a run of n steps, the empty one too. */
+#define RUNFOLD_SEASON_WORK(n) (RUNFOLD_SIZE(256) * (RUNFOLD_SIZE(n) + 1))
+
+/* A fold of a run of n nodes, or a season fold of n steps, has at most so many bytes, also where it is longer than the run; a
+ * short form is no longer. */
 #define RUNFOLD_ROOM(n) (RUNFOLD_SIZE(n) * 4)
 
 /* A run that is not refused has at most so many bytes: room for whatever the unroller writes. */
 #define RUNFOLD_MAX_RUN 3072
 
+/* The same of a season run, for the season unroller. */
+#define RUNFOLD_SEASON_RUN 131070
+
 /* A call takes at most so many bytes of stack, arguments and return address included: measured by scripts/stack.sh, which
  * prints each function's own, and not proved. */
 #define RUNFOLD_STACK 98304
 
-/* The entries of an answer, and where each stands: the first two for every function, then the others of readers, unroller,
+/* The entries of an answer, and where each stands: the first two for every function, then the others of readers, unrollers,
  * folders and conversions, that of the index builder, and those of the finder. */
 #define RUNFOLD_ENTRIES 7
 enum {
@@ -158,9 +177,9 @@ enum {
     RUNFOLD_WIDE = 7,               /* width operand over the limit */
     RUNFOLD_DEEP = 8,               /* a 9th open group or an 11th open repeat */
     RUNFOLD_FALSE_WIDTH = 9,        /* width operand not the true width; tested after 10 */
-    RUNFOLD_MANY_NODES = 10,        /* more than 1,024 nodes */
+    RUNFOLD_MANY_NODES = 10,        /* more than 1,024 nodes, or than 65,535 in a season */
     RUNFOLD_STEP_TABLE_SIZE = 11,   /* step cost table not of 256 entries */
-    RUNFOLD_LIMIT_SIZE = 12,        /* width limit over 1,024 */
+    RUNFOLD_LIMIT_SIZE = 12,        /* width limit over 1,024, or over 32 for a season */
     RUNFOLD_WORK_SIZE = 13,         /* a work slice too short */
     RUNFOLD_OUTPUT_SIZE = 14,       /* output shorter than the result, or a slice of the index than its entries */
     RUNFOLD_GROUP_TABLE_SIZE = 15,  /* group cost table not of 256 entries; tested right after 11 */
@@ -169,6 +188,7 @@ enum {
     RUNFOLD_WRONG_MARKS = 18,       /* marks not of 256 entries, or an entry above 1; tested right after 12 */
     RUNFOLD_MARKED_IN_REPEAT = 19,  /* a marked label inside a repeat, of a step or a group; tested right before 10 */
     RUNFOLD_LONG_IN_SHORT = 20,     /* 20 in a short fold where 22 would do; tested right after 7 */
+    RUNFOLD_GROUP_IN_SEASON = 21,   /* 11 in a season run or a season fold; tested right after 2, so before 3 */
     RUNFOLD_SHORT = 255             /* the answer slice has fewer than RUNFOLD_ENTRIES entries */
 };
 
@@ -197,11 +217,11 @@ static inline const char *runfold_refusal_text(uint64_t number)
     case RUNFOLD_FALSE_WIDTH:
         return "width operand not the true width, found at 21";
     case RUNFOLD_MANY_NODES:
-        return "node total would pass 1,024";
+        return "node total would pass 1,024, or 65,535 in a season";
     case RUNFOLD_STEP_TABLE_SIZE:
         return "step cost table not of 256 entries";
     case RUNFOLD_LIMIT_SIZE:
-        return "width limit over 1,024";
+        return "width limit over 1,024, or over 32 for a season";
     case RUNFOLD_WORK_SIZE:
         return "a work slice too short";
     case RUNFOLD_OUTPUT_SIZE:
@@ -218,6 +238,8 @@ static inline const char *runfold_refusal_text(uint64_t number)
         return "a marked label inside a repeat";
     case RUNFOLD_LONG_IN_SHORT:
         return "20 in the short family with count and width both below 256";
+    case RUNFOLD_GROUP_IN_SEASON:
+        return "a group in a season run or a season fold";
     case RUNFOLD_SHORT:
         return "answer slice too short";
     default:
@@ -298,6 +320,31 @@ uint8_t runfold_to_short(const uint8_t *fold, size_t fold_len, uint8_t *out, siz
  * stays as it is. */
 uint8_t runfold_to_long(const uint8_t *fold, size_t fold_len, uint8_t *out, size_t out_len, uint64_t *answer,
                         size_t answer_len);
+
+/* The season run reader: refusals 1 to 4, 10 and 21, or the nodes and the steps of the run, which are as many, and the depth
+ * 0. Writes `answer` alone. */
+uint8_t runfold_read_season_run(const uint8_t *run, size_t run_len, uint64_t *answer, size_t answer_len);
+
+/* The season reader, the fold reader of season folds: refusals 1, 3 to 12, 15, 18, 19 and 21, or the nodes, the bytes and the
+ * steps of the run, the depth 0, and the fold's cost at these prices. Writes `answer` alone. */
+uint8_t runfold_read_season(const uint8_t *fold, size_t fold_len, size_t limit, const uint16_t *steps, size_t steps_len,
+                            const uint16_t *groups, size_t groups_len, const uint8_t *marks, size_t marks_len, uint16_t first,
+                            uint16_t each, uint64_t *answer, size_t answer_len);
+
+/* The season unroller: refusals 1, 3 to 10, 12, 14 and 21, or the length of the run. RUNFOLD_SEASON_RUN bytes of output are
+ * always enough. `out` is written as by runfold_unroll. */
+uint8_t runfold_unroll_season(const uint8_t *fold, size_t fold_len, size_t limit, uint8_t *out, size_t out_len,
+                              uint64_t *answer, size_t answer_len);
+
+/* The season folder: refusals 1 to 4, 10 to 15, 18 and 21, or the length and the cost of the cheapest fold of a season run, in
+ * the order that the folder goes by. `work` has at least RUNFOLD_SEASON_WORK(nodes) entries, of any contents.
+ * RUNFOLD_ROOM(nodes) bytes of output are always enough.
+ * `out` is written as by runfold_fold. On success and after refusal 14 the first RUNFOLD_SEASON_WORK(nodes) entries of `work`
+ * are 0 and the others stay as they are; after any other refusal all of it stays as it is. */
+uint8_t runfold_fold_season(const uint8_t *run, size_t run_len, size_t limit, const uint16_t *steps, size_t steps_len,
+                            const uint16_t *groups, size_t groups_len, const uint8_t *marks, size_t marks_len, uint16_t first,
+                            uint16_t each, uint32_t *work, size_t work_len, uint8_t *out, size_t out_len, uint64_t *answer,
+                            size_t answer_len);
 
 #ifdef __cplusplus
 }

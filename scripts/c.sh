@@ -42,7 +42,7 @@ all_with() { # CC CXX
     for std in c++11 c++17 c++20; do
         "$2" "-std=$std" "${flags[@]}" -Wold-style-cast -x c++ -c tests/c/header.c -o "$out/header.o"
     done
-    for name in texts null shape marks find short; do
+    for name in texts null shape marks find short season; do
         "$1" -std=c11 "${flags[@]}" "tests/c/$name.c" "${libs[@]}" -o "$out/$name"
     done
     "$1" -std=c99 "${flags[@]}" examples/c/fold_aaa.c "${libs[@]}" -o "$out/fold_aaa_c"
@@ -53,6 +53,7 @@ all_with() { # CC CXX
     prints "" "$out/marks"
     prints "" "$out/find"
     prints "" "$out/short"
+    prints "" "$out/season"
     prints "$texts" "$out/texts"
     prints "$folded" "$out/fold_aaa_c"
     prints "$found" "$out/find_step"
@@ -64,5 +65,6 @@ all_with "${CC:-cc}" "${CXX:-c++}"
 if command -v clang >/dev/null && command -v clang++ >/dev/null; then
     all_with clang clang++
 fi
-passed="the header by itself, its texts, null pointers, steps, depth and cost, marks, index and finding, the short family"
+passed="the header by itself, its texts, null pointers, steps, depth and cost, marks, index and finding, the short family,"
+passed+=" seasons"
 echo "passed: $passed, the version $version and the examples, with$used"

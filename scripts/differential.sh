@@ -9,7 +9,7 @@ scripts/library.sh
 export CARGO_TARGET_DIR=$PWD/target/cargo
 (
     cd rust
-    cargo test --quiet --offline --locked --profile compare --package compare --test known
+    cargo test --quiet --offline --locked --profile compare --package compare --test known --test season --test season_folder
     cargo build --quiet --offline --locked --profile compare --package compare --bin differential
 )
 exec target/cargo/compare/differential "${1:-1}" "${2:-100}"

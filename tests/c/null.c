@@ -5,7 +5,7 @@
 #include <stdio.h>
 #include <string.h>
 
-enum { LIMIT = RUNFOLD_MAX_WIDTH, ALL = RUNFOLD_ENTRIES, UNWRITTEN = 9 };
+enum { LIMIT = RUNFOLD_MAX_WIDTH, SEASON = RUNFOLD_SEASON_WIDTH, ALL = RUNFOLD_ENTRIES, UNWRITTEN = 9 };
 
 static uint64_t answer[ALL];
 static int failures;
@@ -31,10 +31,13 @@ static void expect(const char *function, const char *call, const char *where, un
 /* The same of a function that goes by another name in the call. */
 #define EXPECT_OF(wanted, call) expect(function, #call, where, call, wanted)
 
-/* Fold reader and short reader, both folders, and both conversions take the same and answer the same here. */
+/* The readers of folds take the same and answer the same here, but for the highest limit; so do both unrollers; and so do the
+ * first two folders, and both conversions. */
 typedef uint8_t reader(const uint8_t *fold, size_t fold_len, size_t limit, const uint16_t *steps, size_t steps_len,
                        const uint16_t *groups, size_t groups_len, const uint8_t *marks, size_t marks_len, uint16_t first,
                        uint16_t each, uint64_t *answer, size_t answer_len);
+typedef uint8_t unroller(const uint8_t *fold, size_t fold_len, size_t limit, uint8_t *out, size_t out_len, uint64_t *answer,
+                         size_t answer_len);
 typedef uint8_t folder(const uint8_t *run, size_t run_len, size_t limit, const uint16_t *steps, size_t steps_len,
                        const uint16_t *groups, size_t groups_len, const uint8_t *marks, size_t marks_len, uint16_t first,
                        uint16_t each, uint32_t *costs, size_t costs_len, uint32_t *choices, size_t choices_len, uint8_t *out,
@@ -45,18 +48,18 @@ typedef uint8_t conversion(const uint8_t *fold, size_t fold_len, uint8_t *out, s
 static const uint8_t step[] = {0x10, 0x07}, marks[256];
 static const uint16_t table[256];
 
-static void reads(const char *function, reader *read, const char *where, uint8_t *b, uint16_t *t, uint64_t *a)
+static void reads(const char *function, reader *read, size_t limit, const char *where, uint8_t *b, uint16_t *t, uint64_t *a)
 {
-    EXPECT_OF(RUNFOLD_OK, read(b, 0, LIMIT, table, 256, table, 256, marks, 256, 1, 0, answer, ALL));
-    EXPECT_OF(RUNFOLD_STEP_TABLE_SIZE, read(step, 2, LIMIT, t, 0, table, 256, marks, 256, 1, 0, answer, ALL));
-    EXPECT_OF(RUNFOLD_STEP_TABLE_SIZE, read(b, 0, LIMIT, t, 0, t, 0, b, 0, 1, 0, answer, ALL));
-    EXPECT_OF(RUNFOLD_GROUP_TABLE_SIZE, read(step, 2, LIMIT, table, 256, t, 0, marks, 256, 1, 0, answer, ALL));
-    EXPECT_OF(RUNFOLD_GROUP_TABLE_SIZE, read(b, 0, LIMIT + 1, table, 256, t, 0, b, 0, 1, 0, answer, ALL));
-    EXPECT_OF(RUNFOLD_LIMIT_SIZE, read(b, 0, LIMIT + 1, table, 256, table, 256, b, 0, 1, 0, answer, ALL));
-    EXPECT_OF(RUNFOLD_WRONG_MARKS, read(step, 2, LIMIT, table, 256, table, 256, b, 0, 1, 0, answer, ALL));
-    EXPECT_OF(RUNFOLD_WRONG_MARKS, read(b, 0, LIMIT, table, 256, table, 256, b, 0, 1, 0, answer, ALL));
-    EXPECT_OF(RUNFOLD_SHORT, read(step, 2, LIMIT, table, 256, table, 256, marks, 256, 1, 0, a, 0));
-    EXPECT_OF(RUNFOLD_SHORT, read(b, 0, LIMIT, t, 0, t, 0, b, 0, 1, 0, a, 0));
+    EXPECT_OF(RUNFOLD_OK, read(b, 0, limit, table, 256, table, 256, marks, 256, 1, 0, answer, ALL));
+    EXPECT_OF(RUNFOLD_STEP_TABLE_SIZE, read(step, 2, limit, t, 0, table, 256, marks, 256, 1, 0, answer, ALL));
+    EXPECT_OF(RUNFOLD_STEP_TABLE_SIZE, read(b, 0, limit, t, 0, t, 0, b, 0, 1, 0, answer, ALL));
+    EXPECT_OF(RUNFOLD_GROUP_TABLE_SIZE, read(step, 2, limit, table, 256, t, 0, marks, 256, 1, 0, answer, ALL));
+    EXPECT_OF(RUNFOLD_GROUP_TABLE_SIZE, read(b, 0, limit + 1, table, 256, t, 0, b, 0, 1, 0, answer, ALL));
+    EXPECT_OF(RUNFOLD_LIMIT_SIZE, read(b, 0, limit + 1, table, 256, table, 256, b, 0, 1, 0, answer, ALL));
+    EXPECT_OF(RUNFOLD_WRONG_MARKS, read(step, 2, limit, table, 256, table, 256, b, 0, 1, 0, answer, ALL));
+    EXPECT_OF(RUNFOLD_WRONG_MARKS, read(b, 0, limit, table, 256, table, 256, b, 0, 1, 0, answer, ALL));
+    EXPECT_OF(RUNFOLD_SHORT, read(step, 2, limit, table, 256, table, 256, marks, 256, 1, 0, a, 0));
+    EXPECT_OF(RUNFOLD_SHORT, read(b, 0, limit, t, 0, t, 0, b, 0, 1, 0, a, 0));
 }
 
 static void folds(const char *function, folder *fold, const char *where, uint8_t *b, uint16_t *t, uint32_t *w, uint64_t *a)
@@ -90,6 +93,53 @@ static void folds(const char *function, folder *fold, const char *where, uint8_t
     EXPECT_OF(RUNFOLD_SHORT, fold(b, 0, LIMIT, t, 0, t, 0, b, 0, 1, 0, w, 0, w, 0, b, 0, a, 0));
 }
 
+/* The season folder's work has 256 entries even where there is nothing to fold. */
+static void folds_season(const char *where, uint8_t *b, uint16_t *t, uint32_t *w, uint64_t *a)
+{
+    uint32_t work[RUNFOLD_SEASON_WORK(1)];
+    uint8_t out[4];
+
+    EXPECT(RUNFOLD_OK,
+           runfold_fold_season(b, 0, SEASON, table, 256, table, 256, marks, 256, 1, 0, work, 256, out, 4, answer, ALL));
+    EXPECT(RUNFOLD_OK,
+           runfold_fold_season(b, 0, SEASON, table, 256, table, 256, marks, 256, 1, 0, work, 256, b, 0, answer, ALL));
+    EXPECT(RUNFOLD_STEP_TABLE_SIZE,
+           runfold_fold_season(step, 2, SEASON, t, 0, table, 256, marks, 256, 1, 0, work, 512, out, 4, answer, ALL));
+    EXPECT(RUNFOLD_STEP_TABLE_SIZE, runfold_fold_season(b, 0, SEASON, t, 0, t, 0, b, 0, 1, 0, w, 0, b, 0, answer, ALL));
+    EXPECT(RUNFOLD_GROUP_TABLE_SIZE,
+           runfold_fold_season(step, 2, SEASON, table, 256, t, 0, marks, 256, 1, 0, work, 512, out, 4, answer, ALL));
+    EXPECT(RUNFOLD_GROUP_TABLE_SIZE,
+           runfold_fold_season(b, 0, SEASON + 1, table, 256, t, 0, b, 0, 1, 0, w, 0, b, 0, answer, ALL));
+    EXPECT(RUNFOLD_LIMIT_SIZE,
+           runfold_fold_season(b, 0, SEASON + 1, table, 256, table, 256, b, 0, 1, 0, w, 0, b, 0, answer, ALL));
+    EXPECT(RUNFOLD_WRONG_MARKS,
+           runfold_fold_season(step, 2, SEASON, table, 256, table, 256, b, 0, 1, 0, work, 512, out, 4, answer, ALL));
+    EXPECT(RUNFOLD_WRONG_MARKS, runfold_fold_season(b, 0, SEASON, table, 256, table, 256, b, 0, 1, 0, w, 0, b, 0, answer, ALL));
+    EXPECT(RUNFOLD_WORK_SIZE,
+           runfold_fold_season(step, 2, SEASON, table, 256, table, 256, marks, 256, 1, 0, w, 0, out, 4, answer, ALL));
+    EXPECT(RUNFOLD_WORK_SIZE,
+           runfold_fold_season(step, 2, SEASON, table, 256, table, 256, marks, 256, 1, 0, w, 0, b, 0, answer, ALL));
+    EXPECT(RUNFOLD_WORK_SIZE,
+           runfold_fold_season(b, 0, SEASON, table, 256, table, 256, marks, 256, 1, 0, w, 0, b, 0, answer, ALL));
+    EXPECT(RUNFOLD_OUTPUT_SIZE,
+           runfold_fold_season(step, 2, SEASON, table, 256, table, 256, marks, 256, 1, 0, work, 512, b, 0, answer, ALL));
+    EXPECT(RUNFOLD_SHORT,
+           runfold_fold_season(step, 2, SEASON, table, 256, table, 256, marks, 256, 1, 0, work, 512, out, 4, a, 0));
+    EXPECT(RUNFOLD_SHORT, runfold_fold_season(b, 0, SEASON, t, 0, t, 0, b, 0, 1, 0, w, 0, b, 0, a, 0));
+}
+
+static void unrolls(const char *function, unroller *unroll, size_t limit, const char *where, uint8_t *b, uint64_t *a)
+{
+    uint8_t out[4];
+
+    EXPECT_OF(RUNFOLD_OK, unroll(b, 0, limit, out, 4, answer, ALL));
+    EXPECT_OF(RUNFOLD_OK, unroll(b, 0, limit, b, 0, answer, ALL));
+    EXPECT_OF(RUNFOLD_OUTPUT_SIZE, unroll(step, 2, limit, b, 0, answer, ALL));
+    EXPECT_OF(RUNFOLD_LIMIT_SIZE, unroll(b, 0, limit + 1, b, 0, answer, ALL));
+    EXPECT_OF(RUNFOLD_SHORT, unroll(step, 2, limit, out, 4, a, 0));
+    EXPECT_OF(RUNFOLD_SHORT, unroll(b, 0, limit, b, 0, a, 0));
+}
+
 static void converts(const char *function, conversion *convert, const char *where, uint8_t *b, uint64_t *a)
 {
     uint8_t out[4];
@@ -105,7 +155,6 @@ static void converts(const char *function, conversion *convert, const char *wher
 static void calls(const char *where, uint8_t *b, uint16_t *t, uint32_t *w, uint64_t *a)
 {
     uint32_t offsets[1] = {0}, before[1] = {0};
-    uint8_t out[4];
 
     EXPECT(RUNFOLD_OK, runfold_read_run(b, 0, answer, ALL));
     EXPECT(RUNFOLD_SHORT, runfold_read_run(step, 2, a, 0));
@@ -116,18 +165,20 @@ static void calls(const char *where, uint8_t *b, uint16_t *t, uint32_t *w, uint6
         failures++;
     }
 
-    reads("runfold_read_fold", runfold_read_fold, where, b, t, a);
-    reads("runfold_read_short", runfold_read_short, where, b, t, a);
+    EXPECT(RUNFOLD_OK, runfold_read_season_run(b, 0, answer, ALL));
+    EXPECT(RUNFOLD_SHORT, runfold_read_season_run(step, 2, a, 0));
+    EXPECT(RUNFOLD_SHORT, runfold_read_season_run(b, 0, a, 0));
 
-    EXPECT(RUNFOLD_OK, runfold_unroll(b, 0, LIMIT, out, 4, answer, ALL));
-    EXPECT(RUNFOLD_OK, runfold_unroll(b, 0, LIMIT, b, 0, answer, ALL));
-    EXPECT(RUNFOLD_OUTPUT_SIZE, runfold_unroll(step, 2, LIMIT, b, 0, answer, ALL));
-    EXPECT(RUNFOLD_LIMIT_SIZE, runfold_unroll(b, 0, LIMIT + 1, b, 0, answer, ALL));
-    EXPECT(RUNFOLD_SHORT, runfold_unroll(step, 2, LIMIT, out, 4, a, 0));
-    EXPECT(RUNFOLD_SHORT, runfold_unroll(b, 0, LIMIT, b, 0, a, 0));
+    reads("runfold_read_fold", runfold_read_fold, LIMIT, where, b, t, a);
+    reads("runfold_read_short", runfold_read_short, LIMIT, where, b, t, a);
+    reads("runfold_read_season", runfold_read_season, SEASON, where, b, t, a);
+
+    unrolls("runfold_unroll", runfold_unroll, LIMIT, where, b, a);
+    unrolls("runfold_unroll_season", runfold_unroll_season, SEASON, where, b, a);
 
     folds("runfold_fold", runfold_fold, where, b, t, w, a);
     folds("runfold_fold_short", runfold_fold_short, where, b, t, w, a);
+    folds_season(where, b, t, w, a);
 
     EXPECT(RUNFOLD_OK, runfold_index(b, 0, offsets, 1, before, 1, answer, ALL));
     EXPECT(RUNFOLD_OK, runfold_index(b, 0, w, 0, w, 0, answer, ALL));

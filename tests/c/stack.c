@@ -16,35 +16,46 @@
 
 enum { PAGE = 4096, PAINTED = 64 * PAGE };
 
-/* Steps in repeats of count 2 in groups, with the refusals that the functions on runs and those on folds answer. */
+/* Steps in repeats of count 2 in groups, with the refusals that the functions on runs and those on folds answer, and those for
+ * seasons. A width operand is the true width, or the widest that there is to be. */
 struct input {
     const char *name;
-    int groups, repeats, steps;
-    uint8_t run_refusal, fold_refusal;
+    int groups, repeats, steps, widest;
+    uint8_t run_refusal, fold_refusal, season_run_refusal, season_fold_refusal;
 };
 
+#define BOTH(refusal) refusal, refusal
+
 static const struct input inputs[] = {
-    {"no steps", 0, 0, 0, RUNFOLD_OK, RUNFOLD_OK},
-    {"1 step", 0, 0, 1, RUNFOLD_OK, RUNFOLD_OK},
-    {"1024 steps", 0, 0, 1024, RUNFOLD_OK, RUNFOLD_OK},
-    {"1016 steps in 8 groups", 8, 0, 1016, RUNFOLD_OK, RUNFOLD_OK},
-    {"512 steps in 8 groups", 8, 0, 512, RUNFOLD_OK, RUNFOLD_OK},
-    {"1 step in 9 repeats in 8 groups", 8, 9, 1, RUNFOLD_REPEAT_IN_RUN, RUNFOLD_OK},
-    {"1 step in 10 repeats in 8 groups", 8, 10, 1, RUNFOLD_REPEAT_IN_RUN, RUNFOLD_MANY_NODES},
+    {"no steps", 0, 0, 0, RUNFOLD_MAX_WIDTH, BOTH(RUNFOLD_OK), BOTH(RUNFOLD_OK)},
+    {"1 step", 0, 0, 1, RUNFOLD_MAX_WIDTH, BOTH(RUNFOLD_OK), BOTH(RUNFOLD_OK)},
+    {"1024 steps", 0, 0, 1024, RUNFOLD_MAX_WIDTH, BOTH(RUNFOLD_OK), BOTH(RUNFOLD_OK)},
+    {"1016 steps in 8 groups", 8, 0, 1016, RUNFOLD_MAX_WIDTH, BOTH(RUNFOLD_OK), BOTH(RUNFOLD_GROUP_IN_SEASON)},
+    {"512 steps in 8 groups", 8, 0, 512, RUNFOLD_MAX_WIDTH, BOTH(RUNFOLD_OK), BOTH(RUNFOLD_GROUP_IN_SEASON)},
+    {"1 step in 9 repeats in 8 groups", 8, 9, 1, RUNFOLD_MAX_WIDTH, RUNFOLD_REPEAT_IN_RUN, RUNFOLD_OK,
+     BOTH(RUNFOLD_GROUP_IN_SEASON)},
+    {"1 step in 10 repeats in 8 groups", 8, 10, 1, RUNFOLD_MAX_WIDTH, RUNFOLD_REPEAT_IN_RUN, RUNFOLD_MANY_NODES,
+     BOTH(RUNFOLD_GROUP_IN_SEASON)},
+    {"1 step in 6 repeats", 0, 6, 1, RUNFOLD_MAX_WIDTH, RUNFOLD_REPEAT_IN_RUN, RUNFOLD_OK, RUNFOLD_REPEAT_IN_RUN, RUNFOLD_OK},
+    /* As many open as may be, though what is more than 64 steps has a false width then. */
+    {"1 step in 10 repeats of a season", 0, 10, 1, RUNFOLD_SEASON_WIDTH, RUNFOLD_REPEAT_IN_RUN, RUNFOLD_FALSE_WIDTH,
+     RUNFOLD_REPEAT_IN_RUN, RUNFOLD_FALSE_WIDTH},
+    {"65535 steps", 0, 0, 65535, RUNFOLD_MAX_WIDTH, BOTH(RUNFOLD_MANY_NODES), BOTH(RUNFOLD_OK)},
 };
 enum { INPUTS = sizeof inputs / sizeof inputs[0] };
 
 /* What a call is given, and what it answered. A repeat costs 0 and each further copy 1, and no label is marked, so that the
- * folder nests as many repeats as it can: ten round 1,024 steps, nine round 512. */
-static uint8_t bytes[RUNFOLD_MAX_RUN];
+ * folder nests as many repeats as it can: ten round 1,024 steps, nine round 512; and the season folder six, up to 32 wide. */
+static uint8_t bytes[RUNFOLD_SEASON_RUN];
 static size_t len;
 /* The same with its repeats opened as in the short family. */
-static uint8_t brief[RUNFOLD_MAX_RUN];
+static uint8_t brief[RUNFOLD_SEASON_RUN];
 static size_t brief_len;
 static uint16_t table[256];
 static const uint8_t marks[256];
 static uint32_t costs[RUNFOLD_WORK(RUNFOLD_MAX_NODES)], choices[RUNFOLD_WORK(RUNFOLD_MAX_NODES)];
-static uint8_t out[RUNFOLD_ROOM(RUNFOLD_MAX_NODES)];
+static uint32_t work[RUNFOLD_SEASON_WORK(RUNFOLD_SEASON_NODES)];
+static uint8_t out[RUNFOLD_ROOM(RUNFOLD_SEASON_NODES)];
 /* The index of the input as a fold, and the position of its last node, one of those that stand deepest. */
 static uint32_t offsets[RUNFOLD_MAX_NODES], before[RUNFOLD_MAX_NODES];
 static size_t indexed;
@@ -118,22 +129,48 @@ static void to_long(void)
     result = runfold_to_long(brief, brief_len, out, sizeof out, answer, RUNFOLD_ENTRIES);
 }
 
+static void read_season_run(void)
+{
+    result = runfold_read_season_run(bytes, len, answer, RUNFOLD_ENTRIES);
+}
+
+static void read_season(void)
+{
+    result = runfold_read_season(bytes, len, RUNFOLD_SEASON_WIDTH, table, 256, table, 256, marks, 256, 0, 1, answer,
+                                 RUNFOLD_ENTRIES);
+}
+
+static void unroll_season(void)
+{
+    result = runfold_unroll_season(bytes, len, RUNFOLD_SEASON_WIDTH, out, sizeof out, answer, RUNFOLD_ENTRIES);
+}
+
+static void fold_season(void)
+{
+    result = runfold_fold_season(bytes, len, RUNFOLD_SEASON_WIDTH, table, 256, table, 256, marks, 256, 0, 1, work,
+                                 RUNFOLD_SEASON_WORK(RUNFOLD_SEASON_NODES), out, sizeof out, answer, RUNFOLD_ENTRIES);
+}
+
 static const struct function {
     const char *name;
     void (*call)(void);
-    int on_runs;
+    int on_runs, on_seasons;
 } functions[] = {
-    {"runfold_read_run", read_run, 1},
-    {"runfold_part", part, 1},
-    {"runfold_read_fold", read_fold, 0},
-    {"runfold_unroll", unroll, 0},
-    {"runfold_fold", fold, 1},
-    {"runfold_index", index_fold, 0},
-    {"runfold_find", find, 0},
-    {"runfold_read_short", read_short, 0},
-    {"runfold_fold_short", fold_short, 1},
-    {"runfold_to_short", to_short, 0},
-    {"runfold_to_long", to_long, 0},
+    {"runfold_read_run", read_run, 1, 0},
+    {"runfold_part", part, 1, 0},
+    {"runfold_read_fold", read_fold, 0, 0},
+    {"runfold_unroll", unroll, 0, 0},
+    {"runfold_fold", fold, 1, 0},
+    {"runfold_index", index_fold, 0, 0},
+    {"runfold_find", find, 0, 0},
+    {"runfold_read_short", read_short, 0, 0},
+    {"runfold_fold_short", fold_short, 1, 0},
+    {"runfold_to_short", to_short, 0, 0},
+    {"runfold_to_long", to_long, 0, 0},
+    {"runfold_read_season_run", read_season_run, 1, 1},
+    {"runfold_read_season", read_season, 0, 1},
+    {"runfold_unroll_season", unroll_season, 0, 1},
+    {"runfold_fold_season", fold_season, 1, 1},
 };
 enum { FUNCTIONS = sizeof functions / sizeof functions[0] };
 
@@ -153,7 +190,8 @@ static size_t write_commands(const struct input *in, int with_22, uint8_t *to)
         *p++ = 0x07;
     }
     for (int i = in->repeats; i > 0; i--) {
-        int width = in->steps << (i - 1), small = with_22 && width < 256;
+        int true_width = in->steps << (i - 1), width = true_width < in->widest ? true_width : in->widest;
+        int small = with_22 && width < 256;
         *p++ = small ? 0x22 : 0x20;
         if (!small)
             *p++ = 0;
@@ -180,8 +218,10 @@ static void build(const struct input *in)
     len = write_commands(in, 0, bytes);
     brief_len = write_commands(in, 1, brief);
 
-    /* One outermost item, or the steps themselves. */
+    /* One outermost item, or the steps themselves, as many as may be. */
     indexed = in->groups + in->repeats > 0 ? 1 : (size_t)in->steps;
+    if (indexed > RUNFOLD_MAX_NODES)
+        indexed = RUNFOLD_MAX_NODES;
     for (uint32_t i = 0; i < indexed; i++) {
         offsets[i] = 2 * i;
         before[i] = i;
@@ -195,6 +235,8 @@ static uint8_t wanted(const struct function *f, const struct input *in)
     /* There is no node to find. */
     if (f->call == find && in->steps == 0)
         return RUNFOLD_PAST_END;
+    if (f->on_seasons)
+        return f->on_runs ? in->season_run_refusal : in->season_fold_refusal;
     return f->on_runs ? in->run_refusal : in->fold_refusal;
 }
 
@@ -276,12 +318,12 @@ static void measure(size_t own)
     printf("bytes of stack on\n");
     for (int i = 0; i < INPUTS; i++)
         printf("%3d  %s\n", i + 1, inputs[i].name);
-    printf("\n%18s", "");
+    printf("\n%23s", "");
     for (int i = 0; i < INPUTS; i++)
         printf("%8d", i + 1);
     printf("\n");
     for (int f = 0; f < FUNCTIONS; f++) {
-        printf("%-18s", functions[f].name);
+        printf("%-23s", functions[f].name);
         for (int i = 0; i < INPUTS; i++) {
             size_t bytes_used;
             build(&inputs[i]);
@@ -321,7 +363,7 @@ int main(void)
         build(&inputs[worst[f]]);
         while (lives(functions[f].call, (pages - 1) * PAGE))
             pages--;
-        printf("%-18s %6zu at most, on %s; a stack of %zu is enough and one of %zu is not\n", functions[f].name, most[f],
+        printf("%-23s %6zu at most, on %s; a stack of %zu is enough and one of %zu is not\n", functions[f].name, most[f],
                inputs[worst[f]].name, pages * PAGE, (pages - 1) * PAGE);
         if (pages != (most[f] + own + PAGE - 1) / PAGE)
             fail("that is not what was measured, in whole pages");

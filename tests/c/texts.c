@@ -5,7 +5,7 @@
 #include <stdio.h>
 #include <string.h>
 
-enum { LAST = RUNFOLD_LONG_IN_SHORT };
+enum { LAST = RUNFOLD_GROUP_IN_SEASON };
 
 int main(void)
 {

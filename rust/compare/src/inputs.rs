@@ -424,6 +424,82 @@ pub fn wrong_marks(r: &mut Random, mut marks: Vec<u8>) -> Vec<u8> {
     marks
 }
 
+/// Tables of 256 entries, and marks of 256 labels.
+pub fn prices(r: &mut Random) -> Prices {
+    let (steps, first, each): (Vec<u16>, u16, u16) = match r.below(8) {
+        0 | 1 => (vec![1; 256], 1, 0),
+        2 => (vec![1; 256], 0, r.below(2) as u16),
+        3 => (vec![1; 256], 1, r.below(6) as u16),
+        4 => ((0..256).map(|_| r.below(4) as u16).collect(), r.below(4) as u16, r.below(3) as u16),
+        5 => ((0..256).map(|_| r.below(65536) as u16).collect(), r.below(65536) as u16, r.below(65536) as u16),
+        6 => ((0..256).map(|_| r.below(1000) as u16).collect(), r.below(3000) as u16, r.below(100) as u16),
+        _ => (vec![*r.pick(&[0, 1, 65535]); 256], *r.pick(&[0, 1, 2, 65535]), *r.pick(&[0, 1, 65535])),
+    };
+    // Groups cost what steps of their labels do; or each what some step does; or all the same; or anything.
+    let groups = match r.below(5) {
+        0 | 1 => steps.clone(),
+        2 => (0..256).map(|_| *r.pick(&steps)).collect(),
+        3 => vec![*r.pick(&[0, 2, 4, 65535]); 256],
+        _ => (0..256).map(|_| r.below(65536) as u16).collect(),
+    };
+    Prices { steps, groups, marks: marks(r), first, each }
+}
+
+/// The bytes of a flat run.
+pub fn flat_bytes(labels: &[u8]) -> Vec<u8> {
+    labels.iter().flat_map(|&label| [0x10, label]).collect()
+}
+
+/// The labels of a flat run: at random, or of one period or several one after the other, mostly no wider than a season's
+/// highest limit or little wider, and at times with another label now and then.
+pub fn flat_run(r: &mut Random, steps: usize) -> Vec<u8> {
+    let labels = *r.pick(&[1, 2, 2, 3, 4, 4, 8, 256]);
+    let mut run: Vec<u8> = Vec::with_capacity(steps);
+    match r.below(8) {
+        0 => run.extend((0..steps).map(|_| r.below(labels) as u8)),
+        1 => run.resize(steps, r.below(labels) as u8),
+        2 | 3 => {
+            let period = nested_period(r, labels);
+            run.extend(period.iter().cycle().take(steps));
+        }
+        _ => {
+            while run.len() < steps {
+                let period = nested_period(r, labels);
+                let copies = if r.once_in(3) { 1 + r.below(40) } else { 1 + r.below(4) };
+                run.extend(period.repeat(copies));
+            }
+            run.truncate(steps);
+        }
+    }
+    if r.once_in(2) {
+        let rarity = *r.pick(&[10, 40, 200, 2000]);
+        for label in &mut run {
+            if r.once_in(rarity) {
+                *label = r.below(8) as u8;
+            }
+        }
+    }
+    run
+}
+
+/// A period of 1 to about 40 labels, which mostly has periods in itself.
+fn nested_period(r: &mut Random, labels: usize) -> Vec<u8> {
+    let most = 1 + r.below(40);
+    let mut period = vec![r.below(labels) as u8];
+    while period.len() < most {
+        match r.below(3) {
+            0 => period = period.repeat(2 + r.below(2)),
+            1 => {
+                let half = period.len() / 2;
+                period.extend_from_within(half..);
+            }
+            _ => period.push(r.below(labels) as u8),
+        }
+    }
+    period.truncate(most.max(1));
+    period
+}
+
 /// The deepest group of a run.
 pub fn depth(items: &[Item]) -> usize {
     let inside = |item: &Item| if let Item::Group(_, body) = item { 1 + depth(body) } else { 0 };

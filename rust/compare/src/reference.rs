@@ -75,7 +75,7 @@ impl Prices {
         ahead
     }
 
-    fn step(&self, label: u8) -> u64 {
+    pub(crate) fn step(&self, label: u8) -> u64 {
         self.steps[label as usize] as u64
     }
 
@@ -83,7 +83,7 @@ impl Prices {
         self.groups[label as usize] as u64
     }
 
-    fn repeat(&self, count: usize) -> u64 {
+    pub(crate) fn repeat(&self, count: usize) -> u64 {
         self.first as u64 + self.each as u64 * (count as u64 - 2)
     }
 }
@@ -217,20 +217,33 @@ struct Open {
     length_before: u64,
 }
 
-/// What an input is read by.
+/// What a kind of runs and their folds are held to.
 #[derive(Clone, Copy)]
-struct Rules<'a> {
-    /// That of a fold; a run has none, for it has no repeats.
-    family: Option<Family>,
-    limit: usize,
-    prices: Option<&'a Prices>,
+pub(crate) struct Limits {
+    pub nodes: usize,
+    /// The highest width limit.
+    pub width: usize,
+    /// Whether there may be groups.
+    pub groups: bool,
 }
 
-const RUN: Rules = Rules { family: None, limit: 0, prices: None };
+const ANY: Limits = Limits { nodes: 1024, width: 1024, groups: true };
+
+/// What an input is read by.
+#[derive(Clone, Copy)]
+pub(crate) struct Rules<'a> {
+    pub limits: Limits,
+    /// That of a fold; a run has none, for it has no repeats.
+    pub family: Option<Family>,
+    pub limit: usize,
+    pub prices: Option<&'a Prices>,
+}
+
+const RUN: Rules = Rules { limits: ANY, family: None, limit: 0, prices: None };
 
 /// Those of a fold for who takes neither limit nor prices: this is the highest width operand that there is.
 fn alone<'a>(family: Family) -> Rules<'a> {
-    Rules { family: Some(family), limit: 65_535, prices: None }
+    Rules { limits: ANY, family: Some(family), limit: 65_535, prices: None }
 }
 
 /// An input that is read from left to right: the offset of the next command, and what the commands before it came to.
@@ -247,7 +260,7 @@ struct Reader<'a> {
 }
 
 /// Reads commands from left to right by the table of numbered refusals.
-fn read(bytes: &[u8], rules: Rules) -> Result<Answer, Answer> {
+pub(crate) fn read(bytes: &[u8], rules: Rules) -> Result<Answer, Answer> {
     let open = Vec::new();
     let mut reader =
         Reader { bytes, rules, at: 0, open, siblings: 0, nodes: 0, length: 0, cost: 0, just_opened: false };
@@ -294,6 +307,9 @@ impl Reader<'_> {
         if self.rules.family.is_none() && (command == 0x20 || command == 0x21) {
             return self.refuse(2);
         }
+        if command == 0x11 && !self.rules.limits.groups {
+            return self.refuse(21);
+        }
         if self.bytes.len() - self.at - 1 < operands {
             return Err(Answer::refuse(3, self.bytes.len()));
         }
@@ -317,7 +333,7 @@ impl Reader<'_> {
         if self.count_open(0x21) > 0 && self.rules.prices.is_some_and(|p| p.marked(label)) {
             return self.refuse(19);
         }
-        if self.nodes + 1 > 1024 {
+        if self.nodes + 1 > self.rules.limits.nodes as u64 {
             return self.refuse(10);
         }
         self.nodes += 1;
@@ -375,7 +391,7 @@ impl Reader<'_> {
             return Ok(());
         }
         let more = ended.count - 1;
-        if self.nodes + more * (self.nodes - ended.nodes_before) > 1024 {
+        if self.nodes + more * (self.nodes - ended.nodes_before) > self.rules.limits.nodes as u64 {
             return self.refuse(10);
         }
         if self.siblings != ended.width {
@@ -388,7 +404,7 @@ impl Reader<'_> {
     }
 }
 
-fn either(read: Result<Answer, Answer>) -> Answer {
+pub(crate) fn either(read: Result<Answer, Answer>) -> Answer {
     read.unwrap_or_else(|refused| refused)
 }
 
@@ -398,14 +414,14 @@ pub fn read_run(run: &[u8]) -> Answer {
 }
 
 /// Refusals 11, 15, 12 and 18, for those who take tables, a limit and marks.
-fn terms(limit: usize, prices: Option<&Prices>) -> Result<(), Answer> {
+pub(crate) fn terms(limits: Limits, limit: usize, prices: Option<&Prices>) -> Result<(), Answer> {
     if prices.is_some_and(|p| p.steps.len() != 256) {
         return Err(Answer::refuse(11, 0));
     }
     if prices.is_some_and(|p| p.groups.len() != 256) {
         return Err(Answer::refuse(15, 0));
     }
-    if limit > 1024 {
+    if limit > limits.width {
         return Err(Answer::refuse(12, 0));
     }
     if prices.is_some_and(|p| p.marks.len() != 256 || p.marks.iter().any(|mark| ![0, 1].contains(mark))) {
@@ -421,8 +437,8 @@ pub fn read_fold(fold: &[u8], limit: usize, prices: &Prices) -> Answer {
 
 /// The fold reader or, in the short family, the short reader.
 pub fn read_in(family: Family, fold: &[u8], limit: usize, prices: &Prices) -> Answer {
-    let rules = Rules { family: Some(family), limit, prices: Some(prices) };
-    either(terms(limit, rules.prices).and_then(|()| read(fold, rules)))
+    let rules = Rules { limits: ANY, family: Some(family), limit, prices: Some(prices) };
+    either(terms(ANY, limit, rules.prices).and_then(|()| read(fold, rules)))
 }
 
 /// The items of accepted bytes, of either family.
@@ -495,7 +511,7 @@ pub fn written(bytes: Result<Vec<u8>, Answer>, room: usize) -> (Answer, Vec<u8>)
 /// The unroller: its answer where the output has room for `room` bytes, and the bytes it writes.
 pub fn unroll(fold: &[u8], limit: usize, room: usize) -> (Answer, Vec<u8>) {
     let rules = Rules { limit, ..alone(Family::Long) };
-    written(terms(limit, None).and_then(|()| read(fold, rules)).map(|_| run_of(fold)), room)
+    written(terms(ANY, limit, None).and_then(|()| read(fold, rules)).map(|_| run_of(fold)), room)
 }
 
 /// A node of the run that a fold unrolls to, and where the command that it comes from stands in the fold.
@@ -749,7 +765,7 @@ impl Solved {
 }
 
 pub fn solve(run: &[u8], limit: usize, prices: &Prices) -> Result<Solved, Answer> {
-    terms(limit, Some(prices))?;
+    terms(ANY, limit, Some(prices))?;
     let nodes = read(run, RUN)?.nodes;
     let Ranked { cost, bytes, .. } = cheapest(&decode(run), limit, prices);
     Ok(Solved { nodes, cost, bytes })
@@ -758,7 +774,12 @@ pub fn solve(run: &[u8], limit: usize, prices: &Prices) -> Result<Solved, Answer
 /// The answer for the lent slices' sizes: 13, then 14.
 pub fn lend(solved: &Solved, costs: usize, choices: usize, room: usize) -> (Answer, Vec<u8>) {
     let needed = solved.nodes * (solved.nodes + 1) / 2;
-    if costs < needed || choices < needed {
+    lend_work(solved, costs >= needed && choices >= needed, room)
+}
+
+/// The same by whether the work is enough.
+pub(crate) fn lend_work(solved: &Solved, enough: bool, room: usize) -> (Answer, Vec<u8>) {
+    if !enough {
         return (Answer::refuse(13, 0), Vec::new());
     }
     if room < solved.bytes.len() {

@@ -1,7 +1,7 @@
 //! The wrapper has the functions, refusals and limits of the C header, under the same names, and says a refusal's condition in
 //! the words of docs/REFUSALS.md.
 
-use runfold::{fold_room, raw, work_entries, Refusal};
+use runfold::{fold_room, raw, season_work_entries, work_entries, Refusal};
 
 const HEADER: &str = include_str!("../../../include/runfold.h");
 const DECLARED: &str = include_str!("../../runfold/src/declared.rs");
@@ -77,6 +77,9 @@ fn limits_and_entries_are_as_in_the_header() {
         ("RUNFOLD_MAX_REPEATS", runfold::MAX_REPEATS),
         ("RUNFOLD_MAX_WIDTH", runfold::MAX_WIDTH),
         ("RUNFOLD_MAX_RUN", runfold::RUN_ROOM),
+        ("RUNFOLD_SEASON_NODES", runfold::SEASON_NODES),
+        ("RUNFOLD_SEASON_WIDTH", runfold::SEASON_WIDTH),
+        ("RUNFOLD_SEASON_RUN", runfold::SEASON_RUN_ROOM),
         ("RUNFOLD_STACK", runfold::STACK),
         ("RUNFOLD_ENTRIES", raw::ENTRIES),
         ("RUNFOLD_REFUSAL", raw::REFUSAL),
@@ -94,8 +97,10 @@ fn limits_and_entries_are_as_in_the_header() {
         assert_eq!(in_header(name), Some(value as u64), "{name}");
     }
     assert_eq!((work_entries(1024), fold_room(1024)), (524_800, 4096));
+    assert_eq!([0, 1, 65_535].map(season_work_entries), [256, 512, 16_777_216]);
     // Far beyond the longest run they stay at the highest number.
     assert_eq!((work_entries(usize::MAX), fold_room(usize::MAX)), (usize::MAX / 2, usize::MAX));
+    assert_eq!(season_work_entries(usize::MAX), usize::MAX);
 }
 
 #[test]

@@ -123,9 +123,53 @@ extern "C" {
         answer: *mut u64,
         answer_len: usize,
     ) -> u8;
+    pub fn runfold_read_season_run(run: *const u8, run_len: usize, answer: *mut u64, answer_len: usize) -> u8;
+    pub fn runfold_read_season(
+        fold: *const u8,
+        fold_len: usize,
+        limit: usize,
+        steps: *const u16,
+        steps_len: usize,
+        groups: *const u16,
+        groups_len: usize,
+        marks: *const u8,
+        marks_len: usize,
+        first: u16,
+        each: u16,
+        answer: *mut u64,
+        answer_len: usize,
+    ) -> u8;
+    pub fn runfold_unroll_season(
+        fold: *const u8,
+        fold_len: usize,
+        limit: usize,
+        out: *mut u8,
+        out_len: usize,
+        answer: *mut u64,
+        answer_len: usize,
+    ) -> u8;
+    pub fn runfold_fold_season(
+        run: *const u8,
+        run_len: usize,
+        limit: usize,
+        steps: *const u16,
+        steps_len: usize,
+        groups: *const u16,
+        groups_len: usize,
+        marks: *const u8,
+        marks_len: usize,
+        first: u16,
+        each: u16,
+        work: *mut u32,
+        work_len: usize,
+        out: *mut u8,
+        out_len: usize,
+        answer: *mut u64,
+        answer_len: usize,
+    ) -> u8;
 }
 
-/// What `runfold_read_fold` and `runfold_read_short` are.
+/// What `runfold_read_fold`, `runfold_read_short` and `runfold_read_season` are.
 pub type ReadFold = unsafe extern "C" fn(
     fold: *const u8,
     fold_len: usize,
@@ -138,6 +182,17 @@ pub type ReadFold = unsafe extern "C" fn(
     marks_len: usize,
     first: u16,
     each: u16,
+    answer: *mut u64,
+    answer_len: usize,
+) -> u8;
+
+/// What `runfold_unroll` and `runfold_unroll_season` are.
+pub type Unroll = unsafe extern "C" fn(
+    fold: *const u8,
+    fold_len: usize,
+    limit: usize,
+    out: *mut u8,
+    out_len: usize,
     answer: *mut u64,
     answer_len: usize,
 ) -> u8;

@@ -2,7 +2,8 @@
 //! repeats, priced by the costs of steps, of groups and of repeats; a marked label stands in no repeat. The folder gives
 //! the cheapest fold of a run, the fold reader reads a fold and gives its cost, the unroller gives the run back, and the finder
 //! a single node of it, by an index that is kept beside the fold. A fold also has a *short form*, in which a repeat takes two
-//! bytes less where its count and width are below 256: there are a reader and a folder of it, and both conversions.
+//! bytes less where its count and width are below 256: there are a reader and a folder of it, and both conversions. A run of a
+//! whole *season* is flat, steps alone, and has up to 65,535 of them: it has readers, an unroller and a folder of its own.
 //! `docs/FORMAT.md` has the bytes of runs and folds.
 //!
 //! ```
@@ -33,8 +34,9 @@
 //! their proofs in `crates/embed/proofs` and the crates below it, and `docs/CERTIFICATE.md` lists what they promise: every
 //! input has an answer, the one that the definitions give; a fold that the folder writes is a fold of its run within the width
 //! limit and with no marked label in a repeat, and no other such fold is cheaper; of several cheapest it has the fewest
-//! repeats, and of several such it is the one whose bytes come first; the finder gives the node that unrolling writes at the
-//! position; a fold comes back from its short form as it was; no function reads or writes outside the slices that it is lent.
+//! repeats, and of several such it is the one whose bytes come first; so it is with the season folder, which up to 1,024 steps
+//! writes what the folder writes; the finder gives the node that unrolling writes at the position; a fold comes back from its
+//! short form as it was; no function reads or writes outside the slices that it is lent.
 //!
 //! The library asks one thing of a caller: a slice that is written overlaps no other. That follows from the types here, so
 //! every function is safe to call with any arguments. None keeps state, and they may run in several threads at once. With the
@@ -45,9 +47,9 @@
 //!
 //! # Memory
 //!
-//! Only [`folded`] allocates; the crate is `no_std`. [`fold`] and [`fold_short`] are lent their work and their output,
-//! [`unroll`], [`to_short`] and [`to_long`] their output, [`index`] the slices that it fills, and the others need none. A call
-//! takes up to [`STACK`] bytes of stack; `docs/CERTIFICATE.md` has each function's own.
+//! Only [`folded`] allocates; the crate is `no_std`. [`fold`], [`fold_short`] and [`fold_season`] are lent their work and their
+//! output, [`unroll`], [`unroll_season`], [`to_short`] and [`to_long`] their output, [`index`] the slices that it fills, and the
+//! others need none. A call takes up to [`STACK`] bytes of stack; `docs/CERTIFICATE.md` has each function's own.
 //!
 //! # Linking
 //!
@@ -77,11 +79,18 @@ pub const MAX_REPEATS: usize = 10;
 /// The highest width limit. No repeat of 1,024 nodes is wider, so this is no limit at all.
 pub const MAX_WIDTH: usize = 1024;
 
+/// The steps of the longest season run.
+pub const SEASON_NODES: usize = 65_535;
+/// The highest width limit for a season.
+pub const SEASON_WIDTH: usize = 32;
+
 /// The bytes that a run has at most, three a node: room for whatever the unroller writes.
 pub const RUN_ROOM: usize = 3 * MAX_NODES;
+/// The bytes that a season run has at most, two a step: room for whatever the season unroller writes.
+pub const SEASON_RUN_ROOM: usize = 2 * SEASON_NODES;
 
-/// The bytes that a fold of a run of that many nodes has at most, also where it is longer than the run. Its short form is no
-/// longer.
+/// The bytes that a fold of a run of that many nodes has at most, also where it is longer than the run, and a season fold too.
+/// A short form is no longer.
 pub const fn fold_room(nodes: usize) -> usize {
     nodes.saturating_mul(4)
 }
@@ -89,6 +98,11 @@ pub const fn fold_room(nodes: usize) -> usize {
 /// The entries that each work slice of the folder needs for a run of that many nodes.
 pub const fn work_entries(nodes: usize) -> usize {
     nodes.saturating_add(1).saturating_mul(nodes) / 2
+}
+
+/// The entries that the work slice of the season folder needs for a run of that many steps.
+pub const fn season_work_entries(steps: usize) -> usize {
+    steps.saturating_add(1).saturating_mul(256)
 }
 
 /// The bytes of stack that a call takes at most, as measured: what a thread that folds has to have left.
@@ -126,7 +140,7 @@ pub struct Prices<'a> {
     pub each: u16,
 }
 
-/// What the run reader gives.
+/// What run reader and season run reader give.
 #[derive(Clone, Copy, Debug, PartialEq, Eq, Hash)]
 pub struct RunReading {
     /// The nodes of the run: its steps and its groups.
@@ -137,7 +151,7 @@ pub struct RunReading {
     pub depth: usize,
 }
 
-/// What fold reader and short reader give.
+/// What fold reader, short reader and season reader give.
 #[derive(Clone, Copy, Debug, PartialEq, Eq, Hash)]
 pub struct FoldReading {
     /// The nodes of the run that the fold unrolls to.
@@ -152,7 +166,7 @@ pub struct FoldReading {
     pub depth: usize,
 }
 
-/// What folder and short folder give.
+/// What the folders give.
 #[derive(Clone, Copy, Debug, PartialEq, Eq, Hash)]
 pub struct Folding {
     /// The bytes of the fold, written at the front of the output.
@@ -204,7 +218,12 @@ fn answered(status: u8, answer: &[u64; raw::ENTRIES]) -> Result<(), Refusal> {
 /// ```
 pub fn read_run(run: &[u8]) -> Result<RunReading, Refusal> {
     let mut answer = [0; raw::ENTRIES];
-    answered(raw::read_run(run, &mut answer), &answer)?;
+    run_reading(raw::read_run(run, &mut answer), &answer)
+}
+
+/// What run reader or season run reader answered.
+fn run_reading(status: u8, answer: &[u64; raw::ENTRIES]) -> Result<RunReading, Refusal> {
+    answered(status, answer)?;
     Ok(RunReading {
         nodes: answer[raw::NODES] as usize,
         steps: answer[raw::STEPS] as usize,
@@ -231,7 +250,7 @@ pub fn read_fold(fold: &[u8], limit: usize, prices: Prices) -> Result<FoldReadin
     fold_reading(raw::read_fold(fold, limit, steps, groups, marks, first, each, &mut answer), &answer)
 }
 
-/// What fold reader or short reader answered.
+/// What a reader of folds answered.
 fn fold_reading(status: u8, answer: &[u64; raw::ENTRIES]) -> Result<FoldReading, Refusal> {
     answered(status, answer)?;
     Ok(FoldReading {
@@ -295,7 +314,7 @@ pub fn fold(
     folding(raw::fold(run, limit, steps, groups, marks, first, each, costs, choices, out, &mut answer), &answer)
 }
 
-/// What folder or short folder answered.
+/// What a folder answered.
 fn folding(status: u8, answer: &[u64; raw::ENTRIES]) -> Result<Folding, Refusal> {
     answered(status, answer)?;
     Ok(Folding { length: answer[raw::LENGTH] as usize, cost: answer[raw::COST] })
@@ -463,4 +482,83 @@ pub fn to_long(fold: &[u8], out: &mut [u8]) -> Result<usize, Refusal> {
     let mut answer = [0; raw::ENTRIES];
     answered(raw::to_long(fold, out, &mut answer), &answer)?;
     Ok(answer[raw::LENGTH] as usize)
+}
+
+/// Reads a season run, which has steps alone and up to [`SEASON_NODES`] of them, and gives their number; the depth is 0.
+///
+/// Refusals 1 to 4, 10 and 21.
+///
+/// ```
+/// use runfold::{read_season_run, Refusal, RunReading};
+///
+/// let run = [0x10, 0x01].repeat(2000);
+/// assert_eq!(read_season_run(&run)?, RunReading { nodes: 2000, steps: 2000, depth: 0 });
+/// // A group is refused where it opens, also where its label is missing.
+/// assert_eq!(read_season_run(&[0x10, 0x01, 0x11]), Err(Refusal::GroupInSeason { place: 2 }));
+/// # Ok::<(), Refusal>(())
+/// ```
+pub fn read_season_run(run: &[u8]) -> Result<RunReading, Refusal> {
+    let mut answer = [0; raw::ENTRIES];
+    run_reading(raw::read_season_run(run, &mut answer), &answer)
+}
+
+/// Reads a season fold, which has steps and repeats alone, as [`read_fold`] reads a fold: its widths are at most `limit`, which
+/// is at most [`SEASON_WIDTH`], and its run has at most [`SEASON_NODES`] steps.
+///
+/// Refusals 1, 3 to 12, 15, 18, 19 and 21.
+pub fn read_season(fold: &[u8], limit: usize, prices: Prices) -> Result<FoldReading, Refusal> {
+    let mut answer = [0; raw::ENTRIES];
+    let Prices { steps, groups, marks, first, each } = prices;
+    fold_reading(raw::read_season(fold, limit, steps, groups, marks, first, each, &mut answer), &answer)
+}
+
+/// Unrolls a season fold as [`unroll`] does a fold, and gives the length of its run. [`SEASON_RUN_ROOM`] bytes are always
+/// enough.
+///
+/// Refusals 1, 3 to 10, 12, 14 and 21.
+pub fn unroll_season(fold: &[u8], limit: usize, out: &mut [u8]) -> Result<usize, Refusal> {
+    let mut answer = [0; raw::ENTRIES];
+    answered(raw::unroll_season(fold, limit, out, &mut answer), &answer)?;
+    Ok(answer[raw::LENGTH] as usize)
+}
+
+/// Folds a season run: gives the cheapest fold whose widths are at most `limit`, which is at most [`SEASON_WIDTH`], in the order
+/// of [`fold`]. Up to [`MAX_NODES`] steps its bytes are those that [`fold`] writes at the same limit and prices.
+///
+/// `work` may have any contents; it needs [`season_work_entries`] of the run's steps. [`fold_room`] of them is always enough
+/// for `out`, which is written as there. On success and after refusal 14 the entries of `work` that the run needs are 0, and
+/// those behind them as they were; after any other refusal all are as they were.
+///
+/// Refusals 1 to 4, 10 to 15, 18 and 21.
+///
+/// ```
+/// use runfold::{fold_room, fold_season, season_work_entries, unroll_season};
+/// use runfold::{Folding, Prices, Refusal, SEASON_NODES, SEASON_RUN_ROOM, SEASON_WIDTH};
+///
+/// // The longest run: ab, steps of labels 01 and 02, again and again, and an a.
+/// let run = [[0x10, 0x01, 0x10, 0x02].repeat(SEASON_NODES / 2), vec![0x10, 0x01]].concat();
+/// let mut work = vec![0; season_work_entries(SEASON_NODES)];
+/// let mut out = vec![0; fold_room(SEASON_NODES)];
+/// let prices = Prices { steps: &[1; 256], groups: &[1; 256], marks: &[0; 256], first: 1, each: 0 };
+/// let folding = fold_season(&run, SEASON_WIDTH, prices, &mut work, &mut out)?;
+/// // Of the folds for 4, all of one repeat, a plain step goes first: a, then ba 32,767 times.
+/// let fold = [0x10, 0x01, 0x20, 0x7F, 0xFF, 0x00, 0x02, 0x10, 0x02, 0x10, 0x01, 0x21];
+/// assert_eq!(folding, Folding { length: fold.len(), cost: 4 });
+/// assert_eq!(out[..folding.length], fold);
+///
+/// let mut back = vec![0; SEASON_RUN_ROOM];
+/// let length = unroll_season(&fold, SEASON_WIDTH, &mut back)?;
+/// assert_eq!(back[..length], run);
+/// # Ok::<(), Refusal>(())
+/// ```
+pub fn fold_season(
+    run: &[u8],
+    limit: usize,
+    prices: Prices,
+    work: &mut [u32],
+    out: &mut [u8],
+) -> Result<Folding, Refusal> {
+    let mut answer = [0; raw::ENTRIES];
+    let Prices { steps, groups, marks, first, each } = prices;
+    folding(raw::fold_season(run, limit, steps, groups, marks, first, each, work, out, &mut answer), &answer)
 }

@@ -14,17 +14,16 @@ pub const ENTRIES: usize = 7;
 pub const REFUSAL: usize = 0;
 /// Where the place of a refusal stands: an offset in the input, 0 for refusals 11 to 18 and on success.
 pub const PLACE: usize = 1;
-/// Where the nodes of the run stand (run reader, fold reader, short reader).
+/// Where the nodes of the run stand (the readers).
 pub const NODES: usize = 2;
-/// Where a length stands: of the run that a fold unrolls to (fold reader, short reader), or of what was written (unroller,
-/// folder, short folder, conversions).
+/// Where a length stands: of the run that a fold unrolls to (the readers of folds), or of what was written (unrollers, folders,
+/// conversions).
 pub const LENGTH: usize = 3;
-/// Where the cost of a fold stands (fold reader, short reader, folder, short folder).
+/// Where the cost of a fold stands (the readers of folds, folders).
 pub const COST: usize = 4;
-/// Where the number of the run's nodes that are steps stands (run reader, fold reader, short reader).
+/// Where the number of the run's nodes that are steps stands (the readers).
 pub const STEPS: usize = 5;
-/// Where the most groups of the run that are open together stand, 0 for a run without groups (run reader, fold reader, short
-/// reader).
+/// Where the most groups of the run that are open together stand, 0 for a run without groups (the readers).
 pub const DEPTH: usize = 6;
 /// Where the number of an index's entries stands (index builder).
 pub const INDEXED: usize = 2;
@@ -85,7 +84,7 @@ pub fn read_short(
     read_by(declared::runfold_read_short, fold, limit, steps, groups, marks, first, each, answer)
 }
 
-/// Fold reader and short reader, by the library's function.
+/// Fold reader, short reader and season reader, by the library's function.
 #[allow(clippy::too_many_arguments)] // The C functions have them.
 fn read_by(
     read: declared::ReadFold,
@@ -120,18 +119,13 @@ fn read_by(
 
 /// The unroller: as [`unroll`](crate::unroll), with [`LENGTH`] in the answer.
 pub fn unroll(fold: &[u8], limit: usize, out: &mut [u8], answer: &mut [u64]) -> u8 {
+    unroll_by(declared::runfold_unroll, fold, limit, out, answer)
+}
+
+/// Unroller and season unroller, by the library's function.
+fn unroll_by(unroll: declared::Unroll, fold: &[u8], limit: usize, out: &mut [u8], answer: &mut [u64]) -> u8 {
     // SAFETY: see above.
-    unsafe {
-        declared::runfold_unroll(
-            fold.as_ptr(),
-            fold.len(),
-            limit,
-            out.as_mut_ptr(),
-            out.len(),
-            answer.as_mut_ptr(),
-            answer.len(),
-        )
-    }
+    unsafe { unroll(fold.as_ptr(), fold.len(), limit, out.as_mut_ptr(), out.len(), answer.as_mut_ptr(), answer.len()) }
 }
 
 /// The folder: as [`fold`](crate::fold), with [`LENGTH`] and [`COST`] in the answer. `steps` and `groups` have the costs of
@@ -264,4 +258,68 @@ pub fn to_long(fold: &[u8], out: &mut [u8], answer: &mut [u64]) -> u8 {
 fn convert_by(convert: declared::Convert, fold: &[u8], out: &mut [u8], answer: &mut [u64]) -> u8 {
     // SAFETY: see above.
     unsafe { convert(fold.as_ptr(), fold.len(), out.as_mut_ptr(), out.len(), answer.as_mut_ptr(), answer.len()) }
+}
+
+/// The season run reader: as [`read_season_run`](crate::read_season_run), with the answer of [`read_run`].
+pub fn read_season_run(run: &[u8], answer: &mut [u64]) -> u8 {
+    // SAFETY: see above.
+    unsafe { declared::runfold_read_season_run(run.as_ptr(), run.len(), answer.as_mut_ptr(), answer.len()) }
+}
+
+/// The season reader: as [`read_season`](crate::read_season), with the arguments and the answer of [`read_fold`].
+#[allow(clippy::too_many_arguments)] // The C function has them.
+pub fn read_season(
+    fold: &[u8],
+    limit: usize,
+    steps: &[u16],
+    groups: &[u16],
+    marks: &[u8],
+    first: u16,
+    each: u16,
+    answer: &mut [u64],
+) -> u8 {
+    read_by(declared::runfold_read_season, fold, limit, steps, groups, marks, first, each, answer)
+}
+
+/// The season unroller: as [`unroll_season`](crate::unroll_season), with [`LENGTH`] in the answer.
+pub fn unroll_season(fold: &[u8], limit: usize, out: &mut [u8], answer: &mut [u64]) -> u8 {
+    unroll_by(declared::runfold_unroll_season, fold, limit, out, answer)
+}
+
+/// The season folder: as [`fold_season`](crate::fold_season), with the answer of [`fold`] and one slice of work.
+#[allow(clippy::too_many_arguments)] // The C function has them.
+pub fn fold_season(
+    run: &[u8],
+    limit: usize,
+    steps: &[u16],
+    groups: &[u16],
+    marks: &[u8],
+    first: u16,
+    each: u16,
+    work: &mut [u32],
+    out: &mut [u8],
+    answer: &mut [u64],
+) -> u8 {
+    // SAFETY: see above.
+    unsafe {
+        declared::runfold_fold_season(
+            run.as_ptr(),
+            run.len(),
+            limit,
+            steps.as_ptr(),
+            steps.len(),
+            groups.as_ptr(),
+            groups.len(),
+            marks.as_ptr(),
+            marks.len(),
+            first,
+            each,
+            work.as_mut_ptr(),
+            work.len(),
+            out.as_mut_ptr(),
+            out.len(),
+            answer.as_mut_ptr(),
+            answer.len(),
+        )
+    }
 }

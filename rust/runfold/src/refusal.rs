@@ -66,14 +66,14 @@ pub enum Refusal {
         /// The close's offset.
         place: usize,
     },
-    /// 10: the node total would pass 1,024.
+    /// 10: the node total would pass 1,024, or 65,535 in a season.
     ManyNodes {
         /// The command's offset.
         place: usize,
     },
     /// 11: the costs of steps are not 256 entries.
     StepTableSize,
-    /// 12: the width limit is over 1,024.
+    /// 12: the width limit is over 1,024, or over 32 for a season.
     LimitSize,
     /// 13: a work slice is too short.
     WorkSize,
@@ -95,6 +95,11 @@ pub enum Refusal {
     /// 20: in a short fold a `20` whose count and width are both below 256, where a `22` should stand.
     LongInShort {
         /// The command's offset.
+        place: usize,
+    },
+    /// 21: a group in a season run or a season fold.
+    GroupInSeason {
+        /// The offset of its `11`.
         place: usize,
     },
 }
@@ -126,11 +131,12 @@ impl Refusal {
             18 => WrongMarks,
             19 => MarkedInRepeat { place },
             20 => LongInShort { place },
+            21 => GroupInSeason { place },
             _ => return None,
         })
     }
 
-    /// Its number, 1 to 20.
+    /// Its number, 1 to 21.
     pub const fn number(self) -> u8 {
         match self {
             UnknownCommand { .. } => 1,
@@ -153,6 +159,7 @@ impl Refusal {
             WrongMarks => 18,
             MarkedInRepeat { .. } => 19,
             LongInShort { .. } => 20,
+            GroupInSeason { .. } => 21,
         }
     }
 
@@ -170,7 +177,8 @@ impl Refusal {
             | FalseWidth { place }
             | ManyNodes { place }
             | MarkedInRepeat { place }
-            | LongInShort { place } => place,
+            | LongInShort { place }
+            | GroupInSeason { place } => place,
             StepTableSize | LimitSize | WorkSize | OutputSize | GroupTableSize | PastEnd | FalseIndex | WrongMarks => 0,
         }
     }
@@ -187,9 +195,9 @@ impl Refusal {
             Wide { .. } => "width operand over the limit",
             Deep { .. } => "a 9th open group or an 11th open repeat",
             FalseWidth { .. } => "width operand not the true width, found at 21",
-            ManyNodes { .. } => "node total would pass 1,024",
+            ManyNodes { .. } => "node total would pass 1,024, or 65,535 in a season",
             StepTableSize => "step cost table not of 256 entries",
-            LimitSize => "width limit over 1,024",
+            LimitSize => "width limit over 1,024, or over 32 for a season",
             WorkSize => "a work slice too short",
             OutputSize => "output shorter than the result",
             GroupTableSize => "group cost table not of 256 entries",
@@ -198,6 +206,7 @@ impl Refusal {
             WrongMarks => "marks not of 256 entries, or an entry above 1",
             MarkedInRepeat { .. } => "a marked label inside a repeat",
             LongInShort { .. } => "20 in the short family with count and width both below 256",
+            GroupInSeason { .. } => "a group in a season run or a season fold",
         }
     }
 }
@@ -217,12 +226,12 @@ mod tests {
 
     #[test]
     fn numbers_and_places_come_back() {
-        for number in 1..=20 {
+        for number in 1..=21 {
             let refusal = Refusal::numbered(number, 7).expect("a refusal");
             assert_eq!(refusal.number(), number);
             assert_eq!(refusal.place(), if (11..=18).contains(&number) { 0 } else { 7 });
         }
-        for other in [0, 21, crate::raw::SHORT] {
+        for other in [0, 22, crate::raw::SHORT] {
             assert_eq!(Refusal::numbered(other, 0), None);
         }
     }

@@ -4,7 +4,8 @@
 //!
 //! Usage: `benchmark PAGE PLOT DATE CODES`, where CODES is a file with a line for each code that is measured: name, compiler,
 //! flags, and how many of its instructions name a vector register of 16, 32 and 64 bytes, between bars. `benchmark finding`
-//! prints finding beside unrolling alone.
+//! prints finding beside unrolling alone, and `benchmark season` the season folder beside its method in plain Rust and beside
+//! the folder.
 
 use compare::finding;
 use compare::inputs::families::{self, Kind};
@@ -14,6 +15,7 @@ use compare::measured::{Finding, Row, Times, SIZES};
 use compare::page::{finding_losses, finding_table, page_text, summary_table, Code, Results};
 use compare::plot::plot_text;
 use compare::reference::Prices;
+use compare::season_timing;
 use compare::timing::Bench;
 use runfold::MAX_NODES;
 
@@ -46,8 +48,12 @@ fn main() {
         findings();
         return;
     }
+    if args == ["season"] {
+        println!("{}\n{}", machine(), season_timing::report());
+        return;
+    }
     let [page, plot, date, codes] = &args[..] else {
-        panic!("usage: benchmark PAGE PLOT DATE CODES, or benchmark finding")
+        panic!("usage: benchmark PAGE PLOT DATE CODES, or benchmark finding, or benchmark season")
     };
     let codes = std::fs::read_to_string(codes).expect("the file of codes is read");
     let codes: Vec<Code> = codes.lines().map(|line| Code::new(line).expect("a line of the file of codes")).collect();

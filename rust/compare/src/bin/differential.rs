@@ -3,13 +3,16 @@
 //!
 //! Usage: `differential [SEED [SCALE]]`. One seed and scale give one run. The first difference ends it and prints its input.
 
+#[path = "differential/season.rs"]
+mod season;
 #[path = "differential/short.rs"]
 mod short;
 
 use compare::inputs::{self, depth, marking, Random};
 use compare::reference::{self, decode, Answer, Family, Item, Listed, Prices, Ranked, Solved};
 use runfold::raw::{self, ENTRIES, SHORT};
-use runfold::{work_entries, MAX_NODES, MAX_WIDTH, RUN_ROOM};
+use runfold::{work_entries, MAX_NODES, MAX_WIDTH, RUN_ROOM, SEASON_WIDTH};
+use season::Seasons;
 use std::collections::HashMap;
 use std::fmt::Write;
 use std::process::exit;
@@ -29,11 +32,15 @@ enum Entry {
     ShortFolder,
     ToShort,
     ToLong,
+    SeasonRun,
+    SeasonFold,
+    SeasonUnroll,
+    SeasonFolder,
 }
 
 use Entry::*;
 
-const ENTRY_NAMES: [&str; 11] = [
+const ENTRY_NAMES: [&str; 15] = [
     "run reader",
     "part of a node",
     "fold reader",
@@ -45,6 +52,10 @@ const ENTRY_NAMES: [&str; 11] = [
     "short folder",
     "to short form",
     "to long form",
+    "season run reader",
+    "season reader",
+    "season unroller",
+    "season folder",
 ];
 
 impl Entry {
@@ -59,13 +70,17 @@ impl Entry {
             _ => Family::Long,
         }
     }
+
+    fn is_of_season(self) -> bool {
+        [SeasonRun, SeasonFold, SeasonUnroll, SeasonFolder].contains(&self)
+    }
 }
 
 /// One more than the highest refusal.
-const NUMBERS: usize = 21;
+const NUMBERS: usize = 22;
 
 /// The refusals that each entry point can give.
-const POSSIBLE: [&[u8]; 11] = [
+const POSSIBLE: [&[u8]; 15] = [
     &[1, 2, 3, 4, 5, 8, 10],
     &[],
     &[1, 3, 4, 5, 6, 7, 8, 9, 10, 11, 12, 15, 18, 19],
@@ -77,14 +92,18 @@ const POSSIBLE: [&[u8]; 11] = [
     &[1, 2, 3, 4, 5, 8, 10, 11, 12, 13, 14, 15, 18],
     &[1, 3, 4, 5, 6, 8, 9, 10, 14],
     &[1, 3, 4, 5, 6, 8, 9, 10, 14, 20],
+    &[1, 2, 3, 4, 10, 21],
+    &[1, 3, 4, 5, 6, 7, 8, 9, 10, 11, 12, 15, 18, 19, 21],
+    &[1, 3, 4, 5, 6, 7, 8, 9, 10, 12, 14, 21],
+    &[1, 2, 3, 4, 10, 11, 12, 13, 14, 15, 18, 21],
 ];
 
 /// What has to come up: a case that never did is a failure. Where entry points are named it has to come up by each of them.
 const CASES: &[(&[Entry], &[&str])] = &[
-    (&[Fold, Unroll, Index, Find, ShortFold, ToShort, ToLong], &["10 where 9 applies too"]),
+    (&[Fold, Unroll, Index, Find, ShortFold, ToShort, ToLong, SeasonFold, SeasonUnroll], &["10 where 9 applies too"]),
     (&[Index, Find, ToShort, ToLong], &["9 where the highest limit gives 7"]),
     (
-        &[Fold, Folder, ShortFold, ShortFolder],
+        &[Fold, Folder, ShortFold, ShortFolder, SeasonFold, SeasonFolder],
         &[
             "11 where 18 applies too",
             "15 where 18 applies too",
@@ -161,7 +180,23 @@ const CASES: &[(&[Entry], &[&str])] = &[
             "a node found in a damaged fold",
         ],
     ),
-    (&[Run, Fold, Unroll, Folder, Index, Find, ShortFolder, ToShort], &["1 at a 22"]),
+    (
+        &[
+            Run,
+            Fold,
+            Unroll,
+            Folder,
+            Index,
+            Find,
+            ShortFolder,
+            ToShort,
+            SeasonRun,
+            SeasonFold,
+            SeasonUnroll,
+            SeasonFolder,
+        ],
+        &["1 at a 22"],
+    ),
     (
         &[ShortFold, ToLong],
         &[
@@ -189,8 +224,56 @@ const CASES: &[(&[Entry], &[&str])] = &[
             "a 20 in a 22",
         ],
     ),
-    (&[ToShort, ToLong], &["14 by one byte", "an output just long enough", "a longer output", "there and back"]),
+    (
+        &[ToShort, ToLong, SeasonUnroll, SeasonFolder],
+        &["14 by one byte", "an output just long enough", "a longer output"],
+    ),
+    (&[ToShort, ToLong], &["there and back"]),
     (&[ShortFolder, ToShort], &["an output that the long form has no room in"]),
+    (
+        &[SeasonRun, SeasonFold, SeasonUnroll, SeasonFolder],
+        &[
+            "65,535 steps",
+            "10 at a step",
+            "3 where a label of a 65,536th step is missing",
+            "21 where 3 applies too",
+            "21 behind 65,535 steps",
+        ],
+    ),
+    (&[SeasonFold, SeasonUnroll], &["10 at a close", "21 in a repeat", "7 at width 33"]),
+    (
+        &[SeasonFold, SeasonUnroll, SeasonFolder],
+        &["limit 0", "limit 32", "12 at limit 33", "12 at a limit of other folds", "a width of 32"],
+    ),
+    (
+        &[SeasonFolder],
+        &[
+            "0 steps",
+            "1 step",
+            "1,024 steps",
+            "a count above 1,024",
+            "a count of 65,535",
+            "a repeat in a repeat",
+            "a marked label beside repeats",
+            "a cost of all 32 bits",
+        ],
+    ),
+    (
+        &[],
+        &[
+            "13 by one entry of a season's work",
+            "13 where 14 applies too in a season",
+            "13 for the empty season run",
+            "a season folded in work just long enough",
+            "a season folded in longer work",
+            "14 in a season with longer work",
+            "a season fold with repeats and a marked label outside them",
+            "3 for a missing label in a season's repeat, every label marked",
+            "19 right behind a repeat in a season's repeat",
+            "19 in a season where 10 applies too",
+            "a season fold that marks change",
+        ],
+    ),
 ];
 
 /// Their names, each with that of its entry point.
@@ -217,6 +300,7 @@ struct Compare {
     against_lowest: u64,
     longest: usize,
     deepest: usize,
+    seasons: Seasons,
     /// The fold before, whose index is another one.
     last: Listed,
 }
@@ -438,6 +522,9 @@ impl Compare {
         if entry.family() == Family::Short {
             self.refused_in_short(entry, input, refusal, place);
         }
+        if entry.is_of_season() {
+            self.refused_in_season(entry, input, refusal, place);
+        }
     }
 
     fn check_slice<T: PartialEq + std::fmt::Debug>(
@@ -637,24 +724,7 @@ impl Compare {
 
     /// Tables of 256 entries, and marks of 256 labels.
     fn sound_prices(&mut self) -> Prices {
-        let r = &mut self.random;
-        let (steps, first, each): (Vec<u16>, u16, u16) = match r.below(8) {
-            0 | 1 => (vec![1; 256], 1, 0),
-            2 => (vec![1; 256], 0, r.below(2) as u16),
-            3 => (vec![1; 256], 1, r.below(6) as u16),
-            4 => ((0..256).map(|_| r.below(4) as u16).collect(), r.below(4) as u16, r.below(3) as u16),
-            5 => ((0..256).map(|_| r.below(65536) as u16).collect(), r.below(65536) as u16, r.below(65536) as u16),
-            6 => ((0..256).map(|_| r.below(1000) as u16).collect(), r.below(3000) as u16, r.below(100) as u16),
-            _ => (vec![*r.pick(&[0, 1, 65535]); 256], *r.pick(&[0, 1, 2, 65535]), *r.pick(&[0, 1, 65535])),
-        };
-        // Groups cost what steps of their labels do; or each what some step does; or all the same; or anything.
-        let groups = match r.below(5) {
-            0 | 1 => steps.clone(),
-            2 => (0..256).map(|_| *r.pick(&steps)).collect(),
-            3 => vec![*r.pick(&[0, 2, 4, 65535]); 256],
-            _ => (0..256).map(|_| r.below(65536) as u16).collect(),
-        };
-        Prices { steps, groups, marks: inputs::marks(r), first, each }
+        inputs::prices(&mut self.random)
     }
 
     /// The same, but for a table or the marks now and then.
@@ -824,6 +894,9 @@ impl Compare {
         self.index_and_find(bytes);
         self.conversions(bytes);
         self.priced(bytes, limit, &prices);
+        if bytes.len() <= 400 {
+            self.season_bytes(bytes);
+        }
     }
 
     /// The same through those that take costs.
@@ -1320,6 +1393,7 @@ fn main() {
         against_lowest: 0,
         longest: 0,
         deepest: 0,
+        seasons: Seasons::default(),
         last: Listed::default(),
     };
     let done = |what: &str| println!("{:6.1} s  {what}", began.elapsed().as_secs_f64());
@@ -1480,6 +1554,43 @@ fn main() {
     }
     done("random bytes");
 
+    for input in [season::edges(), season::long_edges()].concat() {
+        c.season_edge(&input);
+    }
+    done("the edges of seasons");
+
+    for n in 0..=12 {
+        inputs::every_word(n, &mut |items| {
+            let labels: Vec<u8> = inputs::bytes_of(items).chunks(2).map(|step| step[1]).collect();
+            c.season(&labels, SEASON_WIDTH, &unit());
+            let (limit, prices) = (c.limit().min(SEASON_WIDTH), c.prices());
+            c.season(&labels, limit, &prices);
+        });
+    }
+    for n in 0..=10 {
+        inputs::every_word(n, &mut |items| {
+            let (limit, prices) = (c.limit().min(SEASON_WIDTH), c.sound_prices());
+            c.season_trial(items, limit, &prices);
+            for each in [0, 1] {
+                c.season_trial(items, SEASON_WIDTH, &Prices::by_label(vec![1; 256], 0, each));
+            }
+        });
+    }
+    done("flat runs of up to 12 steps over two labels as seasons, and a trial of every fold of the shorter ones");
+
+    for k in 0..200 * scale {
+        c.season_run(k);
+    }
+    done("flat runs of up to 1,024 steps as seasons");
+
+    c.long_seasons(scale);
+    done("long seasons");
+
+    for k in 0..2000 * scale {
+        c.damaged_season(k);
+    }
+    done("season runs and season folds, sound and damaged");
+
     let mut missing = Vec::new();
     println!("\nrefusals seen, by number (0: accepted)");
     for entry in 0..ENTRY_NAMES.len() {
@@ -1490,7 +1601,7 @@ fn main() {
             .filter(|&n| c.refusals[entry][n] > 0)
             .map(|n| format!("{n}: {}", c.refusals[entry][n]))
             .collect();
-        println!("  {:15} {}", ENTRY_NAMES[entry], seen.join("  "));
+        println!("  {:17} {}", ENTRY_NAMES[entry], seen.join("  "));
         for &number in POSSIBLE[entry] {
             if c.refusals[entry][number as usize] == 0 {
                 missing.push(format!("{} {number}", ENTRY_NAMES[entry]));
@@ -1506,7 +1617,7 @@ fn main() {
         println!("NO FOLD WITH GROUPS PRICED UNLIKE STEPS");
         exit(1);
     }
-    println!("\n9 and 10 together, marks, ties, indexes and positions, and the short family");
+    println!("\n9 and 10 together, marks, ties, indexes and positions, the short family, and seasons");
     for case in case_names() {
         println!("  {case:67} {:8}", c.cases[&case]);
     }
@@ -1517,13 +1628,17 @@ fn main() {
     }
     println!("\ncompared calls");
     for (name, calls) in ENTRY_NAMES.iter().zip(c.calls) {
-        println!("  {name:15} {calls:9}");
+        println!("  {name:17} {calls:9}");
     }
     println!(
         "  folds written and compared byte for byte: {}, and {} in their short form, {} of all with groups priced unlike steps; runs held to a trial of every fold: {}; long runs held to the lowest cost and the fewest repeats: {}",
         c.written[0], c.written[1], c.unlike_tables, c.against_trial, c.against_lowest
     );
     println!("  longest run {} nodes, deepest group {} levels", c.longest, c.deepest);
+    println!(
+        "  season folds written and compared byte for byte: {}, the longest of {} steps; runs whose season fold is the folder's: {}; held to a trial of every fold: {}",
+        c.seasons.written, c.seasons.longest, c.seasons.as_first, c.seasons.against_trial
+    );
     println!(
         "total {} calls compared, 0 differences, seed {seed}, scale {scale}, {:.0} s",
         c.calls.iter().sum::<u64>(),
