@@ -2,3 +2,4 @@
 pub mod Writings
 pub mod Runs
 pub mod Verdicts
+pub mod AsFolder
