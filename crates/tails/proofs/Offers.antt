@@ -9,9 +9,9 @@ use native.Mathlib.Omega.{arith}
 use lib.ListN.{length, getD}
 use Rattle.optimum.proofs.Matches.{copy-more}
 use Rattle.blocks.specs.declared.keys.Key.{Key}
-use Rattle.blocks.specs.Keys.{packed, pair-base, order, Lesser, slot, tail-slot, count-slot, both-in, pair-in, key-in, read-base}
+use Rattle.blocks.specs.Keys.{packed, pair-base, order, Lesser, slot, tail-slot, count-slot, both-in, pair-in, key-in}
 use Rattle.tails.specs.declared.rates.Rates.{Rates}
-use Rattle.tails.specs.Solving.{top-rate, RatesLow, plain-key, repeat-key, Within, OfferCame, kept, taken, Offered, Fits, WidthCame, WidthOffered, StretchCame, by-plain, by-repeat, Stretched, plain-tail, repeat-tail, Twice, TailOffered, TailCame, by-width, Tailed}
+use Rattle.tails.specs.Solving.{top-price, RatesLow, plain-key, repeat-key, Within, OfferCame, kept, taken, Offered, Fits, WidthCame, WidthOffered, StretchCame, by-plain, by-repeat, Stretched, plain-tail, repeat-tail, Twice, TailOffered, TailCame, by-width, Tailed}
 
 -- Keys of the same numbers are the same.
 abbrev made : (both pair : ℕ) → Key
@@ -40,19 +40,19 @@ pub lesser-as : {a b r : Key} (x y : Key) → Lesser a b r → a .both ≡ x .bo
     → Lesser x y r
 lesser-as {a} {b} {r} x y l p q u v = rw (same-key a x p q, same-key b y u v) at l
 
--- The counts below `count` are offered; `price` is what this count costs with its body, and `cover` what it covers.
+-- The counts below `count` are offered; `price` is what this count costs without its body, and `cover` what it covers.
 pub record Offering (W : List ℕ) (R : Rates) (i d w reach : ℕ) (best least : Key) (price count cover : ℕ) : Type 0 where
   pub twice : 2 ≤ count
   pub covers : cover ≡ count * w
   pub near : cover ≤ d + w
-  pub costs : price ≡ R .first + R .each * (count - 2) + both-in W (slot i w)
+  pub costs : price ≡ R .first + R .each * (count - 2)
   pub came : OfferCame W R i d w reach best least
   pub lower : order least ≤ order best
   pub each : (h : ℕ) → h < count → Within reach w h → order least ≤ order (repeat-key W R i d w h)
   pub small : least .pair < pair-base
 
 module _ (W : List ℕ) (R : Rates) (i d w reach : ℕ) (best : Key) where
-  pub offering-none : 2 * w ≤ d → best .pair < pair-base → (price cover : ℕ) → price ≡ R .first + both-in W (slot i w) → cover ≡ w + w
+  pub offering-none : 2 * w ≤ d → best .pair < pair-base → (price cover : ℕ) → price ≡ R .first → cover ≡ w + w
       → Offering W R i d w reach best best price 2 cover
   offering-none l s price cover e f =
       record {
@@ -72,11 +72,11 @@ module _ (W : List ℕ) (R : Rates) (i d w reach : ℕ) (best : Key) where
     pub count-low : count ≤ 48
     count-low = omega (arith, o .covers, o .near, le-mul-of-pos-right count pos)
 
-    pub price-low : both-in W (slot i w) < read-base → price ≤ 300000000000000
-    price-low b = omega (arith, o .costs, low .first, mul-le-mul-right (count - 2) (low .each), count-low)
+    pub price-low : price ≤ top-price
+    price-low = omega (arith, o .costs, low .first, mul-le-mul-right (count - 2) (low .each), count-low)
 
     -- One count more.
-    pub offering-more : cover ≤ reach → (x r : Key) → x .both ≡ price + both-in W (slot (i + cover) (d - cover)) → x .pair ≡ packed count w
+    pub offering-more : cover ≤ reach → (x r : Key) → x .both ≡ price + both-in W (slot i w) + both-in W (slot (i + cover) (d - cover)) → x .pair ≡ packed count w
         → Lesser least x r → (price′ count′ cover′ : ℕ) → price′ ≡ price + R .each → count′ ≡ count + 1 → cover′ ≡ cover + w
         → Offering W R i d w reach best r price′ count′ cover′
     offering-more l x r xb xp z price′ count′ cover′ ep ec ek =

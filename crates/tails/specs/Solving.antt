@@ -20,6 +20,10 @@ use Rattle.tails.specs.declared.rates.Rates.{Rates}
 abbrev pub top-rate : ℕ
 top-rate = 4294901760
 
+-- No count that is offered step by step costs more: at most 48 copies are.
+abbrev pub top-price : ℕ
+top-price = 50 * top-rate
+
 pub record RatesOf (first-price each-price : ℕ) (r : Rates) : Type 0 where
   pub first : r .first ≡ first-price * factor + 1
   pub each : r .each ≡ each-price * factor

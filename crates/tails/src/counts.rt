@@ -1,6 +1,7 @@
 // The best count at each width from one step on, and the tail: all steps from there to the end. What copies beyond the first two cost,
 // with the tail behind them, is known one copy further on, so no loop goes over the counts.
 use crate::rates::Rates;
+use crate::rates::repeat_cost;
 use blocks::Block;
 use blocks::Key;
 use blocks::key_at;
@@ -93,7 +94,7 @@ fn tail_width(work: &[u32], rates: Rates, matches: &[usize], i: usize, w: usize,
     }
     let count = key_at(work, slot(i, Block::TAIL + w));
     let body = key_at(work, slot(i, w));
-    let both = rates.first + body.both + count.both;
+    let both = repeat_cost(rates.first, body.both, count.both);
     lesser(
         best,
         Key {

@@ -1,6 +1,7 @@
 // The stretches that begin at one step: the key of each is the least of the plain step's and of those of the repeats that may stand
 // first.
 use crate::rates::Rates;
+use crate::rates::repeat_cost;
 use blocks::Key;
 use blocks::key_at;
 use blocks::lesser;
@@ -22,13 +23,14 @@ fn offer(work: &[u32], rates: Rates, i: usize, d: usize, w: usize, reach: usize,
     requires { ⌜ RatesLow rates ⌝ }
     ensures { λ r. ⌜ Offered (now (work .entry)) rates i d w reach best r ⌝ }
 {
+    let body = key_at(work, slot(i, w)).both;
     let mut least = best;
-    let mut price = rates.first + key_at(work, slot(i, w)).both;
+    let mut price = rates.first;
     let mut count = 2;
     let mut cover = w + w;
     while cover <= reach {
         let rest = key_at(work, slot(i + cover, d - cover));
-        let both = price + rest.both;
+        let both = repeat_cost(price, body, rest.both);
         let pair = pair_of(count, w);
         least = lesser(least, Key { both, pair });
         price += rates.each;

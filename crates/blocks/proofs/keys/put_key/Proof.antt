@@ -1,8 +1,6 @@
 -- `put_key` meets its contract.
-use Prim.Native.Nat.{_/_, _%_}
 use native.Mathlib.Omega.{arith}
 use lib.ListN.{length-set}
-use Rattle.blocks.specs.Keys.{factor}
 use Rattle.blocks.proofs.Slots.{put-three}
 use borrow.Author.Needs.{needs}
 use Rattle.blocks.proofs.keys.put_key.Statement.{statement}
@@ -45,7 +43,7 @@ same-length : tie.Need-same-length
 same-length c = search needs
 
 returns : tie.Need-returns
-returns c = let a = c .before .before .before .args in put-three (a .work .now) (a .at) (a .k .both / factor) (a .k .both % factor) (a .k) (omega arith) (omega arith)
+returns c = let a = c .before .before .before .args in put-three (a .work .now) (a .at) _ _ (a .k) (omega arith) (omega arith)
 
 pub put-key-spec : {M : Type 1} → statement M
 put-key-spec =

@@ -18,7 +18,7 @@ put-run-requires c κs =
 entries-requires : tie.Need-entries-requires
 entries-requires c κs =
     let F = c .before .before .before .before .before .before .before .before in
-    F .before .before .before .before .before .before .before .pre .0 .flat .few
+    omega (arith, F .before .before .before .before .before .before .before .pre .0 .flat .few)
 
 clear-requires : tie.Need-clear-requires
 clear-requires c κs =
@@ -39,7 +39,7 @@ returns c =
     let W = E .before .before .before .before in
     let F = W .before .before .before .before .before in
     let S = F .before .before .before .before .before .before .before in
-    run-folded (S .pre .0) (F .fill .ensures .0) (F .fill .ensures .1) (E .entries .result) (E .entries .ensures) (W .put-run .ensures) _ (C .clear .ensures)
+    run-folded (S .pre .0) (F .fill .ensures .0) (F .fill .ensures .1) (E .entries .result) (omega (arith, E .entries .ensures)) (W .put-run .ensures) _ (C .clear .ensures)
 
 pub fold-run-spec : {M : Type 1} → statement M
 fold-run-spec =

@@ -40,7 +40,7 @@ returns-2 c =
     let F = W .before .before .before in
     let S = F .before .before .before .before in
     let e = read-both (S .args .work .now) (slot 0 tail-slot) (K .key-at .ensures .0) (K .before .slot .ensures) in
-    written-whole (F .fold-length .result) (F .fold-length .ensures) (S .args .out .now) (omega (arith, W .before .before .if1 .left)) _ (rw e) _ (W .put-steps .result)
+    written-whole (F .fold-length .result) (F .fold-length .ensures) (S .args .out .now) (omega (arith, W .before .before .if1 .left)) _ (omega (arith, e)) _ (W .put-steps .result)
     (W .put-steps .ensures)
 
 pub put-run-spec : {M : Type 1} → statement M

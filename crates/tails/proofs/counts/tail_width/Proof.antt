@@ -32,15 +32,14 @@ slot-requires-2 c κs = search needs
 key-at-requires-2 : tie.Need-key-at-requires-2
 key-at-requires-2 c κs = search needs
 
-add-both : tie.Need-add-both
-add-both c = search needs
-
-add-both-2 : tie.Need-add-both-2
-add-both-2 c = search needs
+repeat-cost-requires : tie.Need-repeat-cost-requires
+repeat-cost-requires c κs =
+    let S = c .before .before .before .before .before .before .before .before in
+    (omega (arith, S .pre .1 .1 .0 .first), c .key-at2 .ensures .1, c .before .before .key-at .ensures .1)
 
 lesser-requires : tie.Need-lesser-requires
 lesser-requires c κs =
-    let e = c .before .before .before .before .before in
+    let e = c .before .before .before in
     let S = e .before .before .before .before .before .before in
     let a = S .args in
     let p = read-pair (a .work .now) (slot (a .i) (count-slot (a .w))) (e .key-at .ensures .0) (e .before .slot .ensures) in
@@ -49,8 +48,9 @@ lesser-requires c κs =
 
 returns-2 : tie.Need-returns-2
 returns-2 c =
-    let e = c .before .before .before .before .before .before in
-    let f = c .before .before .before .before in
+    let R = c .before in
+    let f = R .before in
+    let e = f .before .before in
     let S = e .before .before .before .before .before .before in
     let a = S .args in
     let p = read-pair (a .work .now) (slot (a .i) (count-slot (a .w))) (e .key-at .ensures .0) (e .before .slot .ensures) in
@@ -58,7 +58,8 @@ returns-2 c =
     let b = read-both (a .work .now) (slot (a .i) (a .w)) (f .key-at2 .ensures .0) (f .before .slot2 .ensures) in
     record {
       none = λ n. absurd (n (record { some = omega arith; copy = e .before .before .if1 .left }));
-      some = λ t. lesser-as (a .best) (repeat-tail (a .work .now) (a .rates) (a .i) (a .w)) (c .lesser .ensures) refl refl (omega arith) p;
+      some = λ t.
+          lesser-as (a .best) (repeat-tail (a .work .now) (a .rates) (a .i) (a .w)) (c .lesser .ensures) refl refl (omega (arith, R .repeat-cost .ensures)) p;
     }
 
 pub tail-width-spec : {M : Type 1} → statement M
@@ -73,7 +74,6 @@ tail-width-spec =
     key-at-requires
     slot-requires-2
     key-at-requires-2
-    add-both
-    add-both-2
+    repeat-cost-requires
     lesser-requires
     returns-2)
