@@ -6,7 +6,7 @@ use mathlib.Core.Logic.{_≢_, _↔_, _⊎_, inl, inr, ⊎-elim}
 use Prim.Native.Nat.{ℕ, zero, suc, _≤_}
 use native.Mathlib.Omega.{arith}
 use lib.Dec.{eqb}
-use borrow.Author.Tests.{ltb-false}
+use borrow.Author.Tests.{ltb-false, le-ltb}
 use Rattle.format.specs.Limits.{Limits}
 use Rattle.format.specs.Machine.{first-of, Outcome, refused, accepted, unless, place-of}
 use Rattle.format.specs.Reasons.{First, None}
@@ -84,3 +84,12 @@ module _ (L : Limits) (h : Head) (o : Outcome) where
 
       rest : None (head-checks L h) × (o ≡ refused n e) → headed L h o ≡ refused n e
       rest f = headed-passed (sym (none-first (head-checks L h) (f .0))) ∙ f .1
+
+-- What is accepted with a head, is with the same head under other limits of as many labels, where its limit is no wider.
+pub headed-under : (L M : Limits) (h : Head) (o q : Outcome) (t : Tally) (x : List ℕ) → L .labels ≡ M .labels → h .limit ≤ M .width
+    → headed L h o ≡ accepted t x → q ≡ accepted t x → headed M h q ≡ accepted t x
+unfolding head-checks
+headed-under L M h o q t x labels wide out e =
+    let n = first-none (head-checks L h) (omega arith) (sym (passed L h o t x out)) in
+    let m : None (head-checks M h) = (rw labels at (n .0), (rw labels at (n .1 .0), (le-ltb (M .width) (h .limit) wide, n .1 .1 .1))) in
+    headed-passed M h q (sym (none-first (head-checks M h) m)) ∙ e

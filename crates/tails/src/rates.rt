@@ -1,10 +1,7 @@
 // The prices that a season is solved at: they count repeats, so that cost and repeats are one number.
 use blocks::Block;
 use format::wide_cost;
-ghost use mathlib.Core.Path.{_≡_};
-ghost use Prim.Native.Nat.{_+_, _*_, _≤_};
-ghost use Rattle.blocks.specs.Keys.{factor};
-ghost use Rattle.tails.specs.Solving.{RatesOf, top-rate};
+ghost use Rattle.tails.specs.Solving.{RatesOf, RatesLow};
 
 // The price of two copies, and that of each copy more.
 pub struct Rates {
@@ -15,6 +12,7 @@ pub struct Rates {
 // A repeat is one repeat more.
 pub fn rates_of(first: u16, each: u16) -> Rates
     ensures { λ r. ⌜ RatesOf first each r ⌝ }
+    ensures { λ r. ⌜ RatesLow r ⌝ }
 {
     Rates {
         first: wide_cost(first) * Block::REPEATS + 1,
