@@ -1,11 +1,14 @@
 // The static library's boundary for C and Rust: the readers, the unroller, the folder, the index and the finder over numbers and
-// lent slices; in short.rt the short family. Every answer is seven numbers in a lent slice: refusal, place and five values, which
-// readers, unroller and folder use for nodes, length, cost, steps and depth; 0 where the function gives no such value.
+// lent slices; in short.rt the short family, in seasons.rt whole seasons. Every answer is seven numbers in a lent slice: refusal, place
+// and five values, which readers, unroller and folder use for nodes, length, cost, steps and depth; 0 where the function gives no such
+// value.
+mod seasons;
 mod short;
 
 use folder::fold;
 use format::FoldReading;
 use format::Folded;
+use format::RunReading;
 use format::Written;
 use format::wide;
 use index::build_index;
@@ -57,6 +60,25 @@ fn store(answer: &mut [u64], a: Answer)
     answer[4] = a.three;
     answer[5] = a.four;
     answer[6] = a.five;
+}
+
+// A run reader's answer.
+fn store_run_reading(answer: &mut [u64], read: RunReading)
+    requires { ⌜ entry-count ≤ length (now answer) ⌝ }
+    ensures { λ _. ⌜ now (answer .exit) ≡ numbers (of-run read) ++ drop entry-count (now (answer .entry)) ⌝ }
+{
+    store(
+        answer,
+        Answer {
+            refusal: read.refusal,
+            place: read.place,
+            one: read.nodes as u64,
+            two: 0,
+            three: 0,
+            four: read.steps as u64,
+            five: read.depth as u64,
+        },
+    );
 }
 
 // A fold reader's answer.
@@ -126,18 +148,7 @@ pub extern "C" fn runfold_read_run(run: &[u8], answer: &mut [u64]) -> u8
         return SHORT;
     }
     let read = read_run(run);
-    store(
-        answer,
-        Answer {
-            refusal: read.refusal,
-            place: read.place,
-            one: read.nodes as u64,
-            two: 0,
-            three: 0,
-            four: read.steps as u64,
-            five: read.depth as u64,
-        },
-    );
+    store_run_reading(answer, read);
     read.refusal
 }
 

@@ -20,7 +20,7 @@ use Rattle.format.specs.declared.Folded.{Folded}
 use Rattle.format.proofs.Refusals.{refused-some}
 use Rattle.optimum.proofs.Demands.{cheapest-room}
 use Rattle.optimum.specs.Verdict.{Verdict, refuses, folds, verdict, folding-by}
-use Rattle.folder.specs.Folding.{folding-in, folding, fold-answer, fold-output}
+use Rattle.folder.specs.Folding.{folding, fold-answer, fold-output}
 use Rattle.fold.specs.Text.{three-lines, refusal-line}
 use Rattle.fold.specs.Printed.{lines-of, printed}
 use Rattle.fold.proofs.Room.{enough-work, too-little-work}

@@ -7,7 +7,7 @@ use lib.ListN.{replicate}
 use Rattle.format.specs.Limits.{limits, tariff}
 use Rattle.format.specs.Marks.{free-marks}
 use Rattle.optimum.specs.Verdict.{Verdict, refuses, folds, folding-by}
-use Rattle.folder.specs.Folding.{folding-in, folding}
+use Rattle.folder.specs.Folding.{folding}
 use Rattle.fold.specs.Text.{three-lines, refusal-line}
 
 -- The lines for what the run decides: a refusal of the run's own, 13 for a run of more than 100 nodes, or the fold. No fold

@@ -20,7 +20,7 @@ use Rattle.format.proofs.FreeMarks.{free-allowed, free-headed}
 use Rattle.optimum.specs.Verdict.{folds, verdict, folding-by}
 use Rattle.optimum.proofs.Demands.{shaped-run, run-form, run-shape}
 use Rattle.optimum.proofs.AllMarked.{AllMarked, preferred-itself}
-use Rattle.folder.specs.Folding.{folding-in, folding}
+use Rattle.folder.specs.Folding.{folding}
 use Rattle.folder.specs.FreeMarks.{unmarked-folding}
 
 module _ (s : List ℕ) (k : ℕ) (steps groups : List ℕ) (first each : ℕ) where

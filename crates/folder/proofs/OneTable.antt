@@ -19,7 +19,7 @@ use Rattle.optimum.specs.Verdict.{folds, verdict, folding-by}
 use Rattle.optimum.specs.OneTable.{CheapestByLabel}
 use Rattle.optimum.proofs.Demands.{format-bars-none, cheapest-small, cheapest-bytes}
 use Rattle.optimum.proofs.OneTable.{equal-tables-cheapest}
-use Rattle.folder.specs.Folding.{folding-in, folding}
+use Rattle.folder.specs.Folding.{folding}
 use Rattle.folder.specs.OneTable.{one-table-folding}
 
 module _ (s : List ℕ) (k : ℕ) (table marks : List ℕ) (first each : ℕ) where

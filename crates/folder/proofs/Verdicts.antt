@@ -1,34 +1,30 @@
 -- The folder's answer as a whole: what the run and the prices decide, what fold_run rests on, and what the slices then hold.
 use mathlib.Core.Path.{_≡_, refl, sym, ap, _∙_}
 use mathlib.Core.Bool.{Bool, true, false, true≢false}
-use mathlib.Core.List.{List, [], _++_}
-use Prim.Native.Nat.{ℕ, zero, suc, _+_, _-_, _*_, _<_, _≤_}
+use mathlib.Core.List.{List, []}
+use Prim.Native.Nat.{ℕ, zero, suc, _-_, _*_, _<_, _≤_}
 use native.Mathlib.Nat.{mul-le-mul, zero-add}
-use native.Mathlib.Decide.{decLe, ℕ-discrete}
+use native.Mathlib.Decide.{decLe}
 use native.Mathlib.Omega.{arith}
 use lib.Dec.{ltb}
-use lib.ListN.{length, getD, take, drop, List·getD-eq-default}
-use lib.Seq.{take-at}
-use borrow.Author.Tests.{ltb-false, ltb-true}
+use lib.ListN.{length, getD, take, List·getD-eq-default}
+use borrow.Author.Tests.{ltb-false}
 use Rattle.format.specs.Limits.{limits, Prices, Tariff, tariff, priced, of-repeat, allowed, cells}
 use Rattle.format.specs.Order.{Bytes}
 use Rattle.format.specs.Forest.{Forest, nodes, cost, form-in, bytes, at-most, Allowed}
-use Rattle.format.specs.Machine.{Outcome, refused, accepted, read}
-use Rattle.format.specs.Head.{head-checks, full-head}
-use Rattle.format.specs.Readings.{run-rules, format-rules, as-run-reading, run-outcome-in, run-outcome}
+use Rattle.format.specs.Machine.{Outcome, refused, accepted}
+use Rattle.format.specs.Head.{full-head}
+use Rattle.format.specs.Readings.{format-rules, as-run-reading, run-outcome}
 use Rattle.format.specs.Tree.{tree-of}
 use Rattle.format.specs.Family.{long-form}
-use Rattle.format.specs.declared.Tally.{Tally}
 use Rattle.format.specs.declared.RunReading.{RunReading}
 use Rattle.format.specs.declared.Folded.{Folded}
-use Rattle.format.proofs.Heads.{headed-accepted, headed-narrow, headed-each}
 use Rattle.format.proofs.Marks.{sound-plain}
 use Rattle.format.proofs.Family.{converted-form}
-use Rattle.format.proofs.Refusals.{refused-some, refused-numbered}
 use Rattle.optimum.specs.Fewest.{preferred}
 use Rattle.optimum.specs.Verdict.{Verdict, refuses, folds, verdict-in, verdict, folding-by}
 use Rattle.optimum.specs.Demands.{CheapestWithin, CheapestOver, ShortOver, MinimumTree}
-use Rattle.optimum.proofs.Demands.{format-bars-none, run-form, run-shape, run-nodes, run-few, cheapest-small, cheapest-bytes}
+use Rattle.optimum.proofs.Demands.{format-bars-none, run-form, run-shape}
 use Rattle.optimum.proofs.Verdicts.{Accepted, accepts, node-count-is, few, refused-as, Told, other, wrote, over, told}
 use Rattle.optimum.proofs.Fewest.{counted-repeat}
 use Rattle.table.specs.Listing.{Spelled}

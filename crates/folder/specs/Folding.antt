@@ -1,15 +1,12 @@
 -- What the folder answers, writes and leaves in the work slices, for every run, limit, prices and lent slices.
-use mathlib.Core.Bool.{Bool, false, cond, _||_}
-use mathlib.Core.List.{List, _++_}
+use mathlib.Core.Bool.{Bool, false, _||_}
+use mathlib.Core.List.{List}
 use Prim.Native.Nat.{ℕ}
 use lib.Dec.{ltb}
-use lib.ListN.{length, drop, replicate}
-use Rattle.format.specs.Limits.{Tariff, priced, allowed, cells}
-use Rattle.format.specs.Head.{full-head}
-use Rattle.format.specs.Readings.{run-outcome-in, run-outcome}
+use Rattle.format.specs.Limits.{limits, Tariff, cells}
 use Rattle.format.specs.Family.{short-form}
 use Rattle.format.specs.declared.Folded.{Folded}
-use Rattle.optimum.specs.Verdict.{Verdict, refuses, folds, verdict-in}
+use Rattle.optimum.specs.Verdict.{Verdict, refuses, folds, folding-by, answer-by, output-by, work-by}
 
 -- The checks of tables, limit and marks, then the run's own refusals; or the cheapest fold, in a family.
 abbrev pub folding-in : (short : Bool) → List ℕ → (limit : ℕ) → Tariff → Verdict

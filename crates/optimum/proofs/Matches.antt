@@ -1,5 +1,5 @@
 -- Which repeats may stand first, by how many siblings match those further on; and the matches one sibling earlier, and one copy later.
-use mathlib.Core.Path.{_≡_, refl, sym, ap, _∙_}
+use mathlib.Core.Path.{_≡_, refl, sym, _∙_}
 use mathlib.Core.Bool.{Bool}
 use Prim.Native.Nat.{ℕ, suc, _+_, _-_, _*_, _≤_, _<_}
 use native.Mathlib.Nat.{suc-mul}
@@ -9,7 +9,7 @@ use native.Mathlib.Omega.{arith}
 use Rattle.format.specs.Forest.{Forest, Allowed, siblings, holds}
 use Rattle.optimum.specs.Cheapest.{Run, front, back, node, FreeCopy, Power}
 use Rattle.optimum.specs.Matches.{Matched}
-use Rattle.optimum.proofs.Cut.{back-front, back-back, back-swap, siblings-back}
+use Rattle.optimum.proofs.Cut.{back-front, back-back, siblings-back}
 use Rattle.optimum.proofs.Powers.{node-back, free-node, free-back, free-grow, power-from-shift, shift-from-power, reach}
 
 -- One copy more covers d siblings more.

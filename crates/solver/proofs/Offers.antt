@@ -8,7 +8,6 @@ use native.Mathlib.Decide.{ℕ-discrete, decLt}
 use native.Mathlib.Omega.{arith}
 use lib.ListN.{length, getD, set, length-set}
 use lib.Seq.{getD-set-same, getD-set-other}
-use Rattle.optimum.proofs.Powers.{reach}
 use Rattle.optimum.proofs.Matches.{copy-more}
 use Rattle.solver.specs.Rows.{Came, Offering, offer-key}
 

@@ -5,7 +5,7 @@ use mathlib.Core.List.{List, [], _∷_, _++_}
 use Prim.Native.Nat.{ℕ, _+_, _-_, _*_, _<_, _≤_}
 use native.Mathlib.Omega.{arith}
 use lib.ListN.{length, length-append, getD, set, take, drop}
-use lib.Seq.{sets, length-sets}
+use lib.Seq.{sets}
 use borrow.Rule.Slice.PartMut.{putMid}
 use Rattle.put.specs.Bounds.{most-bytes}
 use Rattle.put.proofs.Along.{lent-back, Along, along-none, along-end, along-more, along-byte, all-written}

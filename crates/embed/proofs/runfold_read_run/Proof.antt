@@ -14,8 +14,8 @@ returns c =
 read-run-requires : tie.Need-read-run-requires
 read-run-requires c κs = search needs
 
-store-requires : tie.Need-store-requires
-store-requires c κs = search needs
+store-run-reading-requires : tie.Need-store-run-reading-requires
+store-run-reading-requires c κs = search needs
 
 same-length : tie.Need-same-length
 same-length c = search needs
@@ -24,8 +24,8 @@ returns-2 : tie.Need-returns-2
 returns-2 c =
     let done = c .before .before .before .before in
     stored (done .before .before .before .before .args .answer .now) (done .before .if1 .left) _ (of-run (done .read-run .result)) _
-    (ap of-run (done .read-run .ensures)) (c .before .before .store .ensures)
+    (ap of-run (done .read-run .ensures)) (c .before .before .store-run-reading .ensures)
 
 pub runfold-read-run-spec : {M : Type 1} → statement M
 runfold-read-run-spec =
-    tie.close (tie.spec returns read-run-requires store-requires same-length returns-2)
+    tie.close (tie.spec returns read-run-requires store-run-reading-requires same-length returns-2)
