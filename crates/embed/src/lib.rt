@@ -1,7 +1,7 @@
 // The static library's boundary for C and Rust: the readers, the unroller, the folder, the index and the finder over numbers and
-// lent slices; in short.rt the short family, in seasons.rt whole seasons. Every answer is seven numbers in a lent slice: refusal, place
-// and five values, which readers, unroller and folder use for nodes, length, cost, steps and depth; 0 where the function gives no such
-// value.
+// lent slices; in short.rt the short family, in seasons.rt whole seasons. Every answer is seven numbers in a lent slice: refusal,
+// place and five values, which readers, unroller and folder use for nodes, length, cost, steps and depth; 0 where the function
+// gives no such value.
 mod seasons;
 mod short;
 

@@ -103,17 +103,7 @@ pub extern "C" fn runfold_fold_season(
     if answer.len() < ENTRIES {
         return SHORT;
     }
-    let folded = fold_season(
-        run,
-        limit,
-        steps,
-        groups,
-        marks,
-        first,
-        each,
-        work,
-        out,
-    );
+    let folded = fold_season(run, limit, steps, groups, marks, first, each, work, out);
     store_folded(answer, folded);
     folded.refusal
 }

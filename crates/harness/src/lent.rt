@@ -20,7 +20,7 @@ const WORD: u32 = 0xa5a5a5a5;
 const BYTE: u8 = 0xee;
 
 // Fills a work slice.
-fn fill_words(s: &mut [u32])
+pub fn fill_words(s: &mut [u32])
     ensures { λ _. ⌜ now (s .exit) ≡ filled-words (length (now (s .entry))) ⌝ }
 {
     let mut i = 0;
@@ -56,7 +56,7 @@ fn all_are(s: &[u32], x: u32) -> bool
 }
 
 // Whether the first entries, n of them, are 0 and the others untouched.
-fn cleared(s: &[u32], n: usize) -> bool
+pub fn cleared(s: &[u32], n: usize) -> bool
     ensures { λ r. ⌜ (r ≡ true) ↔ Cleared (now (s .entry)) n ⌝ }
 {
     if s.len() < n {
@@ -170,7 +170,7 @@ fn kept(run: &[u8], answer: Folded, costs: &[u32], choices: &[u32], out: &[u8]) 
 }
 
 // Whether success has place 0, and a refusal no values.
-fn valued(answer: Folded) -> bool
+pub fn valued(answer: Folded) -> bool
     ensures { λ r. ⌜ (r ≡ true) ↔ Valued answer ⌝ }
 {
     if answer.refusal == 0 {
@@ -193,7 +193,7 @@ pub fn unrolls(fold: &[u8], limit: usize, run: &[u8], text: &mut [u8]) -> bool
 }
 
 // Whether the unroller's answer and the text are so.
-fn unrolled(answer: Written, run: &[u8], text: &[u8]) -> bool
+pub fn unrolled(answer: Written, run: &[u8], text: &[u8]) -> bool
     ensures { λ r. ⌜ (r ≡ true) ↔ Unrolls answer (now (run .entry)) (now (text .entry)) ⌝ }
 {
     if answer.refusal != 0 {

@@ -6,10 +6,14 @@ mod small;
 
 pub use lent::Checked;
 pub use lent::begins;
+pub use lent::cleared;
 pub use lent::fill_bytes;
+pub use lent::fill_words;
 pub use lent::fold_checked;
+pub use lent::unrolled;
 pub use lent::unrolls;
 pub use lent::untouched;
+pub use lent::valued;
 pub use reading::alike;
 pub use small::above;
 pub use small::product;

@@ -1,6 +1,6 @@
-// The refusals: the example of every refusal in docs/REFUSALS.md but 18, 19 and 20, by every entry point that it concerns. What is
-// printed calls each a row: a row of the table there. Those of marks and of the short family are the crates marked and short, which
-// use what is public here.
+// The refusals: the example of every refusal in docs/REFUSALS.md but 18 to 21, by every entry point that it concerns. What is
+// printed calls each a row: a row of the table there. Those of marks, of the short family and of seasons are the crates marked,
+// short and seasons, which use what is public here.
 mod finding;
 
 pub use finding::FILLED;
@@ -41,7 +41,7 @@ fn met(refusal: u8, place: usize, e: Expected) -> bool {
 }
 
 // Prints an entry point's refusal, and says where it is another than expected.
-fn told(who: &[u8], refusal: u8, place: usize, e: Expected, right: bool) {
+pub fn told(who: &[u8], refusal: u8, place: usize, e: Expected, right: bool) {
     word(who);
     number(b" ", refusal as u64);
     number(b" at ", place as u64);
@@ -56,7 +56,7 @@ fn told(who: &[u8], refusal: u8, place: usize, e: Expected, right: bool) {
 }
 
 // Whether the counts of a refused reading are 0.
-fn no_values(nodes: usize, steps: usize, depth: usize) -> bool {
+pub fn no_values(nodes: usize, steps: usize, depth: usize) -> bool {
     if nodes != 0 {
         return false;
     }
@@ -149,7 +149,7 @@ pub fn by_roomy_folder(
 }
 
 // The line of a refusal begins with its number and the input, `-` for the empty one.
-fn example(refusal: u8, input: &[u8]) {
+pub fn example(refusal: u8, input: &[u8]) {
     number(b"row ", refusal as u64);
     word(b", ");
     if input.len() == 0 {
