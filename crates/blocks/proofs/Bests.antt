@@ -3,14 +3,14 @@ use mathlib.Core.Path.{_≡_, refl, sym, ap, _∙_}
 use mathlib.Core.Logic.{_⊎_, inl, inr}
 use Prim.Native.Nat.{ℕ, suc, _+_, _-_, _*_, _≤_, _<_}
 use native.Mathlib.Nat.{mul-suc, mul-le-mul-right}
-use native.Mathlib.Decide.{ℕ-discrete, decLe}
+use native.Mathlib.Decide.{decLe}
 use native.Mathlib.Omega.{arith}
-use Rattle.format.specs.Limits.{Prices, of-repeat}
+use Rattle.format.specs.Limits.{Prices}
 use Rattle.format.specs.Forest.{Forest, Allowed, siblings}
-use Rattle.optimum.specs.Cheapest.{Run, front, back, node, Power, Candidate, plain, power, price, rank, Spans, Least, best-cost}
+use Rattle.optimum.specs.Cheapest.{Run, back, Power, Candidate, plain, power, price, rank, Spans, Least, best-cost}
 use Rattle.optimum.specs.Matches.{Matched}
-use Rattle.optimum.proofs.Cut.{back-back, run-back, siblings-cut}
-use Rattle.optimum.proofs.Powers.{spans, reach}
+use Rattle.optimum.proofs.Cut.{back-back, run-back}
+use Rattle.optimum.proofs.Powers.{spans}
 use Rattle.optimum.proofs.Cheapest.{best-cost-least}
 use Rattle.optimum.proofs.Matches.{copy-more, near-power, power-near, matched-later}
 use Rattle.blocks.specs.declared.keys.Key.{Key}
@@ -64,7 +64,7 @@ module _ {A : Allowed} {P : Prices} {t : Forest} (m : Modest A P t) where
     here : Run A (back i t)
     here = run-back i (run m)
 
-    pub two-copies : Power A (back i t) 2 w
+    two-copies : Power A (back i t) 2 w
     two-copies = near-power 2 w k here pos within d (omega arith) (omega arith)
 
     few-counts : (h : ℕ) → k < 2 * w → Power A (back i t) h w → h ≡ 2

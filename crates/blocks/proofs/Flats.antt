@@ -1,14 +1,13 @@
 -- Flat runs: each step is two bytes, a run's parts are flat, and what their folds can cost.
-use mathlib.Core.Path.{_≡_, refl, sym, ap, _∙_}
-use mathlib.Core.Bool.{Bool, false, _||_}
-use Prim.Native.Nat.{ℕ, zero, suc, _+_, _-_, _*_, _≤_, _<_}
+use mathlib.Core.Path.{_≡_, refl}
+use Prim.Native.Nat.{ℕ, zero, suc, _+_, _*_, _≤_, _<_}
 use native.Mathlib.Omega.{arith}
 use lib.ListN.{length, getD}
 use Rattle.format.specs.Limits.{Prices}
-use Rattle.format.specs.Forest.{Forest, end, step, group, repeat, siblings, nodes, cost, form-in, bytes, holds, Plain, Sound, Allowed}
-use Rattle.optimum.specs.Cheapest.{Run, front, back, node, FreeCopy, best-cost}
+use Rattle.format.specs.Forest.{Forest, end, step, siblings, nodes, cost, form-in, bytes, Plain, Sound, Allowed}
+use Rattle.optimum.specs.Cheapest.{Run, front, back, node, best-cost}
 use Rattle.optimum.proofs.Cut.{siblings-cut}
-use Rattle.optimum.proofs.Cheapest.{best-cost-run, best-cost-step}
+use Rattle.optimum.proofs.Cheapest.{best-cost-run}
 use Rattle.blocks.specs.Keys.{factor, both-base}
 use Rattle.blocks.specs.Solved.{Flat, Modest}
 

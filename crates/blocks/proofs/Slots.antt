@@ -1,14 +1,14 @@
 -- Keys in slots: what a put leaves of the other slots, and what a block's change leaves of the other blocks.
-use mathlib.Core.Path.{_≡_, refl, sym, ap, _∙_}
+use mathlib.Core.Path.{_≡_, refl, _∙_}
 use mathlib.Core.Logic.{_⊎_, inl, inr}
 use mathlib.Core.List.{List}
-use Prim.Native.Nat.{ℕ, _+_, _*_, _/_, _%_, _<_, _≤_}
+use Prim.Native.Nat.{ℕ, _+_, _*_, _<_, _≤_}
 use native.Mathlib.Decide.{decLt}
 use native.Mathlib.Omega.{arith}
 use lib.ListN.{length, getD, set, length-set}
 use lib.Seq.{getD-set-same, getD-set-other}
 use Rattle.blocks.specs.declared.keys.Key.{Key}
-use Rattle.blocks.specs.Keys.{factor, block, slot, both-in, pair-in, SameKey, Put, Touched}
+use Rattle.blocks.specs.Keys.{factor, block, slot, SameKey, Put, Touched}
 
 -- Three entries that are set one after the other.
 pub put-three : (W : List ℕ) (at a b : ℕ) (k : Key) → at + 2 < length W → a * factor + b ≡ k .both

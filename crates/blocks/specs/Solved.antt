@@ -6,7 +6,7 @@ use Prim.Native.Nat.{ℕ, _+_, _-_, _*_, _<_, _≤_}
 use Rattle.format.specs.Limits.{Prices}
 use Rattle.format.specs.Forest.{Forest, end, step, group, repeat, Allowed, siblings}
 use Rattle.optimum.specs.Cheapest.{front, back, Power, Least, best-cost}
-use Rattle.blocks.specs.Keys.{bases, factor, packed, slot, tail-slot, count-slot, both-in, pair-in, both-base}
+use Rattle.blocks.specs.Keys.{bases, factor, packed, slot, tail-slot, count-slot, both-in, pair-in}
 
 -- A flat run: steps alone.
 abbrev pub Flat : Forest → Type 0

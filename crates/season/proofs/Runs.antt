@@ -1,27 +1,24 @@
 -- The steps that fold an accepted season run: its filled blocks, the answer, and the blocks cleared.
-use mathlib.Core.Path.{_≡_, refl, sym, ap, _∙_}
+use mathlib.Core.Path.{_≡_, sym, ap, _∙_}
 use mathlib.Core.Bool.{true, false, false≢true}
-use mathlib.Core.List.{List, [], _++_}
+use mathlib.Core.List.{List, _++_}
 use Prim.Native.Nat.{ℕ, _+_, _-_, _*_, _/_, _<_, _≤_}
 use native.Mathlib.Nat.{zero-add}
 use native.Mathlib.Omega.{arith}
-use lib.ListN.{length, getD, drop, replicate, length-drop}
+use lib.ListN.{length, drop, replicate, length-drop}
 use lib.Seq.{sets-eq, getD-drop, ext-getD}
 use borrow.Author.Tests.{lt-ltb, le-ltb}
 use Rattle.format.specs.Limits.{Prices, allowed}
-use Rattle.format.specs.Forest.{Forest, siblings, nodes, cost, bytes, Allowed}
+use Rattle.format.specs.Forest.{Forest, nodes, cost, bytes, Allowed}
 use Rattle.format.specs.Tree.{tree-of}
 use Rattle.format.specs.declared.Folded.{Folded}
-use Rattle.optimum.specs.Cheapest.{Run, front, back, cheapest, best-cost}
+use Rattle.optimum.specs.Cheapest.{Run, front, back}
 use Rattle.optimum.specs.Fewest.{counting, preferred}
 use Rattle.optimum.specs.Verdict.{room-answer, room-output}
 use Rattle.optimum.proofs.Cut.{front-whole}
-use Rattle.optimum.proofs.Cheapest.{cheapest-short}
 use Rattle.optimum.proofs.Fewest.{any-factor, best-counted, counted-few, preferred-short}
 use Rattle.blocks.specs.Keys.{factor, block, slot, tail-slot, both-in}
-use Rattle.blocks.specs.Solved.{SolvedFrom}
 use Rattle.blocks.proofs.Flats.{flat-run, flat-nodes}
-use Rattle.put.specs.Bounds.{most-bytes}
 use Rattle.tails.specs.declared.rates.Rates.{Rates}
 use Rattle.tails.specs.Solving.{FillReady, PricesAre, FilledFrom, KeptPast}
 use Rattle.tails.proofs.Fills.{modest}

@@ -1,15 +1,14 @@
 -- The season folder's answer as a whole: what fold_run rests on, what the slices then hold, and demand 3 of what is written.
-use mathlib.Core.Path.{_≡_, refl, sym, ap, _∙_}
-use mathlib.Core.Bool.{Bool, true, false}
+use mathlib.Core.Path.{_≡_, refl, sym, _∙_}
+use mathlib.Core.Bool.{false}
 use mathlib.Core.List.{List}
-use Prim.Native.Nat.{ℕ, _+_, _*_, _<_, _≤_}
+use Prim.Native.Nat.{ℕ, _<_, _≤_}
 use native.Mathlib.Omega.{arith}
-use lib.Dec.{ltb}
 use lib.ListN.{length, getD, take}
 use borrow.Author.Tests.{lt-ltb, le-ltb}
-use Rattle.format.specs.Limits.{limits, season, Prices, Tariff, tariff, priced, allowed}
+use Rattle.format.specs.Limits.{season, Tariff, priced, allowed}
 use Rattle.format.specs.Order.{Bytes}
-use Rattle.format.specs.Forest.{Forest, end, step, group, repeat, siblings, nodes, cost, bytes, group-depth, Plain}
+use Rattle.format.specs.Forest.{Forest, end, step, group, repeat, nodes, cost, bytes, group-depth, Plain}
 use Rattle.format.specs.Head.{full-head}
 use Rattle.format.specs.Readings.{season-rules, as-run-reading, run-outcome-in}
 use Rattle.format.specs.Tree.{tree-of}

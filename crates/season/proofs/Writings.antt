@@ -1,11 +1,9 @@
 -- The bytes of a cheapest fold, item by item, as the blocks' pairs say.
 use mathlib.Core.Path.{_≡_, refl, sym, ap, _∙_}
-use mathlib.Core.Bool.{Bool, true, false, cond, false≢true}
+use mathlib.Core.Bool.{Bool, true, false, false≢true}
 use mathlib.Core.List.{List, [], _∷_, _++_, append-assoc}
-use Prim.Native.Nat.{ℕ, zero, suc, _+_, _-_, _*_, _/_, _%_, _<_, _≤_}
-use native.Mathlib.Decide.{ℕ-discrete}
+use Prim.Native.Nat.{ℕ, zero, suc, _+_, _-_, _*_, _<_, _≤_}
 use native.Mathlib.Omega.{arith}
-use lib.Dec.{eqb}
 use lib.ListN.{length, length-append, getD, set}
 use lib.Seq.{sets}
 use borrow.Author.Tests.{ne-eqb}
@@ -13,15 +11,14 @@ use Rattle.format.specs.Limits.{Prices}
 use Rattle.format.specs.Forest.{Forest, end, step, repeat, join, siblings, bytes, form-in, opening, opening-size, Allowed}
 use Rattle.format.proofs.Forests.{opening-append}
 use Rattle.format.proofs.Bridge.{opening-length}
-use Rattle.optimum.specs.Cheapest.{Run, front, back, node, Power, Candidate, plain, power, build, cheapest}
-use Rattle.optimum.proofs.Cut.{front-add, front-front, front-whole, back-front, back-back, back-piece, siblings-cut, siblings-back, siblings-piece, run-back, run-front}
-use Rattle.optimum.proofs.Powers.{reach, power-of-front}
+use Rattle.optimum.specs.Cheapest.{Run, front, back, Power, Candidate, plain, power, build, cheapest}
+use Rattle.optimum.proofs.Cut.{front-add, front-front, front-whole, back-back, back-piece, siblings-back, siblings-piece, run-back, run-front}
+use Rattle.optimum.proofs.Powers.{reach}
 use Rattle.optimum.proofs.Cheapest.{least-builds, is-cheapest, optimal-end}
-use Rattle.blocks.specs.Keys.{bases, packed, slot, tail-slot, both-in, pair-in}
+use Rattle.blocks.specs.Keys.{bases, slot, tail-slot, both-in, pair-in}
 use Rattle.blocks.specs.Solved.{Best}
-use Rattle.blocks.proofs.Flats.{flat-run, flat-front, flat-back, flat-node, flat-size}
+use Rattle.blocks.proofs.Flats.{flat-run, flat-node, flat-size}
 use Rattle.blocks.proofs.Bests.{spanned}
-use Rattle.put.specs.Bounds.{most-bytes}
 use Rattle.put.proofs.Along.{Along, along-none, along-end, along-more, along-byte, all-written}
 use Rattle.season.specs.Writing.{left-slot, count-of, width-of, covers, StepsReady, steps-of, fold-bytes, ItemReady, item-bytes, StepsFit, ItemFits, StepsWritten, ItemWritten}
 

@@ -1,23 +1,23 @@
 -- All blocks of a run: that of the end, and one step more.
 use mathlib.Core.Path.{_≡_, refl, sym, ap, _∙_}
-use mathlib.Core.Logic.{_⊎_, inl, inr}
+use mathlib.Core.Logic.{inr}
 use mathlib.Core.List.{List}
 use Prim.Native.Nat.{ℕ, zero, suc, _+_, _*_, _≤_, _<_}
 use native.Mathlib.Decide.{ℕ-discrete}
 use native.Mathlib.Omega.{arith}
-use lib.ListN.{length, getD, replicate}
+use lib.ListN.{getD, replicate}
 use Rattle.format.specs.Limits.{Prices, allowed}
 use Rattle.format.specs.Forest.{Forest, end, step, siblings}
 use Rattle.format.specs.Tree.{tree-of}
-use Rattle.optimum.specs.Cheapest.{front, back, node, best-cost}
+use Rattle.optimum.specs.Cheapest.{front, node, best-cost}
 use Rattle.optimum.proofs.Cut.{back-whole, siblings-back}
 use Rattle.optimum.proofs.Powers.{reach}
 use Rattle.optimum.proofs.Cheapest.{best-cost-step}
-use Rattle.blocks.specs.Keys.{block, factor, slot, tail-slot, both-in, pair-in, Touched}
-use Rattle.blocks.specs.Solved.{Best, Solved, SolvedFrom, Modest}
+use Rattle.blocks.specs.Keys.{block, factor}
+use Rattle.blocks.specs.Solved.{Solved, Modest}
 use Rattle.blocks.proofs.Flats.{run, flat-run, flat-node}
 use Rattle.tails.specs.declared.rates.Rates.{Rates}
-use Rattle.tails.specs.Solving.{label-at, EndPut, MatchesLow, Matching, RowReady, OwnCost, RowSolved, FillReady, PricesAre, FilledFrom, KeptPast}
+use Rattle.tails.specs.Solving.{label-at, EndPut, Matching, RowReady, OwnCost, RowSolved, FillReady, PricesAre, FilledFrom, KeptPast}
 use Rattle.tails.proofs.Rows.{best-end, solved-kept}
 
 -- There are such prices.

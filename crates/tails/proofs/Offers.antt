@@ -1,17 +1,17 @@
 -- The counts of one width, offered one after the other; and the widths of one stretch, and of one tail.
-use mathlib.Core.Path.{_≡_, refl, sym, ap, _∙_}
+use mathlib.Core.Path.{_≡_, refl, ap, _∙_}
 use mathlib.Core.Logic.{_⊎_, inl, inr}
 use mathlib.Core.List.{List}
 use Prim.Native.Nat.{ℕ, suc, _+_, _-_, _*_, _≤_, _<_}
 use native.Mathlib.Nat.{mul-suc, mul-le-mul-right, le-mul-of-pos-right}
 use native.Mathlib.Decide.{decLe, decLt, ℕ-discrete}
 use native.Mathlib.Omega.{arith}
-use lib.ListN.{length, getD}
+use lib.ListN.{getD}
 use Rattle.optimum.proofs.Matches.{copy-more}
 use Rattle.blocks.specs.declared.keys.Key.{Key}
-use Rattle.blocks.specs.Keys.{packed, pair-base, order, Lesser, slot, tail-slot, count-slot, both-in, pair-in, key-in}
+use Rattle.blocks.specs.Keys.{packed, pair-base, order, Lesser, slot, count-slot, both-in, pair-in, key-in}
 use Rattle.tails.specs.declared.rates.Rates.{Rates}
-use Rattle.tails.specs.Solving.{top-price, RatesLow, plain-key, repeat-key, Within, OfferCame, kept, taken, Offered, Fits, WidthCame, WidthOffered, StretchCame, by-plain, by-repeat, Stretched, plain-tail, repeat-tail, Twice, TailOffered, TailCame, by-width, Tailed}
+use Rattle.tails.specs.Solving.{top-price, RatesLow, plain-key, repeat-key, Within, OfferCame, kept, taken, Offered, WidthCame, WidthOffered, StretchCame, by-plain, by-repeat, Stretched, plain-tail, repeat-tail, Twice, TailOffered, TailCame, by-width, Tailed}
 
 -- Keys of the same numbers are the same.
 abbrev made : (both pair : ℕ) → Key

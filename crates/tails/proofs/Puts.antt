@@ -1,22 +1,21 @@
 -- The keys of one block, put one after the other: its stretches, its best counts, its tail.
-use mathlib.Core.Path.{_≡_, refl, sym, ap, _∙_}
-use mathlib.Core.Logic.{_⊎_, inl, inr}
+use mathlib.Core.Path.{_≡_, refl, ap, _∙_}
 use mathlib.Core.List.{List}
 use Prim.Native.Nat.{ℕ, _+_, _-_, _*_, _≤_, _<_}
-use native.Mathlib.Decide.{decLe, ℕ-discrete}
+use native.Mathlib.Decide.{ℕ-discrete}
 use native.Mathlib.Omega.{arith}
-use lib.ListN.{length, getD}
-use Rattle.format.specs.Forest.{Forest, siblings, bytes}
-use Rattle.optimum.specs.Cheapest.{Run, front, back, node, Power, best-cost}
+use lib.ListN.{getD}
+use Rattle.format.specs.Forest.{Forest, bytes}
+use Rattle.optimum.specs.Cheapest.{front, back, best-cost}
 use Rattle.optimum.proofs.Cut.{siblings-back}
 use Rattle.optimum.proofs.Powers.{reach}
 use Rattle.optimum.proofs.Cheapest.{best-cost-step}
 use Rattle.blocks.specs.declared.keys.Key.{Key}
-use Rattle.blocks.specs.Keys.{packed, pair-base, block, slot, tail-slot, count-slot, both-in, pair-in, both-base, entry-base, SameKey, Put, Touched}
-use Rattle.blocks.specs.Solved.{Best, BestCount, Solved}
+use Rattle.blocks.specs.Keys.{pair-base, slot, tail-slot, count-slot, both-in, pair-in, both-base, entry-base, SameKey, Put, Touched}
+use Rattle.blocks.specs.Solved.{Best, BestCount}
 use Rattle.blocks.proofs.Slots.{put-touched, put-other, touched-none, touched-more}
 use Rattle.blocks.proofs.Flats.{run, flat-node, stretch-low, tail-low}
-use Rattle.blocks.proofs.Bests.{two-later, two-copies}
+use Rattle.blocks.proofs.Bests.{two-later}
 use Rattle.tails.specs.declared.rates.Rates.{Rates}
 use Rattle.tails.specs.Solving.{top-rate, Stretched, Counted, Twice, Tailed, RowReady, OwnCost, StretchesBelow, CountsBelow, StretchesPut, CountPut, CountsPut, RowSolved, EndPut}
 use Rattle.tails.proofs.Rows.{best-end, best-same, count-same, ready-kept, match-inside, near-here, here-near, stretch-best, count-best, tail-best, wide-small}

@@ -1,30 +1,30 @@
 -- Solving one block: what the least keys of the candidates are the keys of, and that the blocks behind stay as they are.
 use mathlib.Core.Path.{_≡_, refl, sym, ap, _∙_}
-use mathlib.Core.Logic.{_⊎_, inl, inr}
+use mathlib.Core.Logic.{inr}
 use mathlib.Core.List.{List}
-use Prim.Native.Nat.{ℕ, zero, suc, _+_, _-_, _*_, _≤_, _<_}
+use Prim.Native.Nat.{ℕ, _+_, _-_, _*_, _≤_, _<_}
 use native.Mathlib.Nat.{mul-le-mul-right}
 use native.Mathlib.Decide.{decLe}
 use native.Mathlib.Omega.{arith}
-use lib.ListN.{length, getD}
-use Rattle.format.specs.Limits.{Prices, of-repeat}
+use lib.ListN.{getD}
+use Rattle.format.specs.Limits.{Prices}
 use Rattle.format.specs.Forest.{Forest, end, Allowed, siblings}
-use Rattle.optimum.specs.Cheapest.{Run, front, back, node, Power, Candidate, plain, power, price, best-cost}
+use Rattle.optimum.specs.Cheapest.{Run, front, back, Power, plain, power, price, best-cost}
 use Rattle.optimum.specs.Matches.{Matched}
-use Rattle.optimum.proofs.Cut.{back-back, front-front, run-back, siblings-cut, siblings-back, siblings-piece}
+use Rattle.optimum.proofs.Cut.{back-back, run-back, siblings-cut, siblings-back, siblings-piece}
 use Rattle.optimum.proofs.Powers.{reach, node-back, power-front, power-of-front}
 use Rattle.optimum.proofs.Least.{price-power, least-one}
 use Rattle.optimum.proofs.Cheapest.{price-plain, best-cost-end}
 use Rattle.optimum.proofs.Level.{plain-at, power-at}
 use Rattle.optimum.proofs.Matches.{copy-more, near-power, power-near}
 use Rattle.blocks.specs.declared.keys.Key.{Key}
-use Rattle.blocks.specs.Keys.{factor, bases, packed, pair-base, order, Lesser, block, slot, tail-slot, count-slot, both-in, pair-in, both-base, SameKey, Put, Touched}
-use Rattle.blocks.specs.Solved.{Best, BestCount, behind, Solved, SolvedFrom, Modest}
-use Rattle.blocks.proofs.Slots.{put-touched, put-other, touched-same, touched-none, touched-more}
-use Rattle.blocks.proofs.Flats.{run, flat-front, flat-back, tail-low, stretch-low}
+use Rattle.blocks.specs.Keys.{bases, packed, pair-base, order, slot, tail-slot, count-slot, both-in, pair-in, SameKey, Touched}
+use Rattle.blocks.specs.Solved.{Best, BestCount, behind, Solved, Modest}
+use Rattle.blocks.proofs.Slots.{touched-same}
+use Rattle.blocks.proofs.Flats.{run, flat-front, flat-back}
 use Rattle.blocks.proofs.Bests.{Lowest, lowest-best, two-later, count-only, count-more}
 use Rattle.tails.specs.declared.rates.Rates.{Rates}
-use Rattle.tails.specs.Solving.{RatesLow, plain-key, repeat-key, Fits, StretchCame, by-plain, by-repeat, Stretched, two-key, more-key, Counted, plain-tail, repeat-tail, Twice, TailCame, by-width, Tailed, Matching, RowReady, OwnCost, StretchesBelow, CountsBelow, StretchesPut, CountsPut, RowSolved}
+use Rattle.tails.specs.Solving.{plain-key, repeat-key, Fits, StretchCame, by-plain, by-repeat, Stretched, two-key, more-key, Counted, plain-tail, Twice, TailCame, by-width, Tailed, RowReady, OwnCost, StretchesBelow, CountsBelow}
 
 -- Nothing costs nothing.
 pub best-end : (A : Allowed) (P : Prices) → Best A P end 0 0

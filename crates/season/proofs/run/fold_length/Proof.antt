@@ -1,5 +1,4 @@
 -- `fold_length` meets its contract.
-use native.Mathlib.Nat.{zero-add}
 use native.Mathlib.Omega.{arith}
 use borrow.Author.Needs.{needs}
 use Rattle.season.proofs.run.fold_length.Statement.{statement}

@@ -1,8 +1,7 @@
 -- `solve` meets its contract: what each put leaves is what the next one rests on.
-use mathlib.Core.Path.{refl, _∙_}
+use mathlib.Core.Path.{refl}
 use native.Mathlib.Omega.{arith}
 use Rattle.tails.proofs.Puts.{own-low, FirstPut, first-put, ready-first, own-first, ready-second, ready-third, pairs-third, tail-key-low, row-solved}
-use borrow.Author.Needs.{needs}
 use Rattle.tails.proofs.row.solve.Statement.{statement}
 use Rattle.tails.proofs.row.solve.Tie as tie
 

@@ -1,5 +1,4 @@
 -- `fill` meets its contract.
-use Prim.Native.Nat.{_+_, _*_}
 use native.Mathlib.Omega.{arith}
 use Rattle.tails.proofs.Fills.{none-match, end-filled, end-kept, ready-past, kept-more, kept-wider}
 use borrow.Author.Needs.{needs}

@@ -1,5 +1,5 @@
 -- `fill_steps` meets its contract: at each turn the blocks from step i on are solved.
-use mathlib.Core.Path.{_≡_, refl, ap}
+use mathlib.Core.Path.{_≡_, ap}
 use Prim.Native.Nat.{_+_, _-_, _*_, _≤_, _<_}
 use native.Mathlib.Omega.{arith}
 use lib.ListN.{length}
@@ -7,8 +7,8 @@ use Rattle.format.specs.Limits.{allowed}
 use Rattle.format.specs.Tree.{tree-of}
 use Rattle.blocks.specs.Keys.{block}
 use Rattle.blocks.proofs.Flats.{flat-size}
-use Rattle.tails.specs.Solving.{Matching, FillReady, FilledFrom, KeptPast}
-use Rattle.tails.proofs.Fills.{some-prices, prices-some, ready-past, row-at, row-own, filled-more, row-kept, kept-more, kept-none}
+use Rattle.tails.specs.Solving.{Matching, FilledFrom, KeptPast}
+use Rattle.tails.proofs.Fills.{prices-some, ready-past, row-at, row-own, filled-more, row-kept, kept-more, kept-none}
 use Rattle.tails.proofs.run.fill_steps.Statement.{statement}
 use Rattle.tails.proofs.run.fill_steps.Tie as tie
 

@@ -1,8 +1,8 @@
 -- `offer` meets its contract: at each turn the counts so far are offered.
-use mathlib.Core.Path.{_≡_, refl}
+use mathlib.Core.Path.{refl}
 use Prim.Native.Nat.{_+_, _-_, _≤_}
 use native.Mathlib.Omega.{arith}
-use Rattle.blocks.specs.Keys.{slot, both-in}
+use Rattle.blocks.specs.Keys.{slot}
 use Rattle.tails.specs.Solving.{top-price}
 use Rattle.tails.proofs.Offers.{read-both, Offering, offering-none, offering-more, offering-all, count-low, price-low}
 use Rattle.tails.proofs.stretches.offer.Statement.{statement}
