@@ -28,9 +28,9 @@ pub extern "C" fn runfold_read_season_run(run: &[u8], answer: &mut [u64]) -> u8
     if answer.len() < ENTRIES {
         return SHORT;
     }
-    let read = read_season_run(run);
-    store_run_reading(answer, read);
-    read.refusal
+    let flat = read_season_run(run);
+    store_run_reading(answer, flat);
+    flat.refusal
 }
 
 // The season reader: the fold reader of season folds, at the same arguments and with the same values.
