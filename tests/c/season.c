@@ -1,12 +1,9 @@
 /* Whole seasons from C, at unit costs: runs of up to 65,535 steps and their folds, what the two readers, the unroller and the
  * folder answer, and their refusals, all worked out by hand. What a call has no business to write must be as it was. Up to
  * 1,024 steps the season folder is also held to runfold_fold. */
-#include "runfold.h"
+#include "expect.h"
 
-#include <stdio.h>
-#include <string.h>
-
-enum { LIMIT = RUNFOLD_SEASON_WIDTH, ALL = RUNFOLD_ENTRIES, NODES = RUNFOLD_SEASON_NODES, MOST = 64, UNWRITTEN = 99 };
+enum { LIMIT = RUNFOLD_SEASON_WIDTH, NODES = RUNFOLD_SEASON_NODES, MOST = 64 };
 
 /* A fold and what the season reader answers: refusal, place, nodes, length, cost, steps and depth. */
 struct form {
@@ -102,31 +99,6 @@ static uint32_t work[RUNFOLD_SEASON_WORK(NODES) + 2];
 static uint8_t out[RUNFOLD_ROOM(NODES) + 1];
 /* Two bytes more than the longest run has. */
 static uint8_t run[RUNFOLD_SEASON_RUN + 2];
-static uint64_t answer[ALL];
-static int failures;
-
-static void fail(const char *name, const char *what)
-{
-    printf("%s, %s\n", name, what);
-    failures++;
-}
-
-static void expect(const char *name, const char *function, unsigned result, const uint64_t *wanted)
-{
-    if (result != wanted[RUNFOLD_REFUSAL] || memcmp(answer, wanted, sizeof answer) != 0)
-        fail(name, function);
-}
-
-/* The first bytes of the output are these, and the next ones are not written. */
-static void expect_out(const char *name, const char *function, const uint8_t *wanted, size_t len)
-{
-    int right = memcmp(out, wanted, len) == 0;
-
-    for (size_t i = len; i < sizeof out; i++)
-        right = right && out[i] == UNWRITTEN;
-    if (!right)
-        fail(name, function);
-}
 
 /* The first entries of the work are so, all of them, and the next one is not written. */
 static void expect_work(const char *name, size_t needed, uint32_t wanted)
@@ -173,24 +145,24 @@ static void forms_of(const struct form *f)
     expect(f->name, "season unroller", unroll_season(f->fold, f->len, LIMIT, len), unrolled);
     memcpy(run, out, len);
     expect(f->name, "season unroller, more room", unroll_season(f->fold, f->len, LIMIT, len + 5), unrolled);
-    expect_out(f->name, "run of the season unroller", run, len);
+    expect_bytes(f->name, "run of the season unroller", out, sizeof out, run, len);
     if (len > 0) {
         expect(f->name, "season unroller, a byte too short", unroll_season(f->fold, f->len, LIMIT, len - 1), no_room);
-        expect_out(f->name, "season unroller, a byte too short", run, 0);
+        expect_bytes(f->name, "season unroller, a byte too short", out, sizeof out, run, 0);
     }
 
     expect(f->name, "season run reader", runfold_read_season_run(run, len, answer, ALL), of_run);
     for (size_t more = 0; more <= 1; more++) {
         expect(f->name, "season folder", fold_season(len, f->limit, needed + more, f->len + more), folded);
-        expect_out(f->name, "fold of the season folder", f->fold, f->len);
+        expect_bytes(f->name, "fold of the season folder", out, sizeof out, f->fold, f->len);
         expect_work(f->name, needed, 0);
     }
     expect(f->name, "season folder, an entry too short", fold_season(len, f->limit, needed - 1, 0), no_work);
-    expect_out(f->name, "season folder, an entry too short", f->fold, 0);
+    expect_bytes(f->name, "season folder, an entry too short", out, sizeof out, f->fold, 0);
     expect_work(f->name, needed - 1, UNWRITTEN);
     if (f->len > 0) {
         expect(f->name, "season folder, a byte too short", fold_season(len, f->limit, needed, f->len - 1), no_room);
-        expect_out(f->name, "season folder, a byte too short", f->fold, 0);
+        expect_bytes(f->name, "season folder, a byte too short", out, sizeof out, f->fold, 0);
         expect_work(f->name, needed, 0);
     }
 }
@@ -209,7 +181,7 @@ static void wide(const char *name, size_t steps, size_t limit, uint64_t cost)
     memcpy(fold + 5, run, 2 * steps);
     fold[5 + 2 * steps] = 0x21;
     expect(name, "season folder", fold_season(4 * steps, limit, RUNFOLD_SEASON_WORK(2 * steps), sizeof out - 1), wanted);
-    expect_out(name, "fold of the season folder", repeated ? fold : run, (size_t)wanted[RUNFOLD_LENGTH]);
+    expect_bytes(name, "fold of the season folder", out, sizeof out, repeated ? fold : run, (size_t)wanted[RUNFOLD_LENGTH]);
 }
 
 /* Run reader and folder refuse a run by the same; the folder leaves its slices as they are. */
@@ -219,7 +191,7 @@ static void refuses_run(const char *name, size_t len, uint64_t refusal, uint64_t
 
     expect(name, "season run reader", runfold_read_season_run(run, len, answer, ALL), wanted);
     expect(name, "season folder", fold_season(len, LIMIT, RUNFOLD_SEASON_WORK(2), sizeof out - 1), wanted);
-    expect_out(name, "season folder", run, 0);
+    expect_bytes(name, "season folder", out, sizeof out, run, 0);
     expect_work(name, RUNFOLD_SEASON_WORK(2), UNWRITTEN);
 }
 
@@ -231,7 +203,7 @@ static void refuses(const struct refused *r)
     if (r->unrolled == RUNFOLD_OK)
         return;
     expect(r->name, "season unroller", unroll_season(r->bytes, r->len, r->limit, sizeof out - 1), unrolled);
-    expect_out(r->name, "season unroller", r->bytes, 0);
+    expect_bytes(r->name, "season unroller", out, sizeof out, r->bytes, 0);
 }
 
 /* The longest run, and with another command behind it. */
@@ -292,7 +264,7 @@ static void marked(void)
         run[2 * i + 1] = i % 4 == 3 ? 7 : 1;
     }
     expect("aaag twice, g marked", "season folder", fold_season(16, LIMIT, RUNFOLD_SEASON_WORK(8), sizeof fold), wanted);
-    expect_out("aaag twice, g marked", "season folder", fold, sizeof fold);
+    expect_bytes("aaag twice, g marked", "season folder", out, sizeof out, fold, sizeof fold);
 }
 
 /* Runs of several make as both folders fold them, at every limit. */

@@ -1,11 +1,8 @@
 /* The short command family from C, at unit costs: folds and their short forms, what short reader, short folder and both
  * conversions answer, and their refusals, all worked out by hand. What a call has no business to write must be as it was. */
-#include "runfold.h"
+#include "expect.h"
 
-#include <stdio.h>
-#include <string.h>
-
-enum { LIMIT = RUNFOLD_MAX_WIDTH, ALL = RUNFOLD_ENTRIES, NODES = RUNFOLD_MAX_NODES, MOST = 40, ROOM = 600, UNWRITTEN = 99 };
+enum { LIMIT = RUNFOLD_MAX_WIDTH, NODES = RUNFOLD_MAX_NODES, MOST = 40, ROOM = 600 };
 
 /* A fold, its short form, and what a reader answers of either: refusal, place, nodes, length, cost, steps and depth. */
 struct form {
@@ -84,31 +81,6 @@ static uint16_t ones[256];
 static uint8_t marks[256];
 static uint32_t costs[RUNFOLD_WORK(NODES)], choices[RUNFOLD_WORK(NODES)];
 static uint8_t out[RUNFOLD_MAX_RUN];
-static uint64_t answer[ALL];
-static int failures;
-
-static void fail(const char *name, const char *what)
-{
-    printf("%s, %s\n", name, what);
-    failures++;
-}
-
-static void expect(const char *name, const char *function, unsigned result, const uint64_t *wanted)
-{
-    if (result != wanted[RUNFOLD_REFUSAL] || memcmp(answer, wanted, sizeof answer) != 0)
-        fail(name, function);
-}
-
-/* The first bytes of the output are these, and the others are not written. */
-static void expect_out(const char *name, const char *function, const uint8_t *wanted, size_t len)
-{
-    int right = memcmp(out, wanted, len) == 0;
-
-    for (size_t i = len; i < sizeof out; i++)
-        right = right && out[i] == UNWRITTEN;
-    if (!right)
-        fail(name, function);
-}
 
 /* The entries of both work slices that a run of so many nodes needs are 0, and the next ones are not written. */
 static void expect_cleared(const char *name, size_t nodes)
@@ -149,12 +121,12 @@ static void converts(const char *name, const char *function, conversion *convert
     for (size_t more = 0; more <= 5; more += 5) {
         memset(out, UNWRITTEN, sizeof out);
         expect(name, function, convert(from, from_len, out, to_len + more, answer, ALL), written);
-        expect_out(name, function, to, to_len);
+        expect_bytes(name, function, out, sizeof out, to, to_len);
     }
     if (to_len > 0) {
         memset(out, UNWRITTEN, sizeof out);
         expect(name, function, convert(from, from_len, out, to_len - 1, answer, ALL), too_short);
-        expect_out(name, function, to, 0);
+        expect_bytes(name, function, out, sizeof out, to, 0);
     }
 }
 
@@ -175,12 +147,12 @@ static void folds(const struct form *f)
     len = (size_t)answer[RUNFOLD_LENGTH];
     memset(out, UNWRITTEN, sizeof out);
     expect(f->name, "short folder", fold_short(run, len, f->brief_len), written);
-    expect_out(f->name, "short folder", f->brief, f->brief_len);
+    expect_bytes(f->name, "short folder", out, sizeof out, f->brief, f->brief_len);
     expect_cleared(f->name, (size_t)f->answer[RUNFOLD_NODES]);
     if (f->brief_len > 0) {
         memset(out, UNWRITTEN, sizeof out);
         expect(f->name, "short folder, a byte too short", fold_short(run, len, f->brief_len - 1), too_short);
-        expect_out(f->name, "short folder, a byte too short", f->brief, 0);
+        expect_bytes(f->name, "short folder, a byte too short", out, sizeof out, f->brief, 0);
         expect_cleared(f->name, (size_t)f->answer[RUNFOLD_NODES]);
     }
 }
@@ -211,7 +183,7 @@ static void refuses(const struct refused *r)
         return;
     memset(out, UNWRITTEN, sizeof out);
     expect(r->name, "to the fold", runfold_to_long(r->bytes, r->len, out, sizeof out, answer, ALL), converted);
-    expect_out(r->name, "to the fold", r->bytes, 0);
+    expect_bytes(r->name, "to the fold", out, sizeof out, r->bytes, 0);
 }
 
 /* Every function that takes a run or a fold refuses a 22 by 1. */

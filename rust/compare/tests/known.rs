@@ -1,36 +1,15 @@
 //! The known folds of docs/FORMAT.md and the examples of docs/REFUSALS.md, on the library through its safe interface and on the
 //! independent implementation.
 
+mod common;
+
+use common::{bytes, owned, prices, word, FREE, UNIT};
 use compare::inputs::marking;
 use compare::reference::{self, Family};
 use runfold::Refusal::*;
 use runfold::{find, fold, folded, index, part, read_fold, read_run, unroll, work_entries};
 use runfold::{fold_short, read_short, to_long, to_short};
 use runfold::{FoldReading, Folding, Found, Kind, Prices, Refusal, RunReading};
-
-const UNIT: [u16; 256] = [1; 256];
-const FREE: [u8; 256] = [0; 256];
-
-/// Every step and group for 1, and no label marked.
-fn prices(first: u16, each: u16) -> Prices<'static> {
-    Prices { steps: &UNIT, groups: &UNIT, marks: &FREE, first, each }
-}
-
-/// The same for the independent implementation.
-fn owned(prices: Prices) -> reference::Prices {
-    let Prices { steps, groups, marks, first, each } = prices;
-    reference::Prices { steps: steps.to_vec(), groups: groups.to_vec(), marks: marks.to_vec(), first, each }
-}
-
-fn bytes(hex: &str) -> Vec<u8> {
-    let digits: Vec<u32> = hex.chars().filter_map(|c| c.to_digit(16)).collect();
-    digits.chunks(2).map(|pair| (pair[0] * 16 + pair[1]) as u8).collect()
-}
-
-/// Letters a, b, c .. as steps 01, 02, 03 ..
-fn word(letters: &str) -> Vec<u8> {
-    letters.bytes().flat_map(|letter| [0x10, letter - b'a' + 1]).collect()
-}
 
 fn check(run: &[u8], limit: usize, prices: Prices, expected: &[u8], cost: u64) {
     assert_eq!(folded(run, limit, prices), Ok((expected.to_vec(), cost)));

@@ -1,35 +1,14 @@
 //! Known folds of whole seasons and the refusals there, on the library through its safe interface and on the independent
 //! implementation.
 
+mod common;
+
+use common::{bytes, owned, prices, word, FREE, UNIT};
 use compare::inputs::{flat_bytes, flat_run, marking, prices as any_prices, Random};
 use compare::{reference, season};
 use runfold::Refusal::{self, *};
 use runfold::{fold_room, fold_season, folded, read_season, read_season_run, season_work_entries, unroll_season};
 use runfold::{FoldReading, Folding, Prices, RunReading, SEASON_NODES, SEASON_RUN_ROOM, SEASON_WIDTH};
-
-const UNIT: [u16; 256] = [1; 256];
-const FREE: [u8; 256] = [0; 256];
-
-/// Every step for 1, and no label marked.
-fn prices(first: u16, each: u16) -> Prices<'static> {
-    Prices { steps: &UNIT, groups: &UNIT, marks: &FREE, first, each }
-}
-
-/// The same for the independent implementation.
-fn owned(prices: Prices) -> reference::Prices {
-    let Prices { steps, groups, marks, first, each } = prices;
-    reference::Prices { steps: steps.to_vec(), groups: groups.to_vec(), marks: marks.to_vec(), first, each }
-}
-
-fn bytes(hex: &str) -> Vec<u8> {
-    let digits: Vec<u32> = hex.chars().filter_map(|c| c.to_digit(16)).collect();
-    digits.chunks(2).map(|pair| (pair[0] * 16 + pair[1]) as u8).collect()
-}
-
-/// Letters a, b, c .. as steps 01, 02, 03 ..
-fn word(letters: &str) -> Vec<u8> {
-    letters.bytes().flat_map(|letter| [0x10, letter - b'a' + 1]).collect()
-}
 
 /// A run is folded to that, in slices just long enough and longer; in shorter ones it is refused. The fold is read and unrolled.
 fn check(run: &[u8], limit: usize, prices: Prices, expected: &[u8], cost: u64) {
