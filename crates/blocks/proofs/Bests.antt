@@ -1,4 +1,5 @@
--- The key of the cheapest fold: the least of those that may stand first. And the best count at a width, one step earlier than one copy on.
+-- The key of the cheapest fold: the least of those that may stand first. And the best count at a width, one step earlier than one
+-- copy on.
 use mathlib.Core.Path.{_≡_, refl, sym, ap, _∙_}
 use mathlib.Core.Logic.{_⊎_, inl, inr}
 use Prim.Native.Nat.{ℕ, suc, _+_, _-_, _*_, _≤_, _<_}

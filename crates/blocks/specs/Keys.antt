@@ -1,6 +1,6 @@
--- The season folder's work: one lent slice in blocks of 256 entries, one block for each step and one for the end of the run. A block has
--- slots of three entries, and a slot has a key: cost and repeats of a fold, which one number combines, and the pair of count and width
--- that the fold's first item has, 0 for the plain step. The least key is that of the preferred fold.
+-- The season folder's work: one lent slice in blocks of 256 entries, one block for each step and one for the end of the run. A
+-- block has slots of three entries, and a slot has a key: cost and repeats of a fold, which one number combines, and the pair of
+-- count and width that the fold's first item has, 0 for the plain step. The least key is that of the preferred fold.
 use mathlib.Core.Path.{_≡_}
 use mathlib.Core.Logic.{_⊎_}
 use mathlib.Core.List.{List}
@@ -34,8 +34,8 @@ pub record Lesser (a b r : Key) : Type 0 where
   pub right : order r ≤ order b
   pub one : (r ≡ a) ⊎ (r ≡ b)
 
--- Where slot s of the block of step i begins. Slot d, up to 32, is of the stretch of d steps from step i on; then come that of the tail,
--- all steps from step i on, and for each width w, up to 32, that of the best count.
+-- Where slot s of the block of step i begins. Slot d, up to 32, is of the stretch of d steps from step i on; then come that of
+-- the tail, all steps from step i on, and for each width w, up to 32, that of the best count.
 abbrev pub block : ℕ
 block = 256
 

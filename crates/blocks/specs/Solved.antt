@@ -1,5 +1,5 @@
--- What the blocks hold once they are solved: the keys of the cheapest folds of stretches and tails, and the best count at each width. The
--- prices count repeats, so that every cost is cost and repeats, combined.
+-- What the blocks hold once they are solved: the keys of the cheapest folds of stretches and tails, and the best count at each
+-- width. The prices count repeats, so that every cost is cost and repeats, combined.
 use mathlib.Core.Path.{_≡_}
 use mathlib.Core.List.{List}
 use Prim.Native.Nat.{ℕ, _+_, _-_, _*_, _<_, _≤_}

@@ -1,5 +1,5 @@
--- UP TO 1,024 STEPS THE SEASON FOLDER IS THE FOLDER: at the same limit and costs it folds the same runs to the same bytes at the same
--- cost. And what is always enough to lend to it.
+-- UP TO 1,024 STEPS THE SEASON FOLDER IS THE FOLDER: at the same limit and costs it folds the same runs to the same bytes at the
+-- same cost. And what is always enough to lend to it.
 use mathlib.Core.Path.{_≡_, refl, sym, ap, _∙_}
 use mathlib.Core.Bool.{false}
 use mathlib.Core.List.{List}
@@ -66,7 +66,8 @@ module _ (s : List ℕ) (small : Bytes s) (k : ℕ) (T : Tariff) (n : ℕ) (f : 
 abbrev pub admission : (s : List ℕ) (k : ℕ) (T : Tariff) → RunReading
 admission s k T = as-run-reading (run-outcome-in season (full-head T k) s)
 
--- A run that is admitted is then folded, for neither 13 nor 14 is left: 256 entries for each step and the end, four bytes for each step.
+-- A run that is admitted is then folded, for neither 13 nor 14 is left: 256 entries for each step and the end, four bytes for
+-- each step.
 pub season-lent-enough : (s : List ℕ) → Bytes s → (k : ℕ) (T : Tariff) → admission s k T .refusal ≡ 0 → (work room : ℕ)
     → work-entries (admission s k T .nodes) ≤ work → 4 * admission s k T .nodes ≤ room
     → season-answer (season-folding s k T) work room .refusal ≡ 0

@@ -27,8 +27,8 @@ width-of x = x % 64
 abbrev pub covers : ℕ → ℕ
 covers x = cond (eqb x 0) 1 (count-of x * width-of x)
 
--- All that the bytes of the cheapest fold of the steps from `from` up to `end` rest on: the run, its solved blocks, and that the steps are
--- a tail or a stretch within the limit.
+-- All that the bytes of the cheapest fold of the steps from `from` up to `end` rest on: the run, its solved blocks, and that the
+-- steps are a tail or a stretch within the limit.
 pub record StepsReady (run work : List ℕ) (tail : Bool) (from end : ℕ) : Type 0 where
   pub allowed : Allowed
   pub prices : Prices

@@ -1,5 +1,5 @@
-// The season folder: the cheapest fold of a flat run of up to 65,535 steps under a width limit of at most 32, in work that grows with
-// the steps and not with their square.
+// The season folder: the cheapest fold of a flat run of up to 65,535 steps under a width limit of at most 32, in work that grows
+// with the steps and not with their square.
 mod run;
 mod write;
 
@@ -17,10 +17,10 @@ ghost use Rattle.format.specs.Readings.{season-rules};
 ghost use Rattle.optimum.specs.Demands.{CheapestWithin, CheapestOver, MinimumTreeIn};
 ghost use Rattle.season.specs.Folding.{season-folding, season-answer, season-output, season-work};
 
-// The cheapest fold of a season run under a width limit, ties by fewer repeats and then by byte order: refusals 11, 15, 12, 18, the
-// run's own, 13 and 14. `steps` and `groups` are the cost tables, `marks` has 1 for each label that may stand in no repeat, `work` is
-// the work. What it writes is the cheapest of all bytes that are season folds and a smallest tree by the report, and 14 says that the
-// cheapest of all bytes has no room.
+// The cheapest fold of a season run under a width limit, ties by fewer repeats and then by byte order: refusals 11, 15, 12, 18,
+// the run's own, 13 and 14. `steps` and `groups` are the cost tables, `marks` has 1 for each label that may stand in no repeat,
+// `work` is the work. What it writes is the cheapest of all bytes that are season folds and a smallest tree by the report, and 14
+// says that the cheapest of all bytes has no room.
 pub fn fold_season(
     run: &[u8],
     limit: usize,

@@ -1,6 +1,6 @@
-// Writing the cheapest fold of a season run by the pairs in its blocks. What has no room is left out and the place behind the fold is
-// answered all the same, so over an empty output the writer only measures. The functions call each other, the steps falling; widths
-// halve, so a body holds no more than five repeats inside each other.
+// Writing the cheapest fold of a season run by the pairs in its blocks. What has no room is left out and the place behind the
+// fold is answered all the same, so over an empty output the writer only measures. The functions call each other, the steps
+// falling; widths halve, so a body holds no more than five repeats inside each other.
 use blocks::Block;
 use blocks::key_at;
 use blocks::slot;
@@ -33,8 +33,8 @@ fn covers(pair: u64) -> usize
     ((pair / Block::WIDTHS) * (pair % Block::WIDTHS)) as usize
 }
 
-// Writes the cheapest fold of the steps from `from` up to `end` from the place `to` on, and answers the place behind it: of a tail,
-// that goes up to the run's end, or of a stretch.
+// Writes the cheapest fold of the steps from `from` up to `end` from the place `to` on, and answers the place behind it: of a
+// tail, that goes up to the run's end, or of a stretch.
 pub fn put_steps(
     run: &[u8],
     work: &[u32],

@@ -1,5 +1,5 @@
--- What solving the block of one step rests on, and what its functions promise: keys that are the least of those of the candidates, and
--- the block solved.
+-- What solving the block of one step rests on, and what its functions promise: keys that are the least of those of the
+-- candidates, and the block solved.
 use mathlib.Core.Path.{_≡_}
 use mathlib.Core.Bool.{true, false}
 use mathlib.Core.List.{List}
@@ -87,8 +87,8 @@ pub record Stretched (W M : List ℕ) (R : Rates) (own i d v : ℕ) (r : Key) : 
   pub repeats : (h w : ℕ) → w < v → Fits M d h w → order r ≤ order (repeat-key W R i d w h)
   pub small : r .pair < pair-base
 
--- The key of the best count at width w from step i on, where k steps match: two copies, or where there is a third, one more than from one
--- copy on, of both the earlier one.
+-- The key of the best count at width w from step i on, where k steps match: two copies, or where there is a third, one more than
+-- from one copy on, of both the earlier one.
 abbrev pub two-key : List ℕ → (i w : ℕ) → Key
 two-key W i w = record { both = both-in W (slot (i + 2 * w) tail-slot); pair = packed 2 w }
 

@@ -1,5 +1,5 @@
-// The best count at each width from one step on, and the tail: all steps from there to the end. What copies beyond the first two cost,
-// with the tail behind them, is known one copy further on, so no loop goes over the counts.
+// The best count at each width from one step on, and the tail: all steps from there to the end. What copies beyond the first two
+// cost, with the tail behind them, is known one copy further on, so no loop goes over the counts.
 use crate::rates::Rates;
 use crate::rates::repeat_cost;
 use blocks::Block;

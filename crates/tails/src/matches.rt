@@ -1,4 +1,5 @@
-// The matches of one step: how many steps from it on equal the one some steps further and are free, at each width within the limit.
+// The matches of one step: how many steps from it on equal the one some steps further and are free, at each width within the
+// limit.
 use format::is_marked;
 ghost use mathlib.Core.Path.{_≡_};
 ghost use Prim.Native.Nat.{_+_, _*_, _≤_, _<_};
@@ -7,7 +8,8 @@ ghost use Rattle.format.specs.Limits.{allowed};
 ghost use Rattle.format.specs.Tree.{tree-of};
 ghost use Rattle.tails.specs.Solving.{FlatRun, MatchAt, Matching};
 
-// The matches of step i at width w, by the k of the next step: one more where the step equals the one w further and is free, else none.
+// The matches of step i at width w, by the k of the next step: one more where the step equals the one w further and is free, else
+// none.
 fn match_at(run: &[u8], marks: &[u8], n: usize, i: usize, w: usize, k: usize) -> usize
     requires { ⌜ (2 * n ≤ length (now run)) × (n < 65536) × (i < n) × (w ≤ 32) × (k < 65536) ⌝ }
     ensures { λ r. ⌜ MatchAt (now (run .entry)) (now (marks .entry)) n i w k r ⌝ }

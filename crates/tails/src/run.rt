@@ -1,5 +1,5 @@
-// All blocks of a run: that of the end, and then one step after the other, from the last to the first. Nothing depends on the run's
-// length but the number of rounds.
+// All blocks of a run: that of the end, and then one step after the other, from the last to the first. Nothing depends on the
+// run's length but the number of rounds.
 use crate::matches::grow;
 use crate::rates::Rates;
 use crate::row::solve;

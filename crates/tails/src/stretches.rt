@@ -1,5 +1,5 @@
-// The stretches that begin at one step: the key of each is the least of the plain step's and of those of the repeats that may stand
-// first.
+// The stretches that begin at one step: the key of each is the least of the plain step's and of those of the repeats that may
+// stand first.
 use crate::rates::Rates;
 use crate::rates::repeat_cost;
 use blocks::Key;
@@ -15,8 +15,8 @@ ghost use lib.ListN.{length, getD};
 ghost use Rattle.blocks.specs.Keys.{block, pair-base, slot, both-in, pair-in};
 ghost use Rattle.tails.specs.Solving.{top-rate, RatesLow, MatchesLow, Offered, WidthOffered, Stretched, RowReady, OwnCost, StretchesPut};
 
-// The least of a key and of those of the repeats of width w that stand first in the stretch of d steps from step i on and cover no more
-// than `reach` of them.
+// The least of a key and of those of the repeats of width w that stand first in the stretch of d steps from step i on and cover
+// no more than `reach` of them.
 fn offer(work: &[u32], rates: Rates, i: usize, d: usize, w: usize, reach: usize, best: Key) -> Key
     requires { ⌜ (block * (i + d + 1) ≤ length (now work)) × (i + d < 65536) × (d ≤ 32) ⌝ }
     requires { ⌜ (0 < w) × (2 * w ≤ d) × (reach ≤ d) × (best .pair < pair-base) ⌝ }

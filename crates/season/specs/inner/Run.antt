@@ -1,4 +1,5 @@
--- The steps that fold an accepted season run: its blocks are filled, the fold is measured and written by them, and they are cleared.
+-- The steps that fold an accepted season run: its blocks are filled, the fold is measured and written by them, and they are
+-- cleared.
 use mathlib.Core.Path.{_≡_}
 use mathlib.Core.List.{List, _++_}
 use Prim.Native.Nat.{ℕ, _≤_}

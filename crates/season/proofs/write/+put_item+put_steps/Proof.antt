@@ -1,4 +1,5 @@
--- The bytes of the cheapest fold, by the blocks' pairs. Each member falls by the steps that it writes, an item by those of its body.
+-- The bytes of the cheapest fold, by the blocks' pairs. Each member falls by the steps that it writes, an item by those of its
+-- body.
 use mathlib.Core.Path.{_≡_, ap, _∙_}
 use mathlib.Core.Bool.{false}
 use Prim.Native.Nat.{ℕ, _+_, _-_, _*_, _%_, _≤_, _<_}
