@@ -21,9 +21,11 @@ use Rattle.format.proofs.Heads.{headed-accepted, headed-narrow, headed-under}
 use Rattle.format.proofs.SeasonRuns.{season-run-is-run, run-is-season-run}
 use Rattle.optimum.specs.Fewest.{preferred}
 use Rattle.optimum.specs.Verdict.{Verdict, refuses, folds, verdict, folding-by}
-use Rattle.optimum.proofs.Demands.{cheapest-room}
+use Rattle.optimum.proofs.Demands.{run-form, run-shape, run-nodes, run-few, cheapest-room}
 use Rattle.optimum.proofs.Verdicts.{accepted-run, accepts, verdict-folds}
+use Rattle.blocks.proofs.Flats.{flat-nodes, flat-size}
 use Rattle.season.specs.Folding.{season-folding, work-entries, season-answer}
+use Rattle.season.proofs.Verdicts.{flat-of}
 
 -- A verdict that folds is that of an accepted run.
 nodes-of : Verdict → ℕ
@@ -61,6 +63,22 @@ module _ (s : List ℕ) (small : Bytes s) (k : ℕ) (T : Tariff) (n : ℕ) (f : 
   pub folder-as-season : k ≤ season .width → ((t : Tally) (x : List ℕ) → read (run-rules-in limits) s ≡ accepted t x → t .depth ≡ 0)
       → folding-by limits false s k T ≡ folds n f c → season-folding s k T ≡ folds n f c
   folder-as-season narrow flat = same-verdict limits season refl (λ t x e wide m. (narrow, run-is-season-run s small t x e (flat t x e)))
+
+-- An accepted season run has two bytes for each step, so at most 131,070.
+pub season-size : (s : List ℕ) → Bytes s → (t : Tally) (x : List ℕ) → read (run-rules-in season) s ≡ accepted t x
+    → (length s ≡ 2 * t .nodes) × (length s ≤ 131070)
+season-size s small t x e =
+    let h = run-shape season s small t x e in
+    let z = flat-of (tree-of s) (h .plain refl) (h .groups) in
+    let all : length s ≡ 2 * t .nodes =
+    omega (
+      arith,
+      ap length (run-form season s small t x e),
+      flat-size (tree-of s) z,
+      flat-nodes (tree-of s) z,
+      run-nodes season s small t x e,
+    ) in
+    (all, omega (arith, run-few season s small t x e))
 
 -- What the season folder's call makes of the run before it looks at work and output.
 abbrev pub admission : (s : List ℕ) (k : ℕ) (T : Tariff) → RunReading

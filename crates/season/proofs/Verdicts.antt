@@ -28,7 +28,7 @@ use Rattle.season.specs.Folding.{season-folding, work-entries, too-short
 use Rattle.season.specs.inner.Run.{RunFolded}
 
 -- A run without groups is flat.
-flat-of : (t : Forest) → Plain t → group-depth t ≤ 0 → Flat t
+pub flat-of : (t : Forest) → Plain t → group-depth t ≤ 0 → Flat t
 unfolding group-depth
 flat-of end p g = tt
 flat-of (step l f) p g = flat-of f p g

@@ -8,8 +8,7 @@ use format::Format;
 use put::put_byte;
 use put::put_open;
 ghost use mathlib.Core.Path.{_≡_};
-ghost use Prim.Native.Nat.{_+_, _*_, _-_, _/_, _%_, _<_, _≤_};
-ghost use lib.ListN.{length};
+ghost use Prim.Native.Nat.{_+_, _*_, _-_, _/_, _%_, _<_};
 ghost use Rattle.season.specs.Writing.{left-slot, covers, StepsFit, ItemFits, StepsWritten, ItemWritten};
 
 // The slot of what is left of a tail, or of a stretch.

@@ -9,9 +9,8 @@ use blocks::lesser;
 use blocks::pair_of;
 use blocks::put_key;
 use blocks::slot;
-ghost use mathlib.Core.Path.{_≡_};
 ghost use Prim.Native.Nat.{ℕ, _+_, _*_, _≤_, _<_};
-ghost use lib.ListN.{length, getD};
+ghost use lib.ListN.{length};
 ghost use Rattle.blocks.specs.Keys.{block, pair-base, slot, count-slot, pair-in};
 ghost use Rattle.tails.specs.Solving.{top-rate, RatesLow, MatchesLow, Counted, Twice, TailOffered, Tailed, RowReady, CountPut, CountsPut};
 

@@ -1,7 +1,6 @@
 // The matches of one step: how many steps from it on equal the one some steps further and are free, at each width within the
 // limit.
 use format::is_marked;
-ghost use mathlib.Core.Path.{_≡_};
 ghost use Prim.Native.Nat.{_+_, _*_, _≤_, _<_};
 ghost use lib.ListN.{length};
 ghost use Rattle.format.specs.Limits.{allowed};

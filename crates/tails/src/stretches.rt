@@ -10,8 +10,8 @@ use blocks::put_key;
 use blocks::slot;
 use table::smaller;
 ghost use mathlib.Core.Path.{_≡_};
-ghost use Prim.Native.Nat.{ℕ, _+_, _*_, _≤_, _<_};
-ghost use lib.ListN.{length, getD};
+ghost use Prim.Native.Nat.{_+_, _*_, _≤_, _<_};
+ghost use lib.ListN.{length};
 ghost use Rattle.blocks.specs.Keys.{block, pair-base, slot, both-in, pair-in};
 ghost use Rattle.tails.specs.Solving.{top-rate, RatesLow, MatchesLow, Offered, WidthOffered, Stretched, RowReady, OwnCost, StretchesPut};
 
