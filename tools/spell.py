@@ -27,7 +27,7 @@ BINDS = [
 
 
 def ours(p):
-    return "/specs/" in p or os.path.basename(p) not in FUNCTION_FILES
+    return "/specs/" in p or p.count("/") == 3 or os.path.basename(p) not in FUNCTION_FILES
 
 
 def bound(text):

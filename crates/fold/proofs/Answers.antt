@@ -58,32 +58,32 @@ module _ (nodes : ℕ) (f : List ℕ) (c : ℕ) (short : length f ≤ 4 * nodes)
   few : nodes ≤ 100 → answered (folds nodes f c) ≡ record { refusal = 0; place = 0; length = length f; cost = c }
   few h = rw (le-ltb _ _ (enough_work nodes h), le-ltb 4096 (length f) (omega arith))
 
-  few-output : nodes ≤ 100 → output (folds nodes f c) ≡ f ++ drop (length f) (replicate 4096 0)
-  few-output h = rw (le-ltb _ _ (enough_work nodes h), le-ltb 4096 (length f) (omega arith))
+  few_output : nodes ≤ 100 → output (folds nodes f c) ≡ f ++ drop (length f) (replicate 4096 0)
+  few_output h = rw (le-ltb _ _ (enough_work nodes h), le-ltb 4096 (length f) (omega arith))
 
 -- The line of a refusal.
-refusal-text : {nodes : ℕ} (v : Verdict) → Decided nodes v → (answered v).refusal ≢ 0
+refusal_text : {nodes : ℕ} (v : Verdict) → Decided nodes v → (answered v).refusal ≢ 0
     → refusal_line (answered v).refusal (answered v).place ≡ lines_of v
-refusal-text v (refusing n p z) e = refl
-refusal-text {nodes} v (folded f c short) e =
+refusal_text v (refusing n p z) e = refl
+refusal_text {nodes} v (folded f c short) e =
     elim (dec_le nodes 100) [
       | yes h ↦ absurd (e (ap (λ (r : Folded). r.refusal) (few nodes f c short h)))
       | no h ↦ rw (many nodes f c short (omega arith), lt-ltb 100 nodes (omega arith))
     ]
 
 -- The lines of a fold, and its length.
-fold-lines : {nodes : ℕ} (v : Verdict) → Decided nodes v → (answered v).refusal ≡ 0
+fold_lines : {nodes : ℕ} (v : Verdict) → Decided nodes v → (answered v).refusal ≡ 0
     → three_lines nodes (answered v).cost (take (answered v).length (output v)) ≡ lines_of v
-fold-lines v (refusing n p z) e = absurd (z e)
-fold-lines {nodes} v (folded f c short) e =
+fold_lines v (refusing n p z) e = absurd (z e)
+fold_lines {nodes} v (folded f c short) e =
     elim (dec_le nodes 100) [
-      | yes h ↦ rw (few nodes f c short h, few-output nodes f c short h, le-ltb 100 nodes h) (ap (three_lines nodes c) (take-append_seam f _))
+      | yes h ↦ rw (few nodes f c short h, few_output nodes f c short h, le-ltb 100 nodes h) (ap (three_lines nodes c) (take-append_seam f _))
       | no h ↦ absurd (omega (arith, ap (λ (r : Folded). r.refusal) (many nodes f c short (omega arith))))
     ]
 
-fold-room : {nodes : ℕ} (v : Verdict) → Decided nodes v → (answered v).length ≤ 4096
-fold-room v (refusing n p z) = omega arith
-fold-room {nodes} v (folded f c short) =
+fold_room : {nodes : ℕ} (v : Verdict) → Decided nodes v → (answered v).length ≤ 4096
+fold_room v (refusing n p z) = omega arith
+fold_room {nodes} v (folded f c short) =
     elim (dec_le nodes 100) [
       | yes h ↦ rw (few nodes f c short h) (omega arith)
       | no h ↦ rw (many nodes f c short (omega arith)) (omega arith)
@@ -91,14 +91,14 @@ fold-room {nodes} v (folded f c short) =
 
 -- The same of the folder's own answer.
 module _ (s : List ℕ) (small : Bytes s) (r : Folded) (answer : r ≡ answered (folding s limits.width unit)) where
-  pub prints-refusal : r.refusal ≢ 0 → refusal_line r.refusal r.place ≡ printed s
+  pub prints_refusal : r.refusal ≢ 0 → refusal_line r.refusal r.place ≡ printed s
   unfolding printed
-  prints-refusal = rw answer (refusal-text _ (decided s small))
+  prints_refusal = rw answer (refusal_text _ (decided s small))
 
-  pub prints-fold : (out : List ℕ) (n : RunReading) → out ≡ output (folding s limits.width unit) → n ≡ run_reading s
+  pub prints_fold : (out : List ℕ) (n : RunReading) → out ≡ output (folding s limits.width unit) → n ≡ run_reading s
       → r.refusal ≡ 0 → three_lines n.nodes r.cost (take r.length out) ≡ printed s
   unfolding printed
-  prints-fold out n e f = rw (e, f, answer) (fold-lines _ (decided s small))
+  prints_fold out n e f = rw (e, f, answer) (fold_lines _ (decided s small))
 
   pub room : r.length ≤ 4096
-  room = rw answer (fold-room _ (decided s small))
+  room = rw answer (fold_room _ (decided s small))

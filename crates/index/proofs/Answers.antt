@@ -37,8 +37,8 @@ pub same_number : (s : List ℕ) → length (index_of s).before ≡ length (inde
 same_number s = length_sums nodes 0 (tree_of s) ∙ sym (length_sums byte_length 0 (tree_of s))
 
 -- Where a test holds, the first of two lists is left.
-kept-where : (b : Bool) (x y : List ℕ) → b ≡ true → x ≡ cond b x y
-kept-where b x y e = rw e
+kept_where : (b : Bool) (x y : List ℕ) → b ≡ true → x ≡ cond b x y
+kept_where b x y e = rw e
 
 -- The builder's promise, for what it answers and leaves in both slices.
 module _ (s offsets before : List ℕ) where
@@ -48,44 +48,44 @@ module _ (s offsets before : List ℕ) where
       × ((offsets' ≡ index_output (fold_alone s) (index_of s) (length offsets) (length before) (index_of s).offsets offsets)
       × (before' ≡ index_output (fold_alone s) (index_of s) (length offsets) (length before) (index_of s).before before))
 
-  pub index-refused : (n p : ℕ) → fold_alone s ≡ refused n p → Promised (indexed n p 0) offsets before
-  index-refused n p e = (rw e, (rw e, rw e))
+  pub index_refused : (n p : ℕ) → fold_alone s ≡ refused n p → Promised (indexed n p 0) offsets before
+  index_refused n p e = (rw e, (rw e, rw e))
 
   module _ (t : Tally) (x : List ℕ) (e : fold_alone s ≡ accepted t x) where
     fourteen : too_short (index_of s) (length offsets) (length before) ≡ true → Promised (indexed 14 0 0) offsets before
     fourteen short =
         let test = too_short (index_of s) (length offsets) (length before) in
         let kept : (entries lent : List ℕ) → lent ≡ cond test lent (entries ++ drop (length entries) lent) =
-        λ entries lent. kept-where test lent (entries ++ drop (length entries) lent) short in
+        λ entries lent. kept_where test lent (entries ++ drop (length entries) lent) short in
         (rw (e, short), (rw e (kept (index_of s).offsets offsets), rw e (kept (index_of s).before before)))
 
-    pub offsets-too-short : length offsets < length (index_of s).offsets → Promised (indexed 14 0 0) offsets before
-    offsets-too-short f = fourteen (rw (lt-ltb (length offsets) (length (index_of s).offsets) f))
+    pub offsets_too_short : length offsets < length (index_of s).offsets → Promised (indexed 14 0 0) offsets before
+    offsets_too_short f = fourteen (rw (lt-ltb (length offsets) (length (index_of s).offsets) f))
 
-    pub before-too-short : length (index_of s).offsets ≤ length offsets → length before < length (index_of s).offsets → Promised (indexed 14 0 0) offsets before
-    before-too-short f g =
+    pub before_too_short : length (index_of s).offsets ≤ length offsets → length before < length (index_of s).offsets → Promised (indexed 14 0 0) offsets before
+    before_too_short f g =
         fourteen (rw (le-ltb (length offsets) (length (index_of s).offsets) f) (lt-ltb (length before) (length (index_of s).before) (omega (arith, g, same_number s))))
 
-    pub index-written : {offsets' before' : List ℕ} → length (index_of s).offsets ≤ length offsets → length (index_of s).offsets ≤ length before
+    pub index_written : {offsets' before' : List ℕ} → length (index_of s).offsets ≤ length offsets → length (index_of s).offsets ≤ length before
         → offsets' ≡ (index_of s).offsets ++ drop (length (index_of s).offsets) offsets
         → before' ≡ (index_of s).before ++ drop (length (index_of s).before) before
         → Promised (indexed 0 0 (length (index_of s).offsets)) offsets' before'
-    index-written f g o b =
+    index_written f g o b =
         let long : too_short (index_of s) (length offsets) (length before) ≡ false =
         rw (le-ltb (length offsets) (length (index_of s).offsets) f) (le-ltb (length before) (length (index_of s).before) (omega (arith, g, same_number s))) in
         (rw (e, long), (o ∙ rw (e, long), b ∙ rw (e, long)))
 
 -- Slices that are the index are equal to it.
-pub index-equal : (i : Index) (offsets before : List ℕ) → is_index i offsets before ≡ true → (offsets ≡ i.offsets) × (before ≡ i.before)
-index-equal i offsets before f = go (same offsets i.offsets) refl f
+pub index_equal : (i : Index) (offsets before : List ℕ) → is_index i offsets before ≡ true → (offsets ≡ i.offsets) × (before ≡ i.before)
+index_equal i offsets before f = go (same offsets i.offsets) refl f
   where
     go : (b : Bool) → same offsets i.offsets ≡ b → (b && same before i.before) ≡ true → (offsets ≡ i.offsets) × (before ≡ i.before)
     go true g h = (same_equal _ _ g, same_equal _ _ h)
     go false g h = absurd (false≢true h)
 
 -- The item of an entry has no more nodes than the whole.
-item-few : {f : Forest} {i : ℕ} (k : Split f i) → nodes k.item ≤ nodes f
-item-few k =
+item_few : {f : Forest} {i : ℕ} (k : Split f i) → nodes k.item ≤ nodes f
+item_few k =
     omega (arith, ap nodes (sym k.whole), nodes_join k.done (join k.item k.back), nodes_join k.item k.back)
 
 -- Of a run that has nodes the index has entries, and the first one is 0.
@@ -101,8 +101,8 @@ module _ (s : List ℕ) (small : Bytes s) (offsets before : List ℕ) (n : ℕ) 
   abbrev pub Found-rightly : Found → Type 0
   Found-rightly r = (r ≡ find_answer s offsets before n) × (r.refusal ≡ 0 → AtPosition s n r)
 
-  pub answer-right : (r : Found) → r ≡ find_answer s offsets before n → r.refusal ≡ 0 → AtPosition s n r
-  answer-right r e success = by_outcome (fold_alone s) refl (is_index (index_of s) offsets before) (get_elem? (written_by s) n) refl e
+  pub answer_right : (r : Found) → r ≡ find_answer s offsets before n → r.refusal ≡ 0 → AtPosition s n r
+  answer_right r e success = by_outcome (fold_alone s) refl (is_index (index_of s) offsets before) (get_elem? (written_by s) n) refl e
     where
       by_outcome : (o : Outcome) → fold_alone s ≡ o → (b : Bool) (w : Option Written) → get_elem? (written_by s) n ≡ w → r ≡ finding o b w → AtPosition s n r
       by_outcome (refused k p) q b w v f = absurd (alone_some false s k p q (sym (ap (λ (u : Found). u.refusal) f) ∙ success))
@@ -118,46 +118,46 @@ module _ (s : List ℕ) (small : Bytes s) (offsets before : List ℕ) (n : ℕ) 
           })
 
   rightly : (r : Found) → r ≡ find_answer s offsets before n → Found-rightly r
-  rightly r e = (e, answer-right r e)
+  rightly r e = (e, answer_right r e)
 
-  pub find-refused : (k p : ℕ) → fold_alone s ≡ refused k p → Found-rightly (not_found k p)
-  find-refused k p e = rightly (not_found k p) (rw e)
+  pub find_refused : (k p : ℕ) → fold_alone s ≡ refused k p → Found-rightly (not_found k p)
+  find_refused k p e = rightly (not_found k p) (rw e)
 
   module _ (t : Tally) (x : List ℕ) (e : fold_alone s ≡ accepted t x) where
-    pub other-index : is_index (index_of s) offsets before ≡ false → Found-rightly (not_found 17 0)
-    other-index f = rightly (not_found 17 0) (rw (e, f) refl)
+    pub other_index : is_index (index_of s) offsets before ≡ false → Found-rightly (not_found 17 0)
+    other_index f = rightly (not_found 17 0) (rw (e, f) refl)
 
     module _ (f : is_index (index_of s) offsets before ≡ true) where
-      pub past-the-total : t.nodes ≤ n → Found-rightly (not_found 16 0)
-      past-the-total g =
+      pub past_the_total : t.nodes ≤ n → Found-rightly (not_found 16 0)
+      past_the_total g =
           rightly (not_found 16 0) (rw (e, f, nth_past (written_by s) n (omega (arith, g, written_total s small t x e))) refl)
 
-      both-are : (offsets ≡ (index_of s).offsets) × (before ≡ (index_of s).before)
-      both-are = index-equal (index_of s) offsets before f
+      both_are : (offsets ≡ (index_of s).offsets) × (before ≡ (index_of s).before)
+      both_are = index_equal (index_of s) offsets before f
 
       module _ (below : n < t.nodes) where
         abbrev f₀ : Forest
         f₀ = tree_of s
 
-        in-run : n < nodes f₀
-        in-run = omega (arith, below, (accepted_fold s small t x e).total)
+        in_run : n < nodes f₀
+        in_run = omega (arith, below, (accepted_fold s small t x e).total)
 
         -- The index has an entry, and the first one is 0.
-        pub some-entry : (0 < length before) × (get_or before 0 0 ≤ n)
-        some-entry = rw both-are.1 (first_entry n f₀ in-run)
+        pub some_entry : (0 < length before) × (get_or before 0 0 ≤ n)
+        some_entry = rw both_are.1 (first_entry n f₀ in_run)
 
         module _ {i : ℕ} (last : LastUpTo before n i) where
-          pub entry-offset : i < length offsets
-          entry-offset = rw both-are.0 (omega (arith, rw both-are.1 at last.there, same_number s))
+          pub entry_offset : i < length offsets
+          entry_offset = rw both_are.0 (omega (arith, rw both_are.1 at last.there, same_number s))
 
           pub holds : ItemOf f₀ n i
-          holds = last_holds f₀ n i in-run (rw both-are.1 at last)
+          holds = last_holds f₀ n i in_run (rw both_are.1 at last)
 
-          before-is : get_or before i 0 ≡ nodes holds.split.done
-          before-is = ap (λ (l : List ℕ). get_or l i 0) both-are.1 ∙ holds.before
+          before_is : get_or before i 0 ≡ nodes holds.split.done
+          before_is = ap (λ (l : List ℕ). get_or l i 0) both_are.1 ∙ holds.before
 
-          offset-is : get_or offsets i 0 ≡ length (bytes holds.split.done)
-          offset-is = ap (λ (l : List ℕ). get_or l i 0) both-are.0 ∙ holds.offset
+          offset_is : get_or offsets i 0 ≡ length (bytes holds.split.done)
+          offset_is = ap (λ (l : List ℕ). get_or l i 0) both_are.0 ∙ holds.offset
 
           -- The item of the entry, from whose offset the way goes down.
           pub node_in : NodeIn s (get_or offsets i 0) (n - get_or before i 0) holds.split.item
@@ -165,11 +165,11 @@ module _ (s : List ℕ) (small : Bytes s) (offsets before : List ℕ) (n : ℕ) 
               let k = holds.split in
               let whole : FormAt s 0 (join k.done (join k.item k.back)) [] = rw k.whole (whole_stands (accepted_fold s small t x e).was_read) in
               let here : FormAt s (get_or offsets i 0) (join k.item k.back) [] =
-              back_stands k.done (join k.item k.back) whole (get_or offsets i 0) (offset-is ∙ omega arith) in
+              back_stands k.done (join k.item k.back) whole (get_or offsets i 0) (offset_is ∙ omega arith) in
               record {
                 stands = record { rest = _; stands = front_stands k.item k.back here; one = k.one };
-                below = omega (arith, holds.reached, holds.below, before-is);
-                few = omega (arith, (accepted_fold s small t x e).was_read.few, item-few k);
+                below = omega (arith, holds.reached, holds.below, before_is);
+                few = omega (arith, (accepted_fold s small t x e).was_read.few, item_few k);
               }
 
           -- What unrolling writes at the position is what it writes of that item, so many nodes further on.
@@ -180,13 +180,13 @@ module _ (s : List ℕ) (small : Bytes s) (offsets before : List ℕ) (n : ℕ) 
               let m = n - get_or before i 0 in
               let parts : writes 0 f₀ ≡ writes 0 k.done ++ (writes q k.item ++ writes (q + length (bytes k.item)) k.back) =
               ap (writes 0) (sym k.whole)
-              ∙ writes_join 0 k.done (join k.item k.back) q (offset-is ∙ omega arith)
+              ∙ writes_join 0 k.done (join k.item k.back) q (offset_is ∙ omega arith)
               ∙ ap (λ (ws : List Written). writes 0 k.done ++ ws) (writes_join q k.item k.back (q + length (bytes k.item)) refl) in
               ap (λ (ws : List Written). get_elem? ws n) parts
               ∙ nth_back (writes 0 k.done) (writes q k.item ++ writes (q + length (bytes k.item)) k.back) m n
-              (omega (arith, length_writes 0 k.done, before-is, holds.reached))
+              (omega (arith, length_writes 0 k.done, before_is, holds.reached))
               ∙ nth_front (writes q k.item) (writes (q + length (bytes k.item)) k.back) m
-              (omega (arith, length_writes q k.item, before-is, holds.reached, holds.below))
+              (omega (arith, length_writes q k.item, before_is, holds.reached, holds.below))
 
           module _ {r : ℕ} (down : (f : Forest) → NodeIn s (get_or offsets i 0) (n - get_or before i 0) f → get_elem? (offsets_in (get_or offsets i 0) f) (n - get_or before i 0) ≡ some r) where
             -- The node that unrolling writes there.
@@ -194,7 +194,7 @@ module _ (s : List ℕ) (small : Bytes s) (offsets before : List ℕ) (n : ℕ) 
             there =
                 let ws = writes (get_or offsets i 0) holds.split.item in
                 let m = n - get_or before i 0 in
-                let v = nth_there ws m (omega (arith, length_writes (get_or offsets i 0) holds.split.item, before-is, holds.reached, holds.below)) in
+                let v = nth_there ws m (omega (arith, length_writes (get_or offsets i 0) holds.split.item, before_is, holds.reached, holds.below)) in
                 let from : map (λ (w : Written). w.offset) (some v.0) ≡ some r =
                 ap (map (λ (w : Written). w.offset)) (sym v.1) ∙ sym (nth_map (λ (w : Written). w.offset) ws m) ∙ down holds.split.item node_in in
                 (v.0, at_item ∙ v.1, some-injective v.0.offset r from)
@@ -202,8 +202,8 @@ module _ (s : List ℕ) (small : Bytes s) (offsets before : List ℕ) (n : ℕ) 
             stands : StandsIn s there.0
             stands = written_stands s small t x e n there.0 there.1
 
-            pub label-within : suc r < length s
-            label-within = omega (arith, stands.within, there.2)
+            pub label_within : suc r < length s
+            label_within = omega (arith, stands.within, there.2)
 
             pub node_found : Found-rightly (record { refusal = 0; place = 0; label = get_or s (r + 1) 0; command = get_or s r 0; offset = r })
             node_found =

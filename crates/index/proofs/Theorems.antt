@@ -25,7 +25,7 @@ use Rattle.index.proofs.Lists.{nth_there, nth_past}
 use Rattle.index.proofs.Sums.{outermost, outermost_one, outermost_nodes, length_sums, entry_small}
 use Rattle.index.proofs.Outermost.{both}
 use Rattle.index.proofs.Accepted.{accepted_fold, written_total}
-use Rattle.index.proofs.Answers.{same_number, index-equal}
+use Rattle.index.proofs.Answers.{same_number, index_equal}
 
 -- An item of a sound sequence unrolls to a node at least.
 item_some : (A : Allowed) (done item back : Forest) → One item → Sound A (join done (join item back)) → 0 < nodes item
@@ -69,7 +69,7 @@ module _ (s : List ℕ) (small : Bytes s) (t : Tally) (x : List ℕ) (e : fold_a
 
         is_not : (b : Bool) → is_index (index_of s) offsets before ≡ b → ((offsets ≡ (index_of s).offsets) × (before ≡ (index_of s).before) → ⊥)
             → (find_answer s offsets before n).refusal ≡ 17
-        is_not true f g = absurd (g (index-equal (index_of s) offsets before f))
+        is_not true f g = absurd (g (index_equal (index_of s) offsets before f))
         is_not false f g = refusal_of false f (get_elem? (written_by s) n) refl
 
     -- 16 exactly where they are, and the position is not below the node total.

@@ -25,60 +25,60 @@ use Rattle.walk.specs.Walk.{Whole, outcome}
 use Rattle.walk.specs.declared.command.Walk.{Walk}
 
 -- The run reader's answer.
-module _ (L : Limits) (s : List ℕ) (w : Walk) (read-it : Whole (run_rules_in L) s w) where
-  pub run-refused : (w.refusal ≡ 0 → ⊥) → (t : Tally) → t ≡ none → run_numbers w.refusal w.at t ≡ run_reading_in L s
+module _ (L : Limits) (s : List ℕ) (w : Walk) (read_it : Whole (run_rules_in L) s w) where
+  pub run_refused : (w.refusal ≡ 0 → ⊥) → (t : Tally) → t ≡ none → run_numbers w.refusal w.at t ≡ run_reading_in L s
   unfolding run_reading_in
-  run-refused e t f = rw (read-it.refuses e, f)
+  run_refused e t f = rw (read_it.refuses e, f)
 
-  pub run-read : w.refusal ≡ 0 → run_numbers 0 0 w.tally ≡ run_reading_in L s
+  pub run_read : w.refusal ≡ 0 → run_numbers 0 0 w.tally ≡ run_reading_in L s
   unfolding run_reading_in
-  run-read e = rw (read-it.reads e).1
+  run_read e = rw (read_it.reads e).1
 
 -- What a walk says of a fold is what the reading says.
 pub answered : (R : Rules) (s : List ℕ) (w : Walk) → Whole R s w → as_fold_reading (outcome w) ≡ as_fold_reading (read R s)
-answered R s w walked = by-test (eqb w.refusal 0) refl
+answered R s w walked = by_test (eqb w.refusal 0) refl
   where
-    by-test : (b : Bool) → eqb w.refusal 0 ≡ b → as_fold_reading (outcome w) ≡ as_fold_reading (read R s)
-    by-test true e = rw (e, (walked.reads (eqb-true _ _ e)).1)
-    by-test false e = rw (e, walked.refuses (eqb-false _ _ e))
+    by_test : (b : Bool) → eqb w.refusal 0 ≡ b → as_fold_reading (outcome w) ≡ as_fold_reading (read R s)
+    by_test true e = rw (e, (walked.reads (eqb-true _ _ e)).1)
+    by_test false e = rw (e, walked.refuses (eqb-false _ _ e))
 
 -- A fold by itself.
-pub alone-read : (short : Bool) (s : List ℕ) (w : Walk) → Whole (alone_rules short) s w → as_fold_reading (outcome w) ≡ as_fold_reading (alone_in short s)
+pub alone_read : (short : Bool) (s : List ℕ) (w : Walk) → Whole (alone_rules short) s w → as_fold_reading (outcome w) ≡ as_fold_reading (alone_in short s)
 unfolding alone_in
-alone-read short s w walked = answered (alone_rules short) s w walked
+alone_read short s w walked = answered (alone_rules short) s w walked
 
 -- The answers at an entry point: by the head's refusal, or by what follows.
 module _ (L : Limits) (h : Head) (n : ℕ) (checked : n ≡ first_of (head_checks L h)) where
-  pub admit-refused : (s : List ℕ) → n ≢ 0 → (t : Tally) → t ≡ none → run_numbers n 0 t ≡ as_run_reading (run_outcome_in L h s)
+  pub admit_refused : (s : List ℕ) → n ≢ 0 → (t : Tally) → t ≡ none → run_numbers n 0 t ≡ as_run_reading (run_outcome_in L h s)
   unfolding run_outcome_in
-  admit-refused s some t f = rw (headed_refused L h (read (run_rules_in L) s) n checked some, f)
+  admit_refused s some t f = rw (headed_refused L h (read (run_rules_in L) s) n checked some, f)
 
-  pub admit-read : (s : List ℕ) → n ≡ 0 → (r : RunReading) → r ≡ run_reading_in L s → r ≡ as_run_reading (run_outcome_in L h s)
+  pub admit_read : (s : List ℕ) → n ≡ 0 → (r : RunReading) → r ≡ run_reading_in L s → r ≡ as_run_reading (run_outcome_in L h s)
   unfolding run_reading_in run_outcome_in
-  admit-read s none r e = e ∙ rw (headed_passed L h (read (run_rules_in L) s) (sym none ∙ checked))
+  admit_read s none r e = e ∙ rw (headed_passed L h (read (run_rules_in L) s) (sym none ∙ checked))
 
   module _ (short : Bool) (T : Tariff) (s : List ℕ) where
     abbrev R : Rules
     R = entry_rules L short h T
 
-    pub fold-refused : n ≢ 0 → (t : Tally) → t ≡ none → fold_numbers n 0 t ≡ as_fold_reading (outcome_by L short h T s)
+    pub fold_refused : n ≢ 0 → (t : Tally) → t ≡ none → fold_numbers n 0 t ≡ as_fold_reading (outcome_by L short h T s)
     unfolding outcome_by
-    fold-refused some t f = rw (headed_refused L h (read R s) n checked some, f)
+    fold_refused some t f = rw (headed_refused L h (read R s) n checked some, f)
 
-    pub fold-read : n ≡ 0 → (w : Walk) → Whole R s w → as_fold_reading (outcome w) ≡ as_fold_reading (outcome_by L short h T s)
+    pub fold_read : n ≡ 0 → (w : Walk) → Whole R s w → as_fold_reading (outcome w) ≡ as_fold_reading (outcome_by L short h T s)
     unfolding outcome_by
-    fold-read none w walked =
+    fold_read none w walked =
         rw (headed_passed L h (read R s) (sym none ∙ checked)) (answered R s w walked)
 
 module _ (s : List ℕ) (k : ℕ) (T : Tariff) (small : Bytes s) (r : FoldReading) where
   -- The fold reader's answer, of the format and of season runs: it is the reading, and on success means what the report says.
-  pub with-meaning : (L : Limits) → r ≡ as_fold_reading (outcome_by L false (full_head T k) T s)
+  pub with_meaning : (L : Limits) → r ≡ as_fold_reading (outcome_by L false (full_head T k) T s)
       → (r ≡ reading_by L false s k T) × (r.refusal ≡ 0 → MeansAtCostIn L k T s r.length r.cost)
   unfolding reading_by
-  with-meaning L e = (e, reading_means L s k T small r e)
+  with_meaning L e = (e, reading_means L s k T small r e)
 
   -- And the short reader's: its long form means that.
-  pub with-long-meaning : r ≡ as_fold_reading (outcome_in true (full_head T k) T s)
+  pub with_long_meaning : r ≡ as_fold_reading (outcome_in true (full_head T k) T s)
       → (r ≡ short_reading s k T) × (r.refusal ≡ 0 → MeansAtCost k T (long_form s) r.length r.cost)
   unfolding reading_by
-  with-long-meaning e = (e, λ z. rw e (short_means s small k T (rw e at z)))
+  with_long_meaning e = (e, λ z. rw e (short_means s small k T (rw e at z)))

@@ -35,11 +35,11 @@ module _ (L : Limits) (s : List ℕ) (k : ℕ) where
       → after ≡ written_output (measured_by L s k) before → Unrolled L s k before after r
   promised small before after r e f = record { answered = e; written = f; meant = by_outcome (measured_by L s k) refl e f }
     where
-      by-room : (t : Tally) (x : List ℕ) → measured_by L s k ≡ accepted t x → (b : Bool) → ltb (length before) (length x) ≡ b
+      by_room : (t : Tally) (x : List ℕ) → measured_by L s k ≡ accepted t x → (b : Bool) → ltb (length before) (length x) ≡ b
           → r ≡ written_answer (accepted t x) (length before) → after ≡ written_output (accepted t x) before → r.refusal ≡ 0
           → MeansIn L (at_most k) s (take r.length after)
-      by-room t x m true b e f z = absurd (omega (arith, ap (λ (u : Written). u.refusal) (rw b at e)))
-      by-room t x m false b e f z =
+      by_room t x m true b e f z = absurd (omega (arith, ap (λ (u : Written). u.refusal) (rw b at e)))
+      by_room t x m false b e f z =
           let long : r.length ≡ length x = ap (λ (u : Written). u.length) (rw b at e) in
           rw (long, rw b at f, take_at x (drop (length x) before) (length x) refl)
           (accepted_means L (at_most k) free s small t x (outcome_read L (limit_head k) no_costs s t x m))
@@ -47,7 +47,7 @@ module _ (L : Limits) (s : List ℕ) (k : ℕ) where
       by_outcome : (o : Outcome) → measured_by L s k ≡ o → r ≡ written_answer o (length before) → after ≡ written_output o before
           → r.refusal ≡ 0 → MeansIn L (at_most k) s (take r.length after)
       by_outcome (refused n p) m e f z = absurd (outcome_some L (limit_head k) no_costs s n p m (sym (ap (λ (u : Written). u.refusal) e) ∙ z))
-      by_outcome (accepted t x) m e f z = by-room t x m (ltb (length before) (length x)) refl e f z
+      by_outcome (accepted t x) m e f z = by_room t x m (ltb (length before) (length x)) refl e f z
 
 -- A fold that was measured and not refused: it is the byte form of a tree, and n is the length of its run.
 pub record Measured (L : Limits) (s : List ℕ) (k n : ℕ) : Type 0 where
@@ -62,8 +62,8 @@ abbrev pub top : Place
 top = record { at = 0; to = 0 }
 
 module _ (L : Limits) (s : List ℕ) (small : Bytes s) (k : ℕ) (m : FoldReading) (reads : ReadingOf L s k m) where
-  pub fold-measured : m.refusal ≡ 0 → Measured L s k m.length
-  fold-measured e =
+  pub fold_measured : m.refusal ≡ 0 → Measured L s k m.length
+  fold_measured e =
       let a = answered_accepted (measured_by L s k) m reads.read (outcome_some L (limit_head k) no_costs s) e in
       let r = outcome_read L (limit_head k) no_costs s a.tally a.text a.reading in
       record {
@@ -75,8 +75,8 @@ module _ (L : Limits) (s : List ℕ) (small : Bytes s) (k : ℕ) (m : FoldReadin
       }
 
   module _ (out : List ℕ) where
-    pub fold-refused : m.refusal ≢ 0 → Unrolled L s k out out (record { refusal = m.refusal; place = m.place; length = 0 })
-    fold-refused e =
+    pub fold_refused : m.refusal ≢ 0 → Unrolled L s k out out (record { refusal = m.refusal; place = m.place; length = 0 })
+    fold_refused e =
         let q = answered_refused (measured_by L s k) m reads.read e in
         promised L s k small out out _ (rw q) (rw q)
 
@@ -87,8 +87,8 @@ module _ (L : Limits) (s : List ℕ) (small : Bytes s) (k : ℕ) (m : FoldReadin
           promised L s k small out out _ (rw (r.reading, lt-ltb _ _ f)) (rw (r.reading, lt-ltb _ _ f))
 
       module _ (enough : m.length ≤ length out) where
-        pub whole-fold : SequenceFrom s (length out) top r.tree.tree
-        whole-fold =
+        pub whole_fold : SequenceFrom s (length out) top r.tree.tree
+        whole_fold =
             let a = r.tree in
             record {
               stands = record {
@@ -99,9 +99,9 @@ module _ (L : Limits) (s : List ℕ) (small : Bytes s) (k : ℕ) (m : FoldReadin
               fits = omega (arith, r.size, ap length a.text);
             }
 
-        pub run-written : (after : List ℕ) (q : Place) → PassedOver out after top r.tree.tree q
+        pub run_written : (after : List ℕ) (q : Place) → PassedOver out after top r.tree.tree q
             → Unrolled L s k out after (record { refusal = 0; place = 0; length = m.length })
-        run-written after q y =
+        run_written after q y =
             let x = r.text in
             let f : length x ≤ length out = omega (arith, r.size) in
             let g : after ≡ x ++ drop (length x) out = y.output ∙ rw r.tree.text (sets-eq x out 0 (omega arith) ∙ rw zero-add) in

@@ -7,7 +7,7 @@ use lib.Seq.{length-take-le}
 use native.Mathlib.Omega.{arith}
 use Rattle.format.specs.Order.{Bytes}
 use Rattle.fold.proofs.Puts.{put_same}
-use Rattle.fold.proofs.Answers.{prints-refusal, prints-fold, room}
+use Rattle.fold.proofs.Answers.{prints_refusal, prints_fold, room}
 use borrow.Author.Rules.{rules}
 use Rattle.fold.proofs.answer.Statement.{statement}
 use Rattle.fold.proofs.answer.Tie as tie
@@ -55,7 +55,7 @@ same_length c = search rules
 returns : tie.Need-returns
 returns c =
     let F = c.before.before.before.before.before.before.before.before.before.before in
-    put_same (prints-refusal _ (small F) F.fold.result F.fold.ensures.0 c.before.before.before.before.before.if1.true) c.before.before.put-refusal.ensures
+    put_same (prints_refusal _ (small F) F.fold.result F.fold.ensures.0 c.before.before.before.before.before.if1.true) c.before.before.put-refusal.ensures
 
 read-run-requires : tie.Need-read-run-requires
 read-run-requires c κs = search rules
@@ -85,7 +85,7 @@ same-length-2 c = search rules
 returns-2 : tie.Need-returns-2
 returns-2 c =
     let F = c.before.before.before.before.before.before.before.before.before.before.before in
-    put_same (prints-fold _ (small F) F.fold.result F.fold.ensures.0 _ c.before.before.before.before.before.read-run.result F.fold.ensures.1.0 c.before.before.before.before.before.read-run.ensures c.before.before.before.before.before.before.if1.false) c.before.before.put-report.ensures
+    put_same (prints_fold _ (small F) F.fold.result F.fold.ensures.0 _ c.before.before.before.before.before.read-run.result F.fold.ensures.1.0 c.before.before.before.before.before.read-run.ensures c.before.before.before.before.before.before.if1.false) c.before.before.put-report.ensures
 
 pub answer-spec : {M : Type 1} → statement M
 answer-spec =

@@ -8,7 +8,7 @@ use Rattle.format.specs.Readings.{fold_alone}
 use Rattle.format.proofs.Alone.{alone_some}
 use Rattle.format.proofs.Answered.{answered_refused, answered_accepted}
 use Rattle.index.proofs.Accepted.{accepted_fold}
-use Rattle.index.proofs.Answers.{index-refused, offsets-too-short, before-too-short, index-written}
+use Rattle.index.proofs.Answers.{index_refused, offsets_too_short, before_too_short, index_written}
 use Rattle.index.proofs.build_index.Statement.{statement}
 use Rattle.index.proofs.build_index.Tie as tie
 
@@ -27,7 +27,7 @@ returns : tie.Need-returns
 returns c =
     let m = c.before.before in
     let a = (start m).args in
-    index-refused a.fold.now a.offsets.now a.before.now _ _ (answered_refused (fold_alone a.fold.now) m.read-alone.result m.read-alone.ensures c.if1.true)
+    index_refused a.fold.now a.offsets.now a.before.now _ _ (answered_refused (fold_alone a.fold.now) m.read-alone.result m.read-alone.ensures c.if1.true)
 
 -- Where it is not refused, it is accepted.
 was_read : (c : tie.Else1) → WasRead (start c.before.before).args.fold.now
@@ -47,7 +47,7 @@ returns-2 c =
     let a = (start m).args in
     let s = a.fold.now in
     let y = answered_accepted (fold_alone s) m.read-alone.result m.read-alone.ensures (alone_some false s) n.before.if1.false in
-    offsets-too-short s a.offsets.now a.before.now y.tally y.text y.reading (omega (arith, c.if2.true, n.count_entries.ensures))
+    offsets_too_short s a.offsets.now a.before.now y.tally y.text y.reading (omega (arith, c.if2.true, n.count_entries.ensures))
 
 returns-3 : tie.Need-returns-3
 returns-3 c =
@@ -56,7 +56,7 @@ returns-3 c =
     let a = (start m).args in
     let s = a.fold.now in
     let y = answered_accepted (fold_alone s) m.read-alone.result m.read-alone.ensures (alone_some false s) n.before.if1.false in
-    before-too-short s a.offsets.now a.before.now y.tally y.text y.reading
+    before_too_short s a.offsets.now a.before.now y.tally y.text y.reading
     (omega (arith, c.before.if2.false, n.count_entries.ensures)) (omega (arith, c.if3.true, n.count_entries.ensures))
 
 write-entries-requires : tie.Need-write-entries-requires
@@ -81,7 +81,7 @@ returns-4 c =
     let s = a.fold.now in
     let y = answered_accepted (fold_alone s) m.read-alone.result m.read-alone.ensures (alone_some false s) n.before.if1.false in
     rw n.count_entries.ensures
-    (index-written s a.offsets.now a.before.now y.tally y.text y.reading (omega (arith, e.before.if2.false, n.count_entries.ensures)) (omega (arith, e.if3.false, n.count_entries.ensures)) w.write_entries.ensures.0 w.write_entries.ensures.1)
+    (index_written s a.offsets.now a.before.now y.tally y.text y.reading (omega (arith, e.before.if2.false, n.count_entries.ensures)) (omega (arith, e.if3.false, n.count_entries.ensures)) w.write_entries.ensures.0 w.write_entries.ensures.1)
 
 pub build-index-spec : {M : Type 1} → statement M
 build-index-spec =

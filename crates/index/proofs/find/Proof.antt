@@ -16,7 +16,7 @@ use Rattle.index.specs.inner.Passing.{NodeIn, LastUpTo}
 use Rattle.format.proofs.Alone.{alone_some}
 use Rattle.format.proofs.Answered.{answered_refused, AnsweredAccepted, answered_accepted}
 use Rattle.index.proofs.Accepted.{accepted_fold}
-use Rattle.index.proofs.Answers.{find-refused, other-index, past-the-total, some-entry, entry-offset, node_in, label-within, node_found}
+use Rattle.index.proofs.Answers.{find_refused, other_index, past_the_total, some_entry, entry_offset, node_in, label_within, node_found}
 use Rattle.index.proofs.find.Statement.{statement}
 use Rattle.index.proofs.find.Tie as tie
 
@@ -40,28 +40,28 @@ returns c =
     let m = n.before.before in
     let a = (start m).args in
     rw c.refused.ensures
-    (find-refused a.fold.now (small m) a.offsets.now a.before.now a.position _ _ (answered_refused (fold_alone a.fold.now) m.read-alone.result m.read-alone.ensures n.if1.true))
+    (find_refused a.fold.now (small m) a.offsets.now a.before.now a.position _ _ (answered_refused (fold_alone a.fold.now) m.read-alone.result m.read-alone.ensures n.if1.true))
 
 -- Where it is not refused, it is accepted.
 module _ (c : tie.Else1) where
-  abbrev read-it : tie.After-read-alone
-  read-it = c.before.before
+  abbrev read_it : tie.After-read-alone
+  read_it = c.before.before
 
   abbrev given : tie.Start
-  given = start read-it
+  given = start read_it
 
-  accepted-as : AnsweredAccepted (fold_alone given.args.fold.now) read-it.read-alone.result
+  accepted-as : AnsweredAccepted (fold_alone given.args.fold.now) read_it.read-alone.result
   accepted-as =
-      answered_accepted (fold_alone given.args.fold.now) read-it.read-alone.result read-it.read-alone.ensures (alone_some false given.args.fold.now) c.if1.false
+      answered_accepted (fold_alone given.args.fold.now) read_it.read-alone.result read_it.read-alone.ensures (alone_some false given.args.fold.now) c.if1.false
 
   -- The reader's number of nodes is that of the reading.
-  its-nodes : read-it.read-alone.result.nodes ≡ accepted-as.tally.nodes
+  its-nodes : read_it.read-alone.result.nodes ≡ accepted-as.tally.nodes
   its-nodes = ap (λ (r : FoldReading). r.nodes) accepted-as.answer
 
 is-index-requires : tie.Need-is-index-requires
 is-index-requires c κs =
     let y = accepted-as c in
-    (accepted_fold (given c).args.fold.now (small (read-it c)) y.tally y.text y.reading).was_read
+    (accepted_fold (given c).args.fold.now (small (read_it c)) y.tally y.text y.reading).was_read
 
 refused-requires-2 : tie.Need-refused-requires-2
 refused-requires-2 c κs = search rules
@@ -73,7 +73,7 @@ returns-2 c =
     let a = (given e).args in
     let y = accepted-as e in
     rw c.refused2.ensures
-    (other-index a.fold.now (small (read-it e)) a.offsets.now a.before.now a.position y.tally y.text y.reading (sym n.before.is_index.ensures ∙ not-true _ n.if2.true))
+    (other_index a.fold.now (small (read_it e)) a.offsets.now a.before.now a.position y.tally y.text y.reading (sym n.before.is_index.ensures ∙ not-true _ n.if2.true))
 
 refused-requires-3 : tie.Need-refused-requires-3
 refused-requires-3 c κs = search rules
@@ -90,7 +90,7 @@ returns-3 c =
     let a = (given e).args in
     let y = accepted-as e in
     rw c.refused3.ensures
-    (past-the-total a.fold.now (small (read-it e)) a.offsets.now a.before.now a.position y.tally y.text y.reading (is-its d) (omega (arith, n.if3.true, its-nodes e)))
+    (past_the_total a.fold.now (small (read_it e)) a.offsets.now a.before.now a.position y.tally y.text y.reading (is-its d) (omega (arith, n.if3.true, its-nodes e)))
 
 -- The position is in the run.
 module _ (c : tie.Else3) where
@@ -107,7 +107,7 @@ last-up-to-requires : tie.Need-last-up-to-requires
 last-up-to-requires c κs =
     let a = (lent c).args in
     let y = accepted-as (first c) in
-    some-entry a.fold.now (small (read-it (first c))) a.offsets.now a.before.now a.position y.tally y.text y.reading (is-its c.before) (below c)
+    some_entry a.fold.now (small (read_it (first c))) a.offsets.now a.before.now a.position y.tally y.text y.reading (is-its c.before) (below c)
 
 -- The entry that the search came to, and the item that it belongs to.
 module _ (u : tie.After-last-up-to) where
@@ -132,12 +132,12 @@ module _ (u : tie.After-last-up-to) where
   offset-there : i < length its-offsets
   offset-there =
       let y = accepted-as (first u.before) in
-      entry-offset its-fold (small (read-it (first u.before))) its-offsets its-before n y.tally y.text y.reading (is-its u.before.before) (below u.before) last
+      entry_offset its-fold (small (read_it (first u.before))) its-offsets its-before n y.tally y.text y.reading (is-its u.before.before) (below u.before) last
 
   its-item : (f : Forest) × NodeIn its-fold (get_or its-offsets i 0) (n - get_or its-before i 0) f
   its-item =
       let y = accepted-as (first u.before) in
-      (_, node_in its-fold (small (read-it (first u.before))) its-offsets its-before n y.tally y.text y.reading (is-its u.before.before) (below u.before) last)
+      (_, node_in its-fold (small (read_it (first u.before))) its-offsets its-before n y.tally y.text y.reading (is-its u.before.before) (below u.before) last)
 
 mul-descend : tie.Need-overflow-mul-descend
 mul-descend c = omega (arith, (last c).there)
@@ -171,7 +171,7 @@ module _ (d : tie.After-descend) where
   within : suc d.descend.result < length (its-fold u)
   within =
       let y = accepted-as (first u.before) in
-      label-within (its-fold u) (small (read-it (first u.before))) (its-offsets u) (its-before u) (n u) y.tally y.text y.reading (is-its u.before.before) (below u.before) (last u)
+      label_within (its-fold u) (small (read_it (first u.before))) (its-offsets u) (its-before u) (n u) y.tally y.text y.reading (is-its u.before.before) (below u.before) (last u)
       d.descend.ensures
 
 add-t12 : tie.Need-overflow-add-t12
@@ -188,7 +188,7 @@ returns-4 c =
     let d = c.before.before in
     let v = u d in
     let y = accepted-as (first v.before) in
-    node_found (its-fold v) (small (read-it (first v.before))) (its-offsets v) (its-before v) (n v) y.tally y.text y.reading (is-its v.before.before) (below v.before) (last v)
+    node_found (its-fold v) (small (read_it (first v.before))) (its-offsets v) (its-before v) (n v) y.tally y.text y.reading (is-its v.before.before) (below v.before) (last v)
     d.descend.ensures
 
 pub find_spec : {M : Type 1} → statement M

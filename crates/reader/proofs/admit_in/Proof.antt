@@ -1,7 +1,7 @@
 -- `admit_in` meets its contract.
 use borrow.Author.Rules.{rules}
 use mathlib.Core.Path.{◌∙◌}
-use Rattle.reader.proofs.Answers.{admit-refused, admit-read}
+use Rattle.reader.proofs.Answers.{admit_refused, admit_read}
 use Rattle.reader.proofs.admit_in.Statement.{statement}
 use Rattle.reader.proofs.admit_in.Tie as tie
 
@@ -20,7 +20,7 @@ returns c =
     let checked = no.before in
     let a = checked.before.before.args in
     c.as-run.ensures
-    ∙ admit-refused a.bounds a.head checked.head-refusal.result checked.head-refusal.ensures a.run.now no.if1.true
+    ∙ admit_refused a.bounds a.head checked.head-refusal.result checked.head-refusal.ensures a.run.now no.if1.true
     c.before.none.result c.before.none.ensures
 
 read-run-in-requires : tie.Need-read-run-in-requires
@@ -30,7 +30,7 @@ returns-2 : tie.Need-returns-2
 returns-2 c =
     let checked = c.before.before in
     let a = checked.before.before.args in
-    admit-read a.bounds a.head checked.head-refusal.result checked.head-refusal.ensures a.run.now c.before.if1.false
+    admit_read a.bounds a.head checked.head-refusal.result checked.head-refusal.ensures a.run.now c.before.if1.false
     c.read-run-in.result c.read-run-in.ensures
 
 pub admit-in-spec : {M : Type 1} → statement M

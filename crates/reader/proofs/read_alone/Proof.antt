@@ -1,7 +1,7 @@
 -- `read_alone` meets its contract.
 use borrow.Author.Rules.{rules}
 use mathlib.Core.Path.{◌∙◌}
-use Rattle.reader.proofs.Answers.{alone-read}
+use Rattle.reader.proofs.Answers.{alone_read}
 use Rattle.reader.proofs.read_alone.Statement.{statement}
 use Rattle.reader.proofs.read_alone.Tie as tie
 
@@ -28,7 +28,7 @@ returns c =
     let w = c.before in
     let limited = w.before.before.before.before in
     c.answer.ensures
-    ∙ alone-read limited.before.before.args.short limited.before.before.args.fold.now w.whole.result (rw limited.limits.ensures at w.whole.ensures)
+    ∙ alone_read limited.before.before.args.short limited.before.before.args.fold.now w.whole.result (rw limited.limits.ensures at w.whole.ensures)
 
 pub read-alone-spec : {M : Type 1} → statement M
 read-alone-spec =

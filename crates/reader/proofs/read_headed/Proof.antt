@@ -2,7 +2,7 @@
 use borrow.Author.Rules.{rules}
 use mathlib.Core.Path.{◌∙◌}
 use native.Mathlib.Omega.{arith}
-use Rattle.reader.proofs.Answers.{fold-refused, fold-read}
+use Rattle.reader.proofs.Answers.{fold_refused, fold_read}
 use Rattle.reader.proofs.read_headed.Statement.{statement}
 use Rattle.reader.proofs.read_headed.Tie as tie
 
@@ -21,7 +21,7 @@ returns c =
     let checked = no.before in
     let a = checked.before.before.before.before.before.args in
     c.as-fold.ensures
-    ∙ fold-refused a.bounds a.head checked.head-refusal.result checked.head-refusal.ensures a.short _ a.fold.now no.if1.true
+    ∙ fold_refused a.bounds a.head checked.head-refusal.result checked.head-refusal.ensures a.short _ a.fold.now no.if1.true
     c.before.none.result c.before.none.ensures
 
 wide-cost-requires : tie.Need-wide-cost-requires
@@ -44,7 +44,7 @@ returns-2 c =
     let checked = first.before.before in
     let a = checked.before.before.before.before.before.args in
     c.answer.ensures
-    ∙ fold-read a.bounds a.head checked.head-refusal.result checked.head-refusal.ensures a.short _ a.fold.now first.before.if1.false
+    ∙ fold_read a.bounds a.head checked.head-refusal.result checked.head-refusal.ensures a.short _ a.fold.now first.before.if1.false
     c.before.whole.result
     (rw (first.wide-cost.ensures.0, c.before.before.wide-cost2.ensures.0) at c.before.whole.ensures)
 

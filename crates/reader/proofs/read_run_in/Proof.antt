@@ -3,7 +3,7 @@ use borrow.Author.Rules.{rules}
 use mathlib.Core.Path.{◌≡◌, ◌∙◌}
 use native.Mathlib.Omega.{arith}
 use Rattle.format.specs.Readings.{run_numbers}
-use Rattle.reader.proofs.Answers.{run-refused, run-read}
+use Rattle.reader.proofs.Answers.{run_refused, run_read}
 use Rattle.reader.proofs.read_run_in.Statement.{statement}
 use Rattle.reader.proofs.read_run_in.Tie as tie
 
@@ -37,7 +37,7 @@ returns c =
     let said : c.as-run.result ≡ run_numbers w.whole.result.refusal w.whole.result.at none.none.result =
     c.as-run.ensures in
     said
-    ∙ run-refused (start w).args.bounds (start w).args.run.now w.whole.result w.whole.ensures no.if1.true none.none.result none.none.ensures
+    ∙ run_refused (start w).args.bounds (start w).args.run.now w.whole.result w.whole.ensures no.if1.true none.none.result none.none.ensures
 
 as-run-requires-2 : tie.Need-as-run-requires-2
 as-run-requires-2 c κs = search rules
@@ -45,7 +45,7 @@ as-run-requires-2 c κs = search rules
 returns-2 : tie.Need-returns-2
 returns-2 c =
     let w = c.before.before.before.before in
-    c.as-run2.ensures ∙ run-read (start w).args.bounds (start w).args.run.now w.whole.result w.whole.ensures c.before.if1.false
+    c.as-run2.ensures ∙ run_read (start w).args.bounds (start w).args.run.now w.whole.result w.whole.ensures c.before.if1.false
 
 pub read-run-in-spec : {M : Type 1} → statement M
 read-run-in-spec =

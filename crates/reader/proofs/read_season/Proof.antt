@@ -2,7 +2,7 @@
 use borrow.Author.Rules.{rules}
 use native.Mathlib.Omega.{arith}
 use Rattle.format.specs.Limits.{season, tariff}
-use Rattle.reader.proofs.Answers.{with-meaning}
+use Rattle.reader.proofs.Answers.{with_meaning}
 use Rattle.reader.proofs.read_season.Statement.{statement}
 use Rattle.reader.proofs.read_season.Tie as tie
 
@@ -20,7 +20,7 @@ returns c =
     let headed = c.before.before in
     let known = headed.before.before.before.before in
     let a = known.before.args in
-    with-meaning a.fold.now a.limit (tariff a.steps.now a.groups.now a.marks.now a.first a.each) (λ i. (known.shared-slice-known.given i).fits)
+    with_meaning a.fold.now a.limit (tariff a.steps.now a.groups.now a.marks.now a.first a.each) (λ i. (known.shared-slice-known.given i).fits)
     c.read-headed.result season (rw (c.before.limits.ensures, headed.full_head.ensures a.first a.each) at c.read-headed.ensures)
 
 pub read-season-spec : {M : Type 1} → statement M

@@ -4,7 +4,7 @@ use Prim.Native.Nat.{ℕ}
 use Rattle.format.specs.Order.{Bytes}
 use Rattle.format.specs.declared.Limits.{Limits}
 use Rattle.unroller.specs.inner.Writing.{ReadingOf}
-use Rattle.unroller.proofs.Answers.{Measured, fold-refused, fold-measured, too_short, whole-fold, run-written}
+use Rattle.unroller.proofs.Answers.{Measured, fold_refused, fold_measured, too_short, whole_fold, run_written}
 use Rattle.unroller.proofs.unroll_read.Statement.{statement}
 use Rattle.unroller.proofs.unroll_read.Tie as tie
 
@@ -19,12 +19,12 @@ small c i = (c.before.before.shared-slice-known.given i).fits
 measured : (c : tie.Else1) (L : Limits) (k : ℕ) → (let a = (start c.before).args in ReadingOf L a.fold.now k a.m → Measured L a.fold.now k a.m.length)
 measured c L k reads =
     let a = (start c.before).args in
-    fold-measured L a.fold.now (small c.before) k a.m reads c.if1.false
+    fold_measured L a.fold.now (small c.before) k a.m reads c.if1.false
 
 returns : tie.Need-returns
 returns c =
     let a = (start c.before).args in
-    λ L k reads. fold-refused L a.fold.now (small c.before) k a.m reads a.out.now c.if1.true
+    λ L k reads. fold_refused L a.fold.now (small c.before) k a.m reads a.out.now c.if1.true
 
 returns-2 : tie.Need-returns-2
 returns-2 c =
@@ -38,7 +38,7 @@ put-sequence-requires c κs =
     let S = start e.before in
     let a = S.args in
     let r = measured e S.pre.0 S.pre.1 S.pre.2 in
-    (r.tree.tree, whole-fold S.pre.0 a.fold.now (small e.before) S.pre.1 a.m S.pre.2 a.out.now r c.before.if2.false)
+    (r.tree.tree, whole_fold S.pre.0 a.fold.now (small e.before) S.pre.1 a.m S.pre.2 a.out.now r c.before.if2.false)
 
 same_length : tie.Need-same-length
 same_length c = search rules
@@ -51,8 +51,8 @@ returns-3 c =
     let enough = p.before.before.if2.false in
     λ L k reads.
     let r = measured e L k reads in
-    run-written L a.fold.now (small e.before) k a.m reads a.out.now r enough _ _
-    (p.put-sequence.ensures r.tree.tree (whole-fold L a.fold.now (small e.before) k a.m reads a.out.now r enough))
+    run_written L a.fold.now (small e.before) k a.m reads a.out.now r enough _ _
+    (p.put-sequence.ensures r.tree.tree (whole_fold L a.fold.now (small e.before) k a.m reads a.out.now r enough))
 
 pub unroll-read-spec : {M : Type 1} → statement M
 unroll-read-spec = tie.close (tie.spec returns returns-2 put-sequence-requires same_length returns-3)

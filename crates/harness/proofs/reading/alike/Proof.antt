@@ -27,8 +27,8 @@ fifth c = c.before.before
 abbrev sixth : tie.Else6 → tie.Else5
 sixth c = c.before.before.before
 
-run-read : (c : tie.After-read-run) → c.read-run.result ≡ run_reading c.before.before.args.run.now
-run-read c = c.read-run.ensures
+run_read : (c : tie.After-read-run) → c.read-run.result ≡ run_reading c.before.before.args.run.now
+run_read c = c.read-run.ensures
 
 read-run-requires : tie.Need-read-run-requires
 read-run-requires c κs = search rules
@@ -40,11 +40,11 @@ returns-2 : tie.Need-returns-2
 returns-2 c = says_no (λ k. c.if2.true k.no_place)
 
 returns-3 : tie.Need-returns-3
-returns-3 c = let e = run-read (first (second c.before.before)) in says_no (λ k. c.if3.true (rw e k.accepted))
+returns-3 c = let e = run_read (first (second c.before.before)) in says_no (λ k. c.if3.true (rw e k.accepted))
 
 returns-4 : tie.Need-returns-4
 returns-4 c =
-    let e = run-read (first (second (third c.before.before.before))) in
+    let e = run_read (first (second (third c.before.before.before))) in
     says_no (λ k. c.if4.true (rw e k.nodes))
 
 returns-5 : tie.Need-returns-5
@@ -52,7 +52,7 @@ returns-5 c = says_no (λ k. c.if5.true k.bytes)
 
 returns-6 : tie.Need-returns-6
 returns-6 c =
-    let e = run-read (first (second (third (fourth (fifth c.before.before.before))))) in
+    let e = run_read (first (second (third (fourth (fifth c.before.before.before))))) in
     says_no (λ k. c.if6.true (rw e k.steps))
 
 returns-7 : tie.Need-returns-7
@@ -65,7 +65,7 @@ returns-7 c =
     let one = second two in
     let read = first one in
     let r = read.before.before.args.r in
-    let e = run-read read in (
+    let e = run_read read in (
       λ t. record {
         success = one.if1.left;
         no_place = two.if2.left;
