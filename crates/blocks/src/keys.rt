@@ -3,14 +3,14 @@ ghost use Rattle.std.specs.Prelude.{◌≡◌, ◌+◌, ◌<◌, length};
 ghost use Rattle.blocks.specs.Keys.{packed, pair_base, Lesser, slot, key_in, entry_base, both_base, read_base, Put};
 
 // Cost and repeats, combined, and the pair of count and width, 0 for the plain step.
-#[derive(Drop)]
+#[derive(Clone, Copy)]
 pub struct Key {
     pub both: u64,
     pub pair: u64,
 }
 
 // How the lent slice is laid out, and the bases of a key's digits.
-#[derive(Drop)]
+#[derive(Clone, Copy)]
 pub struct Block {}
 
 impl Block {

@@ -54,7 +54,7 @@ fn wrote(c: Checked, out: &[u8], fold: &[u8], cost: u64) -> bool {
 }
 
 // What a run is folded at, and the cost that is known. Every step costs 1, every group as much as is said.
-#[derive(Drop)]
+#[derive(Clone, Copy)]
 pub struct Case {
     pub limit: usize,
     pub group: u16,

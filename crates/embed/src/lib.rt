@@ -29,7 +29,7 @@ const ENTRIES: usize = 7;
 const SHORT: u8 = 255;
 
 // The numbers of an answer. What the values are, each function says.
-#[derive(Drop)]
+#[derive(Clone, Copy)]
 struct Answer {
     refusal: u8,
     place: usize,

@@ -10,7 +10,7 @@ use solver::{Row, draw, enter_row, grow};
 use table::{Span, classify, list_siblings, part_of};
 
 // Where a sequence stands in its run, and how wide a repeat may be.
-#[derive(Drop)]
+#[derive(Clone, Copy)]
 pub struct Level {
     pub span: Span,
     pub limit: usize,

@@ -8,7 +8,7 @@ ghost use Rattle.format.specs.Head.{head_checks, marks_in_order, full_head};
 
 // What the format bounds: the nodes of a run, the groups and the repeats open at a time, the width limit; and the entries
 // that a cost table and the list of marks have.
-#[derive(Drop)]
+#[derive(Clone, Copy)]
 pub struct Limits {
     pub nodes: usize,
     pub groups: usize,
@@ -20,7 +20,7 @@ pub struct Limits {
 // What is checked before the first command, of what an entry point takes: the entries of the two lent cost tables, that of
 // steps and that of groups, the width limit, and whether the lent marks are in order. For a subject that it does not take, an
 // entry point hands a value that no check refuses.
-#[derive(Drop)]
+#[derive(Clone, Copy)]
 pub struct Head {
     pub steps: usize,
     pub groups: usize,
@@ -29,7 +29,7 @@ pub struct Head {
 }
 
 // The format of runs and folds. A run is an ordered forest, a fold its repetition representation.
-#[derive(Drop)]
+#[derive(Clone, Copy)]
 pub struct Format {}
 
 impl Format {
@@ -78,7 +78,7 @@ impl Format {
 
 // The format of season runs: flat runs that a station records over a season, and their folds. The commands, the cost tables and the
 // marks are the format's; the limits are these.
-#[derive(Drop)]
+#[derive(Clone, Copy)]
 pub struct Season {}
 
 impl Season {
@@ -235,7 +235,7 @@ pub fn head_refusal(bounds: Limits, head: Head) -> u8
 // What is counted while a sequence is read: the siblings of the innermost level, and of all that was read the nodes,
 // the run's length in bytes, the cost, the nodes that are steps, an open repeat at one pass; and the most groups that were
 // open together.
-#[derive(Drop)]
+#[derive(Clone, Copy)]
 pub struct Tally {
     pub siblings: usize,
     pub nodes: usize,
@@ -263,7 +263,7 @@ impl Tally {
 
 // The run reader's answer: refusal number and place (0 and 0 on success), the nodes of the run, how many of them are steps,
 // and the most groups open together.
-#[derive(Drop)]
+#[derive(Clone, Copy)]
 pub struct RunReading {
     pub refusal: u8,
     pub place: usize,
@@ -274,7 +274,7 @@ pub struct RunReading {
 
 // The fold reader's answer: refusal number and place, the nodes and the bytes of the run, the fold's cost, and the run's
 // steps and depth.
-#[derive(Drop)]
+#[derive(Clone, Copy)]
 pub struct FoldReading {
     pub refusal: u8,
     pub place: usize,
@@ -286,7 +286,7 @@ pub struct FoldReading {
 }
 
 // The answer where one text is written, by the unroller and by the conversions: refusal number and place, and the length written.
-#[derive(Drop)]
+#[derive(Clone, Copy)]
 pub struct Written {
     pub refusal: u8,
     pub place: usize,
@@ -294,7 +294,7 @@ pub struct Written {
 }
 
 // The folder's answer: refusal number and place, the length written, and the fold's cost.
-#[derive(Drop)]
+#[derive(Clone, Copy)]
 pub struct Folded {
     pub refusal: u8,
     pub place: usize,

@@ -104,7 +104,7 @@ fn used_entries(refusal: u8, nodes: usize) -> usize
 }
 
 // The folder's answer, and whether what was looked at is right.
-#[derive(Drop)]
+#[derive(Clone, Copy)]
 pub struct Checked {
     pub answer: Folded,
     pub right: bool,

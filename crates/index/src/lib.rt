@@ -18,7 +18,7 @@ use reader::read_alone;
 use search::last_up_to;
 
 // The builder's answer: refusal number and place, and the number of entries.
-#[derive(Drop)]
+#[derive(Clone, Copy)]
 pub struct Indexed {
     pub refusal: u8,
     pub place: usize,
@@ -26,7 +26,7 @@ pub struct Indexed {
 }
 
 // The finder's answer: refusal number and place, the node's label and command, and where in the fold that command stands.
-#[derive(Drop)]
+#[derive(Clone, Copy)]
 pub struct Found {
     pub refusal: u8,
     pub place: usize,

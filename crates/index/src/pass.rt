@@ -10,7 +10,7 @@ use format::Format;
 use walk::operand;
 
 // How far the fold is passed over, and the nodes counted on the way.
-#[derive(Drop)]
+#[derive(Clone, Copy)]
 pub struct Spot {
     pub at: usize,
     pub nodes: usize,

@@ -6,7 +6,7 @@ ghost use Rattle.prices.specs.Prices.{price_list};
 use format::{Format, wide_cost};
 
 // The list has an entry for each count from 0 up to the most nodes that a run can have.
-#[derive(Drop)]
+#[derive(Clone, Copy)]
 pub struct PriceList {}
 
 impl PriceList {

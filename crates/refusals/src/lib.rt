@@ -12,7 +12,7 @@ use reader::{read_fold, read_run};
 use unroller::unroll;
 
 // What is expected: the refusal and its place.
-#[derive(Drop)]
+#[derive(Clone, Copy)]
 pub struct Expected {
     pub refusal: u8,
     pub place: usize,

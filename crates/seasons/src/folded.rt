@@ -8,7 +8,7 @@ use refusals::FREE;
 use season::fold_season;
 
 // What a run is folded at, and how many entries of the work are then cleared: 256 for each step and one time more.
-#[derive(Drop)]
+#[derive(Clone, Copy)]
 pub struct Call {
     pub limit: usize,
     pub first: u16,

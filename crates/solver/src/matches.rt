@@ -6,7 +6,7 @@ use table::{as_index, larger, smaller};
 
 // What a row is drawn from: its first `span` siblings are those from `shift` further on, in a row that is solved as far; and it is to be
 // solved itself for up to `extent` siblings.
-#[derive(Drop)]
+#[derive(Clone, Copy)]
 pub struct Source {
     pub extent: usize,
     pub shift: usize,
@@ -14,7 +14,7 @@ pub struct Source {
 }
 
 // Widths at which a whole power is solved, and not its body alone: the rows of an equal power further ahead take over more of it.
-#[derive(Drop)]
+#[derive(Clone, Copy)]
 struct Short {}
 
 impl Short {

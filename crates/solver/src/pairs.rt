@@ -7,7 +7,7 @@ use crate::row::Row;
 use table::covered;
 
 // The keys beyond those taken over that make marking worth its time.
-#[derive(Drop)]
+#[derive(Clone, Copy)]
 pub struct Many {}
 
 impl Many {

@@ -13,7 +13,7 @@ use table::{
 // A row: the stretches that begin at sibling `at` of the `end` siblings of a sequence, in which no repeat is wider than `limit`. The
 // sibling has `own` for cost and repeats, combined, by itself. The first `span` siblings are those from `shift` further on, in a row that
 // is solved as far. Solved are the stretches of up to `extent` siblings, and the one up to the end.
-#[derive(Drop)]
+#[derive(Clone, Copy)]
 pub struct Row {
     pub at: usize,
     pub end: usize,

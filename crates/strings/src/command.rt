@@ -3,7 +3,7 @@ use format::Format;
 use harness::put_byte;
 
 // A command: its byte and its operands, a label or a count and a width.
-#[derive(Drop)]
+#[derive(Clone, Copy)]
 pub struct Command {
     pub kind: u8,
     pub a: u8,

@@ -8,7 +8,7 @@ use reader::read_fold;
 
 // What the last command of a string leads to: whether the string still follows the run, the place reached in the run, the
 // place that what is open may reach, and the number of the command that opened it, 0 for none.
-#[derive(Drop)]
+#[derive(Clone, Copy)]
 struct Trace {
     alive: bool,
     at: usize,

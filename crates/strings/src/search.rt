@@ -8,7 +8,7 @@ const DEPTH: usize = 60;
 
 // How far a search is: the commands written, whether the last one is spent, whether all were tried,
 // whether room was short, and how many strings were found.
-#[derive(Drop)]
+#[derive(Clone, Copy)]
 pub struct Search {
     pub depth: usize,
     pub back: bool,

@@ -7,7 +7,7 @@ ghost use Rattle.table.specs.Table.{Held, key_from, rest_from};
 use crate::triangle::read_entry;
 
 // The bases of the digits, from the last one on. A pair is count and width together, a choice has the repeats before them.
-#[derive(Drop)]
+#[derive(Clone, Copy)]
 pub struct Key {}
 
 impl Key {

@@ -17,7 +17,7 @@ pub use nodes::{Span, list_nodes, list_siblings, part_of};
 pub use triangle::{clear, entries, entry, store_entry, store_row, widen};
 
 // The lists that a sequence is worked in: a place for each of its siblings and one behind the last.
-#[derive(Drop)]
+#[derive(Clone, Copy)]
 pub struct Lists {}
 
 impl Lists {

@@ -9,7 +9,7 @@ ghost use Rattle.table.specs.Nodes.{NodesListed, SpanListed, Reached, SequenceAt
 use format::Format;
 
 // An offset in a run, and the number of the node that stands there.
-#[derive(Drop)]
+#[derive(Clone, Copy)]
 pub struct Spot {
     pub at: usize,
     pub number: usize,
@@ -17,7 +17,7 @@ pub struct Spot {
 
 // Where a sequence stands in its run: the offset of its first byte, the number of its first node, and how many nodes of the run
 // follow behind it. An empty one has the number of those for its first.
-#[derive(Drop)]
+#[derive(Clone, Copy)]
 pub struct Span {
     pub start: usize,
     pub first: usize,

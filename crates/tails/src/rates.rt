@@ -7,7 +7,7 @@ use blocks::Block;
 use format::wide_cost;
 
 // The price of two copies, and that of each copy more.
-#[derive(Drop)]
+#[derive(Clone, Copy)]
 pub struct Rates {
     pub first: u64,
     pub each: u64,

@@ -8,7 +8,7 @@ use std::num::wrapping_add_u64;
 use strings::{fold_at, gather};
 
 // Prices: of steps and of groups by the labels 1 and 2, and of a repeat.
-#[derive(Drop)]
+#[derive(Clone, Copy)]
 struct Prices {
     step1: u16,
     step2: u16,
@@ -104,7 +104,7 @@ fn repeats_in(fold: &[u8]) -> usize {
 }
 
 // The best fold so far: whether there is one, which of the pool, its cost, and its repeats.
-#[derive(Drop)]
+#[derive(Clone, Copy)]
 struct Best {
     some: bool,
     k: usize,
@@ -182,7 +182,7 @@ fn best_of(
 }
 
 // What was tried, and whether all agreed: runs, their folds, comparisons, and the sums of the cheapest folds' costs and lengths.
-#[derive(Drop)]
+#[derive(Clone, Copy)]
 pub struct Sums {
     pub right: bool,
     pub runs: u64,
@@ -300,14 +300,14 @@ fn agree(c: Checked, best: Best) -> bool {
 }
 
 // The marks of the labels 1 and 2.
-#[derive(Drop)]
+#[derive(Clone, Copy)]
 pub struct Marked {
     pub one: u8,
     pub two: u8,
 }
 
 // The settings of prices and limits from one up to another, of which there are 30, and the marks.
-#[derive(Drop)]
+#[derive(Clone, Copy)]
 pub struct Settings {
     pub from: usize,
     pub to: usize,

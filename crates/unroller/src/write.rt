@@ -11,7 +11,7 @@ use format::Format;
 use walk::operand;
 
 // How far the fold is read, and how far the output is written.
-#[derive(Drop)]
+#[derive(Clone, Copy)]
 pub struct Place {
     pub at: usize,
     pub to: usize,

@@ -11,7 +11,7 @@ use format::{Format, Limits, Tally, is_marked, operand_bytes, wide, wide_cost};
 
 // What a reader was asked: the limits, whether repeats may stand in the input, whether it is of the short family, the width limit,
 // and the repeat prices.
-#[derive(Drop)]
+#[derive(Clone, Copy)]
 pub struct Terms {
     pub limits: Limits,
     pub folds: bool,
@@ -22,14 +22,14 @@ pub struct Terms {
 }
 
 // The groups and the repeats that are open.
-#[derive(Drop)]
+#[derive(Clone, Copy)]
 pub struct Depth {
     pub groups: usize,
     pub repeats: usize,
 }
 
 // Where a walk has come to: at the offset `at` with these counts, or refused with this number at the place `at`.
-#[derive(Drop)]
+#[derive(Clone, Copy)]
 pub struct Walk {
     pub refusal: u8,
     pub at: usize,

@@ -6,7 +6,7 @@ ghost use Rattle.walk.specs.Walk.{word_at, count_at, width_at};
 use format::{Format, opens_short, wide};
 
 // What a repeat's command says of it: the copies of its body, and the body's width.
-#[derive(Drop)]
+#[derive(Clone, Copy)]
 pub struct Operands {
     pub count: usize,
     pub width: usize,
