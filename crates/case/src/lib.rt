@@ -1,5 +1,7 @@
 // A known fold: what the folder writes for a run, compared with bytes and a cost that are known, read and unrolled back. The programs
 // of known folds are made of these.
+#![tactic(auto)]
+
 use format::Folded;
 use harness::{Checked, alike, begins, fold_checked, unrolls};
 use print::{difference, number, setting, word};

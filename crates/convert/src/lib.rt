@@ -1,5 +1,7 @@
 // The conversions between the two families of commands: a fold to its short form, and a short fold to its long form. The whole
 // input is read before a byte is written: only then are its refusals and the length known.
+#![tactic(auto)]
+
 mod form;
 
 ghost use Rattle.std.specs.Prelude.{◌≡◌, length};

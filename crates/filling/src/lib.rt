@@ -1,4 +1,6 @@
 // Filling the table: every sequence of the run, the innermost groups first.
+#![tactic(auto)]
+
 mod level;
 mod own;
 

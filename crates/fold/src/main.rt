@@ -1,5 +1,7 @@
 // The fold program: reads a run from standard input, folds it at unit costs and limit 1,024, and prints its nodes, the cost
 // and the bytes of its cheapest fold, or the refusal. Where it cannot read or print, it says so on standard error.
+#![tactic(auto)]
+
 mod input;
 mod text;
 

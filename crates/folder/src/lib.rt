@@ -1,5 +1,7 @@
 // The folder: the cheapest fold of a run under a width limit, ties by fewer repeats and then by byte order; and the same fold in
 // its short form. One table of stretches serves the whole tree; only lent memory holds it.
+#![tactic(auto)]
+
 mod either;
 mod prices;
 mod run;

@@ -17,9 +17,13 @@ use Rattle.format.specs.Machine.{is_node}
 use Rattle.format.specs.Difference.{Commands, none, command, Sooner, plain_first, fewer, narrower, DiffersFirst}
 use Rattle.format.proofs.Forests.{join_assoc, siblings_unroll, plain_unroll}
 
+-- What stands before another one differs from it.
+distinct : {s t : List ℕ} → Before s t → s ≡ t → ⊥
+distinct (here {a} {b} {s} {t} h) e = let same : a ≡ b = cc in omega arith
+distinct (there {a} {s} {t} h) e = let rest : s ≡ t = cc in distinct h rest
+
 pub irreflexive : (s : List ℕ) → Before s s → ⊥
-irreflexive (a ∷ s) (here h) = omega arith
-irreflexive (a ∷ s) (there h) = irreflexive s h
+irreflexive s h = distinct h refl
 
 pub transitive : {s t u : List ℕ} → Before s t → Before t u → Before s u
 transitive (here {a} h) (here {b = c} k) = here {a = a} {b = c} (omega arith)

@@ -1,5 +1,6 @@
 // The format: its limits and its commands, each named once. All crates use these names and the
 // contracts cite them.
+#![tactic(auto)]
 
 ghost use Rattle.std.specs.Prelude.{◌≡◌, ◌&&◌, ℕ, ◌<◌};
 ghost use Rattle.format.specs.Limits.{limits, season, tariff, marked_in, in_one_byte};

@@ -1,5 +1,7 @@
 // What the programs that try the library share: the calls that look at every entry of the lent slices, whether a fold is read
 // as its run is, and small helpers.
+#![tactic(auto)]
+
 mod lent;
 mod reading;
 mod small;

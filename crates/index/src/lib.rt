@@ -1,5 +1,7 @@
 // The index of a fold and the finder: which node stands at a position of the run, without unrolling the fold. An index is kept
 // beside the fold: for each of its outermost items the item's offset and the nodes of the run before it.
+#![tactic(auto)]
+
 mod compare;
 mod descend;
 mod entries;

@@ -1,5 +1,7 @@
 // The price of each count, once, ahead of all folding: what folds behind it is handed this list and looks a price up by its
 // count.
+#![tactic(auto)]
+
 ghost use Rattle.std.specs.Prelude.{◌≡◌, length};
 ghost use Rattle.prices.specs.Prices.{price_list};
 

@@ -1,4 +1,6 @@
 // What the programs print: words, numbers, and the loud line of a difference.
+#![tactic(auto)]
+
 use libc::STDOUT_FILENO;
 
 // A word as it stands.

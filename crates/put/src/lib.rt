@@ -1,5 +1,7 @@
 // Bytes put into a lent output, as far as it has room: one byte, a number of two, and the open of a repeat in either family. This
 // is the one place where a repeat's open is written.
+#![tactic(auto)]
+
 ghost use Rattle.std.specs.Prelude.{◌≡◌, [], ◌+◌, ◌<◌, ◌≤◌, set};
 ghost use Rattle.std.proofs.lemmas.List.Edits.{sets};
 ghost use Rattle.format.specs.Forest.{two_bytes, opening, opening_size};

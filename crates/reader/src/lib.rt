@@ -1,6 +1,8 @@
 // The readers: run reader, part of a node, fold reader with cost, the same of the short family, and without limit and costs; and
 // those of season runs, which differ in their limits alone. One walk serves them all (crate walk). Each answers for every input
 // whatsoever, and none writes anywhere.
+#![tactic(auto)]
+
 mod node;
 
 ghost use Rattle.std.specs.Prelude.{◌≡◌, true, ◌<◌};

@@ -1,6 +1,8 @@
 // The refusals: the example of every refusal in docs/REFUSALS.md but 18 to 21, by every entry point that it concerns. What is
 // printed calls each a row: a row of the table there. Those of marks, of the short family and of seasons are the crates marked,
 // short and seasons, which use what is public here.
+#![tactic(auto)]
+
 mod finding;
 
 use finding::by_builder_and_finder;

@@ -1,5 +1,7 @@
 // The season folder: the cheapest fold of a flat run of up to 65,535 steps under a width limit of at most 32, in work that grows
 // with the steps and not with their square.
+#![tactic(auto)]
+
 mod run;
 mod write;
 

@@ -1,5 +1,7 @@
 // The program of whole seasons: the season run reader, the season reader, the season unroller and the season folder, and what they
 // refuse. It prints what it saw, and a line that begins with `difference` where that is not right.
+#![tactic(auto)]
+
 mod folded;
 mod read;
 mod refused;

@@ -1,4 +1,6 @@
 // Solving one row of the table: the cheapest folds of the stretches that begin at one sibling, as far as a fold can use them.
+#![tactic(auto)]
+
 mod ends;
 mod keys;
 mod matches;

@@ -1,5 +1,7 @@
 // All strings of commands in byte order, and all folds of a run among them: what the trial holds the folder's fold against. It
 // asks nothing of the folder.
+#![tactic(auto)]
+
 mod command;
 mod folds;
 mod search;

@@ -1,5 +1,7 @@
 // The table that folding fills: one entry for each stretch of siblings, in lent slices, and the listings of a run's nodes and of a
 // sequence's siblings that say which entry is whose.
+#![tactic(auto)]
+
 mod keys;
 mod listing;
 mod nodes;

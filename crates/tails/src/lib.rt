@@ -1,5 +1,7 @@
 // Solving a season's blocks, from the end of the run to its first step: the stretches of up to 32 steps, the best count at each
 // width, and the tails.
+#![tactic(auto)]
+
 mod counts;
 mod matches;
 mod rates;

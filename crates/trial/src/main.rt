@@ -1,5 +1,7 @@
 // The trial of short runs: the folder on all of them, against every fold that each has. It prints what was tried, and a line
 // that begins with `difference` where the two do not agree.
+#![tactic(auto)]
+
 mod compare;
 mod runs;
 

@@ -1,4 +1,6 @@
 // The unroller: writes the run that a fold unrolls to. Of the format, and of season runs.
+#![tactic(auto)]
+
 mod write;
 
 ghost use Rattle.std.specs.Prelude.{◌≡◌, ℕ, length, take};

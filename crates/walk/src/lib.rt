@@ -1,5 +1,7 @@
 // The walk over an input: every test of docs/REFUSALS.md, in its order, and the counts. It is the one walk of all readers, which
 // stand over it and turn what it came to into their answers.
+#![tactic(auto)]
+
 mod command;
 mod counts;
 mod operands;

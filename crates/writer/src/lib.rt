@@ -1,6 +1,8 @@
 // Writing the cheapest fold by the choices in the table, in either family of commands. What has no room is left out and the place
 // behind the fold is answered all the same, so over an empty output the writer only measures. A sequence goes by the numbers of
 // its nodes: from that of its first one down to the one that it ends at.
+#![tactic(auto)]
+
 ghost use Rattle.std.specs.Prelude.{◌≡◌, ◌<◌, ◌≤◌, length, get_or};
 ghost use Rattle.table.specs.Keys.{pair_digits};
 ghost use Rattle.table.specs.Table.{cell};
