@@ -1,5 +1,4 @@
 -- `enter_group` meets its contract.
-use borrow.Author.Rules.{rules}
 use mathlib.Core.Path.{sym, ◌∙◌}
 use native.Mathlib.Omega.{arith}
 use Rattle.walk.proofs.Commands.{group_banned, group_short, group_deep, group_barred, group_full, group_on}

@@ -1,8 +1,5 @@
 -- `leave_group` meets its contract.
-use borrow.Author.Rules.{rules}
 use native.Mathlib.Omega.{arith}
-use lib.ListN.{get_or}
-use mathlib.Core.Path.{◌≡◌}
 use Rattle.walk.proofs.Commands.{left_open, group_empty, group_left, group_crossed, group_crossed_run}
 use Rattle.walk.proofs.command.leave_group.Goals as goal
 
@@ -20,8 +17,8 @@ returns-then-s-at-eq-GROUP_END c =
 
 pub returns-then-a : goal.returns-then-a
 returns-then-a c =
-    λ steps groups marks d. rw c.refused-then-a.ensures (group_crossed c.args.a steps groups marks c.args.s.now d c.args.at c.args.t c.args.i c.requires.halted c.requires.nodes_bound.1 c.if-at-s.false ((let it : (let a = c.args in get_or a.s.now a.at 0 ≡ 0x21) = c.requires.halted.close c.if-at-s.false c.if-s-at-eq-GROUP_END.false in it)) c.if-a.true _)
+    λ steps groups marks d. rw c.refused-then-a.ensures (group_crossed c.args.a steps groups marks c.args.s.now d c.args.at c.args.t c.args.i c.requires.halted c.requires.nodes_bound.1 c.if-at-s.false (c.requires.halted.close c.if-at-s.false c.if-s-at-eq-GROUP_END.false) c.if-a.true _)
 
 pub returns : goal.returns
 returns c =
-    λ steps groups marks d. rw c.refused-2.ensures (group_crossed_run c.args.a steps groups marks c.args.s.now d c.args.at c.args.t c.args.i c.requires.halted c.requires.nodes_bound.1 c.if-at-s.false ((let it : (let a = c.args in get_or a.s.now a.at 0 ≡ 0x21) = c.requires.halted.close c.if-at-s.false c.if-s-at-eq-GROUP_END.false in it)) c.if-a.false _)
+    λ steps groups marks d. rw c.refused-2.ensures (group_crossed_run c.args.a steps groups marks c.args.s.now d c.args.at c.args.t c.args.i c.requires.halted c.requires.nodes_bound.1 c.if-at-s.false (c.requires.halted.close c.if-at-s.false c.if-s-at-eq-GROUP_END.false) c.if-a.false _)

@@ -1,7 +1,5 @@
 -- `leave_repeat` meets its contract.
-use borrow.Author.Rules.{rules}
 use native.Mathlib.Omega.{arith}
-use lib.ListN.{get_or}
 use mathlib.Core.Path.{◌≡◌}
 use Prim.Native.Nat.{ℕ, ◌<◌, ◌≤◌}
 use Rattle.format.specs.declared.Tally.{Tally}
@@ -25,18 +23,18 @@ returns-then-s-at-eq-GROUP_END c =
 
 pub returns-then-siblings-eq0 : goal.returns-then-siblings-eq0
 returns-then-siblings-eq0 c =
-    λ steps groups marks d. rw c.refused-then-siblings-eq0.ensures (repeat_empty c.args.a steps groups marks c.args.s.now d c.args.at c.args.t c.args.i c.requires.halted c.requires.siblings_bound.1 c.if-at-s.false c.requires.folds_value.0 c.args.o.count c.args.o.width ((let it : (let a = c.args in get_or a.s.now a.at 0 ≡ 0x21) = c.requires.halted.close c.if-at-s.false c.if-s-at-eq-GROUP_END.false in it)) c.if-siblings-eq0.true _)
+    λ steps groups marks d. rw c.refused-then-siblings-eq0.ensures (repeat_empty c.args.a steps groups marks c.args.s.now d c.args.at c.args.t c.args.i c.requires.halted c.requires.siblings_bound.1 c.if-at-s.false c.requires.folds_value.0 c.args.o.count c.args.o.width (c.requires.halted.close c.if-at-s.false c.if-s-at-eq-GROUP_END.false) c.if-siblings-eq0.true _)
 
 pub returns-then-most-total : goal.returns-then-most-total
 returns-then-most-total c =
-    λ steps groups marks d. rw c.refused-then-most-total.ensures (repeat_full c.args.a steps groups marks c.args.s.now d c.args.at c.args.t c.args.i c.requires.halted c.requires.siblings_bound.1 c.if-at-s.false c.requires.folds_value.0 c.args.o.count c.args.o.width ((let it : (let a = c.args in get_or a.s.now a.at 0 ≡ 0x21) = c.requires.halted.close c.if-at-s.false c.if-s-at-eq-GROUP_END.false in it)) c.if-siblings-eq0.false (over c.after_repeat-passed.ensures c.if-most-total.true) _)
+    λ steps groups marks d. rw c.refused-then-most-total.ensures (repeat_full c.args.a steps groups marks c.args.s.now d c.args.at c.args.t c.args.i c.requires.halted c.requires.siblings_bound.1 c.if-at-s.false c.requires.folds_value.0 c.args.o.count c.args.o.width (c.requires.halted.close c.if-at-s.false c.if-s-at-eq-GROUP_END.false) c.if-siblings-eq0.false (over c.after_repeat-passed.ensures c.if-most-total.true) _)
 
 pub returns-then-siblings-width : goal.returns-then-siblings-width
 returns-then-siblings-width c =
-    λ steps groups marks d. rw c.refused-then-siblings-width.ensures (repeat_untrue c.args.a steps groups marks c.args.s.now d c.args.at c.args.t c.args.i c.requires.halted c.requires.siblings_bound.1 c.if-at-s.false c.requires.folds_value.0 c.args.o.count c.args.o.width ((let it : (let a = c.args in get_or a.s.now a.at 0 ≡ 0x21) = c.requires.halted.close c.if-at-s.false c.if-s-at-eq-GROUP_END.false in it)) c.if-siblings-eq0.false (within c.after_repeat-passed.ensures c.if-most-total.false) c.if-siblings-width.true _)
+    λ steps groups marks d. rw c.refused-then-siblings-width.ensures (repeat_untrue c.args.a steps groups marks c.args.s.now d c.args.at c.args.t c.args.i c.requires.halted c.requires.siblings_bound.1 c.if-at-s.false c.requires.folds_value.0 c.args.o.count c.args.o.width (c.requires.halted.close c.if-at-s.false c.if-s-at-eq-GROUP_END.false) c.if-siblings-eq0.false (within c.after_repeat-passed.ensures c.if-most-total.false) c.if-siblings-width.true _)
 
 pub returns : goal.returns
 returns c =
     let total = within c.after_repeat-passed.ensures c.if-most-total.false in
     let grown = repeat_grown c.args.a.limits c.args.o.count c.args.t c.args.i c.requires.folds_value.1 c.requires.siblings_bound.0 (omega (arith, c.if-siblings-eq0.false)) c.requires.size_le_size.0 c.requires.size_le_size.1 c.requires.size_le_size.2 c.requires.steps_le_steps.0 c.requires.steps_le_steps.1 total in
-    λ steps groups marks d. rw c.after_repeat-passed.ensures (repeat_left c.args.a steps groups marks c.args.s.now d c.args.at c.args.t c.args.i c.requires.halted c.requires.siblings_bound.1 c.if-at-s.false c.requires.folds_value.0 c.args.o.count c.args.o.width ((let it : (let a = c.args in get_or a.s.now a.at 0 ≡ 0x21) = c.requires.halted.close c.if-at-s.false c.if-s-at-eq-GROUP_END.false in it)) c.if-siblings-eq0.false total c.if-siblings-width.false grown)
+    λ steps groups marks d. rw c.after_repeat-passed.ensures (repeat_left c.args.a steps groups marks c.args.s.now d c.args.at c.args.t c.args.i c.requires.halted c.requires.siblings_bound.1 c.if-at-s.false c.requires.folds_value.0 c.args.o.count c.args.o.width (c.requires.halted.close c.if-at-s.false c.if-s-at-eq-GROUP_END.false) c.if-siblings-eq0.false total c.if-siblings-width.false grown)

@@ -1,5 +1,4 @@
 -- `step` meets its contract.
-use borrow.Author.Rules.{rules}
 use mathlib.Core.Path.{sym, ◌∙◌}
 use native.Mathlib.Omega.{arith}
 use Rattle.walk.proofs.Commands.{step_short, step_barred, step_full, step_on}

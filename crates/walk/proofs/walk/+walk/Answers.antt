@@ -1,5 +1,5 @@
 -- The functions of the walk meet their contracts: what the laws of reading on (Walking.antt) say of each of them.
-use Rattle.std.proofs.Common.{◌≡◌, sym, ◌∙◌, ◌<◌, ◌≤◌, length, arith}
+use Rattle.std.proofs.Common.{sym, ◌∙◌, ◌<◌, ◌≤◌, length, arith}
 use Rattle.format.specs.Machine.{a_group}
 use Rattle.walk.specs.Walk.{rules_of, in_group_of, in_repeat_of, count_at, width_at, repeat_at}
 use Rattle.walk.proofs.Walking.{along_none, along_refused, along_more, entry_refused, inside_refused, through, group_deeper, repeat_deeper, closed_as, item_unknown}
