@@ -1,3 +1,4 @@
+-- The node looked for is n nodes further on from the place reached, whatever item stands at the beginning.
 use Prim.Native.Nat.{◌-◌}
 use lib.ListN.{length}
 use Rattle.format.specs.Forest.{Forest}

@@ -1,3 +1,4 @@
+-- As many outermost items are passed as are counted.
 use Prim.Native.Nat.{◌-◌}
 use lib.ListN.{length}
 use Rattle.index.proofs.Outermost.{Outer}

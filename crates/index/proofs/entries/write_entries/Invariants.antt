@@ -1,3 +1,4 @@
+-- The entries of the items passed stand in front of both slices.
 use Prim.Native.Nat.{◌-◌}
 use lib.ListN.{length}
 use Rattle.index.proofs.Outermost.{Filling}
