@@ -1,0 +1,30 @@
+-- `solver::keys::offer_key` meets its contract: the price of a count and the one repeat fit beside the body's cost and repeats.
+use native.Mathlib.Omega.{arith}
+use Rattle.solver.proofs.keys.offer_key.Goals as goal
+
+pub offset_bounds-prices-h : goal.offset_bounds-prices-h
+offset_bounds-prices-h c = omega arith
+
+pub bounds-prices-h : goal.bounds-prices-h
+bounds-prices-h c = let S = c in omega (arith, S.requires.0.long)
+
+pub combined_of-requires : goal.combined_of-requires
+combined_of-requires c = let S = c in (S.requires.0.low S.args.h, omega arith)
+
+pub overflow_add-both : goal.overflow_add-both
+overflow_add-both c = let S = c in omega (arith, c.combined_of.ensures, S.requires.0.low S.args.h, S.requires.1)
+
+pub pair_of-requires : goal.pair_of-requires
+pair_of-requires c = let S = c in (S.requires.3, S.requires.2)
+
+pub key_of-requires : goal.key_of-requires
+key_of-requires c =
+    let C = c in
+    let S = C in
+    (omega (arith, C.combined_of.ensures, S.requires.0.low S.args.h, S.requires.1), c.pair_of.ensures.1)
+
+pub returns : goal.returns
+returns c =
+    let p = c.pair_of.ensures.0 in
+    let b = c.combined_of.ensures in
+    omega (arith, c.key_of.ensures, p, b)
