@@ -1,8 +1,5 @@
-use mathlib.Core.Path.{◌≡◌, refl}
-use Prim.Native.Nat.{◌+◌, ◌-◌, ◌<◌, ◌≤◌}
-use native.Mathlib.Omega.{arith}
+use Prim.Native.Nat.{◌+◌, ◌-◌, ◌≤◌}
 use Rattle.solver.specs.Ends.{Ending}
-use Rattle.solver.proofs.Endings.{ending_none, ending_more}
 use Rattle.solver.proofs.ends.end_key.Given as goal
 
 abbrev pub invariant-loop-d : goal.invariant-loop-d

@@ -1,10 +1,5 @@
-use Prim.Native.Nat.{◌+◌, ◌-◌, ◌*◌, ◌≤◌}
-use native.Mathlib.Nat.{mul-le-mul, mul-le-mul_right}
-use native.Mathlib.Omega.{arith}
-use Rattle.solver.specs.Ends.{Beyond}
-use Rattle.optimum.proofs.Matches.{copy_more}
-use Rattle.solver.proofs.Offers.{in_reach}
-use Rattle.solver.proofs.Endings.{EndUpto, end_none, end_more, end_all}
+use Prim.Native.Nat.{◌-◌}
+use Rattle.solver.proofs.Endings.{EndUpto}
 use Rattle.solver.proofs.ends.offer_end.Given as goal
 
 abbrev pub invariant-loop-h : goal.invariant-loop-h

@@ -2,7 +2,6 @@
 use mathlib.Core.Path.{refl}
 use native.Mathlib.Omega.{arith}
 use Rattle.solver.proofs.Endings.{end_unlike}
-use borrow.Author.Rules.{rules}
 use Rattle.solver.proofs.ends.repeated.Goals as goal
 
 pub returns-then-matched_within-d : goal.returns-then-matched_within-d

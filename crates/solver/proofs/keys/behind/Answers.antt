@@ -3,12 +3,6 @@ use native.Mathlib.Omega.{arith}
 use borrow.Author.Tests.{eq-eqb, ne_eqb}
 use Rattle.solver.proofs.keys.behind.Goals as goal
 
-pub offset_bounds-tails-i : goal.offset_bounds-tails-i
-offset_bounds-tails-i c = let S = c in omega (arith, S.requires.i_in_bounds, S.well_formed)
-
-pub bounds-tails-i : goal.bounds-tails-i
-bounds-tails-i c = let S = c in omega (arith, S.requires.i_in_bounds)
-
 pub returns-then-j-end : goal.returns-then-j-end
 returns-then-j-end c =
     let S = c in

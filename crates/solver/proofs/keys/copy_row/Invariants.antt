@@ -1,7 +1,5 @@
-use native.Mathlib.Omega.{arith}
 use Prim.Native.Nat.{◌-◌, ◌≤◌}
-use Rattle.table.proofs.Tables.{falling_read}
-use Rattle.solver.proofs.Putting.{Put, OfRow, put_none, put_more, copied_all}
+use Rattle.solver.proofs.Putting.{Put, OfRow}
 use Rattle.solver.proofs.keys.copy_row.Given as goal
 
 abbrev pub invariant-loop-d : goal.invariant-loop-d

@@ -1,9 +1,5 @@
-use mathlib.Core.Logic.{⊎_elim}
-use Prim.Native.Nat.{◌-◌, ◌*◌, ◌<◌, ◌≤◌}
-use native.Mathlib.Nat.{mul-le-mul}
-use native.Mathlib.Omega.{arith}
-use lib.ListN.{length}
-use Rattle.solver.proofs.Offers.{Upto, in_reach, upto_none, upto_kept, upto_set, offering}
+use Prim.Native.Nat.{◌-◌}
+use Rattle.solver.proofs.Offers.{Upto}
 use Rattle.solver.proofs.keys.offer.Given as goal
 
 abbrev pub invariant-loop-h : goal.invariant-loop-h

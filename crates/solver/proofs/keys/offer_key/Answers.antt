@@ -2,17 +2,8 @@
 use native.Mathlib.Omega.{arith}
 use Rattle.solver.proofs.keys.offer_key.Goals as goal
 
-pub offset_bounds-prices-h : goal.offset_bounds-prices-h
-offset_bounds-prices-h c = omega arith
-
-pub bounds-prices-h : goal.bounds-prices-h
-bounds-prices-h c = let S = c in omega (arith, S.requires.0.long)
-
 pub combined_of-requires : goal.combined_of-requires
 combined_of-requires c = let S = c in (S.requires.0.low S.args.h, omega arith)
-
-pub overflow_add-both : goal.overflow_add-both
-overflow_add-both c = let S = c in omega (arith, c.combined_of.ensures, S.requires.0.low S.args.h, S.requires.1)
 
 pub pair_of-requires : goal.pair_of-requires
 pair_of-requires c = let S = c in (S.requires.3, S.requires.2)

@@ -1,9 +1,5 @@
-use native.Mathlib.Omega.{arith}
-use Prim.Native.Nat.{◌+◌, ◌-◌, ◌<◌, ◌≤◌}
-use Rattle.table.specs.Keys.{stored_key}
-use Rattle.table.specs.Table.{key_at}
-use Rattle.table.proofs.Tables.{falling_read}
-use Rattle.solver.proofs.Putting.{Put, OfPlain, put_none, put_more, plainly_all}
+use Prim.Native.Nat.{◌-◌, ◌≤◌}
+use Rattle.solver.proofs.Putting.{Put, OfPlain}
 use Rattle.solver.proofs.keys.plain_row.Given as goal
 
 abbrev pub invariant-loop-d : goal.invariant-loop-d

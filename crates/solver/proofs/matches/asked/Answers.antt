@@ -1,6 +1,5 @@
 -- `solver::matches::asked` meets its contract.
 use native.Mathlib.Omega.{arith}
-use borrow.Author.Rules.{rules}
 use Rattle.solver.proofs.matches.asked.Goals as goal
 
 pub returns-then-w-le-WIDTHS : goal.returns-then-w-le-WIDTHS

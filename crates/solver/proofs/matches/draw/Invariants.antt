@@ -1,6 +1,5 @@
-use Prim.Native.Nat.{◌+◌, ◌-◌, ◌<◌, ◌≤◌}
-use native.Mathlib.Omega.{arith}
-use Rattle.solver.proofs.Sources.{Sought, sought_none, sought_past, sought_more, sought_drawn}
+use Prim.Native.Nat.{◌+◌, ◌-◌, ◌≤◌}
+use Rattle.solver.proofs.Sources.{Sought}
 use Rattle.solver.proofs.matches.draw.Given as goal
 
 abbrev pub invariant-loop-w : goal.invariant-loop-w

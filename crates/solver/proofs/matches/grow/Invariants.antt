@@ -1,7 +1,5 @@
 use Prim.Native.Nat.{◌-◌, ◌≤◌}
-use native.Mathlib.Omega.{arith}
-use lib.ListN.{length-set}
-use Rattle.solver.proofs.Growths.{GrownBelow, grown_none, grown_more, grown_all}
+use Rattle.solver.proofs.Growths.{GrownBelow}
 use Rattle.solver.proofs.matches.grow.Given as goal
 
 abbrev pub invariant-loop-w : goal.invariant-loop-w

@@ -1,33 +1,13 @@
 -- `solver::matches::next_over` meets its contract. The loop's invariant: at no width passed do more siblings match.
 use mathlib.Core.Path.{◌≡◌}
-use Prim.Native.Nat.{ℕ, ◌-◌, ◌<◌, ◌≤◌}
 use native.Mathlib.Decide.{dec_lt}
 use native.Mathlib.Omega.{arith}
-use lib.ListN.{get_or}
 use Rattle.solver.proofs.matches.next_over.Goals as goal
-
-pub loop-v-init : goal.loop-v-init
-loop-v-init c = (omega arith, omega arith, λ u a b. absurd (omega arith))
-
-pub offset_bounds-matches-v : goal.offset_bounds-matches-v
-offset_bounds-matches-v c = omega arith
-
-pub bounds-matches-v : goal.bounds-matches-v
-bounds-matches-v c = omega arith
-
-pub as_index-requires : goal.as_index-requires
-as_index-requires c = tt
 
 pub returns-then-low-as_index : goal.returns-then-low-as_index
 returns-then-low-as_index c =
     let L = c.loop-v in
     (L.invariant.0, L.invariant.1, L.invariant.2)
-
-pub overflow_add-v : goal.overflow_add-v
-overflow_add-v c = omega arith
-
-pub loop-v-smaller : goal.loop-v-smaller
-loop-v-smaller c = omega arith
 
 pub loop-v-preserved : goal.loop-v-preserved
 loop-v-preserved c =

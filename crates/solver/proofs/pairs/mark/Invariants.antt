@@ -1,7 +1,5 @@
-use mathlib.Core.Logic.{⊎_elim}
 use Prim.Native.Nat.{◌-◌, ◌≤◌}
-use native.Mathlib.Omega.{arith}
-use Rattle.solver.proofs.Marks.{MarkedBelow, marked_none, marked_kept, marked_set, marked_all, marked_few}
+use Rattle.solver.proofs.Marks.{MarkedBelow}
 use Rattle.solver.proofs.pairs.mark.Given as goal
 
 abbrev pub invariant-loop-d : goal.invariant-loop-d

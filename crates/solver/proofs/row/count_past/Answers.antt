@@ -4,11 +4,7 @@ use Prim.Native.Nat.{◌+◌, ◌/◌, ◌≤◌}
 use native.Mathlib.Nat.{div-mul-le_self, div-le_self, lt-mul-div-succ, mul_comm, mul-le-mul_right}
 use native.Mathlib.Decide.{dec_le}
 use native.Mathlib.Omega.{arith}
-use borrow.Author.Rules.{rules}
 use Rattle.solver.proofs.row.count_past.Goals as goal
-
-pub overflow_add-result : goal.overflow_add-result
-overflow_add-result c = let a = c.args in omega (arith, div-le_self a.span a.d)
 
 pub returns : goal.returns
 returns c =

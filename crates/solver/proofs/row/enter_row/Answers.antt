@@ -1,11 +1,10 @@
 -- `solver::row::enter_row` meets its contract. The row is solved whatever tree it was asked for; stored, its stretches have their entries.
-use mathlib.Core.Path.{refl, sym, ◌∙◌}
+use mathlib.Core.Path.{refl}
 use native.Mathlib.Omega.{arith}
 use Rattle.table.proofs.Tables.{falling_less}
 use Rattle.solver.proofs.Putting.{tails_ready}
 use Rattle.solver.proofs.Solving.{row_fits, row_low, match_low, started_rowed, solved_low}
 use Rattle.solver.proofs.Entering.{last_low, row_entered}
-use borrow.Author.Rules.{rules}
 use Rattle.solver.proofs.row.enter_row.Goals as goal
 
 pub start_row-requires : goal.start_row-requires
@@ -33,20 +32,8 @@ end_key-last-requires c =
     let z = p.row_ready in
     record { row_fits = (row_fits z, c.solve-longest.ensures.ready, z.priced.ready, p.keys_ready.1, p.keys_ready.2); by_index = match_low z }
 
-pub overflow_add-stops : goal.overflow_add-stops
-overflow_add-stops c =
-    let D = c in
-    let f = row_fits c.requires.row_ready in
-    omega (arith, f.some, f.few, D.solve-longest.ensures.low)
-
-pub offset_bounds-stops-at : goal.offset_bounds-stops-at
-offset_bounds-stops-at c = let f = row_fits c.requires.row_ready in omega (arith, f.some, f.few)
-
 pub bounds-stops-at : goal.bounds-stops-at
 bounds-stops-at c = let f = row_fits c.requires.row_ready in omega (arith, f.some, f.few, c.requires.keys_ready.3)
-
-pub offset_bounds-tails-at : goal.offset_bounds-tails-at
-offset_bounds-tails-at c = let f = row_fits c.requires.row_ready in omega (arith, f.some, f.few)
 
 pub bounds-tails-at : goal.bounds-tails-at
 bounds-tails-at c = let f = row_fits c.requires.row_ready in omega (arith, f.some, f.few, c.requires.keys_ready.1.long)
@@ -74,16 +61,6 @@ store_entry-requires c =
       falling = (rw s.costs.same_length p.row_held.0, rw s.choices.same_length p.row_held.1);
       i_lt_j = (z.some, last_low c.start_row.ensures c.solve-longest.ensures e.whole e.ending z);
     }
-
-pub shape_of-seen : goal.shape_of-seen
-shape_of-seen c =
-    let D = c in
-    c.mark.ensures.long ∙ sym c.requires.keys_ready.4
-
-pub shape_of-keys : goal.shape_of-keys
-shape_of-keys c =
-    let D = c in
-    D.solve-longest.ensures.ready.long ∙ sym c.requires.keys_ready.0.long
 
 pub returns : goal.returns
 returns c =

@@ -2,7 +2,6 @@
 use mathlib.Core.Path.{refl, sym, ◌∙◌}
 use Rattle.solver.specs.Rows.{push, pass, skip}
 use Rattle.solver.proofs.Putting.{pushed_ready}
-use borrow.Author.Rules.{rules}
 use Rattle.solver.proofs.row.follow.Goals as goal
 
 pub returns-then-covered-d : goal.returns-then-covered-d

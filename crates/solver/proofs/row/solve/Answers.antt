@@ -1,16 +1,11 @@
 -- `solver::row::solve` meets its contract. The loop's invariant: the stretches of fewer than d siblings have done their part, and the
 -- keys taken over stay, so that their marks do. The measure is what is left of the row.
-use mathlib.Core.Path.{◌≡◌, sym, ◌∙◌}
-use Prim.Native.Nat.{◌+◌, ◌-◌, ◌<◌, ◌≤◌}
+use mathlib.Core.Path.{◌≡◌}
+use Prim.Native.Nat.{◌+◌, ◌-◌, ◌≤◌}
 use native.Mathlib.Omega.{arith}
-use Rattle.solver.specs.Rows.{Advanced}
 use Rattle.solver.proofs.Marks.{marked_still}
-use Rattle.solver.proofs.Solving.{push_own, advanced_none, advanced_more}
+use Rattle.solver.proofs.Solving.{push_own, advanced_more}
 use Rattle.solver.proofs.row.solve.Goals as goal
-
-pub loop-d-init : goal.loop-d-init
-loop-d-init c =
-    (omega arith, omega arith, advanced_none c.requires.row_fits.1)
 
 pub follow-requires : goal.follow-requires
 follow-requires c =
@@ -50,9 +45,6 @@ loop-d-preserved c =
             widened = rw (push_own f.pushed) at w.widened;
           })),
     )
-
-pub shape_of-keys : goal.shape_of-keys
-shape_of-keys c = c.loop-d.invariant.2.ready.long ∙ sym c.requires.row_fits.1.long
 
 pub returns : goal.returns
 returns c =

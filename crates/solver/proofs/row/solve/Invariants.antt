@@ -1,9 +1,5 @@
-use mathlib.Core.Path.{◌≡◌, sym, ◌∙◌}
-use Prim.Native.Nat.{◌+◌, ◌-◌, ◌<◌, ◌≤◌}
-use native.Mathlib.Omega.{arith}
+use Prim.Native.Nat.{◌+◌, ◌-◌, ◌≤◌}
 use Rattle.solver.specs.Rows.{Advanced}
-use Rattle.solver.proofs.Marks.{marked_still}
-use Rattle.solver.proofs.Solving.{push_own, advanced_none, advanced_more}
 use Rattle.solver.proofs.row.solve.Given as goal
 
 abbrev pub invariant-loop-d : goal.invariant-loop-d

@@ -1,7 +1,5 @@
 -- `solver::row::start_row` meets its contract. The key of the one sibling comes between those copied and those of the plain node.
-use mathlib.Core.Path.{◌∙◌}
 use native.Mathlib.Omega.{arith}
-use lib.ListN.{length-set}
 use Rattle.solver.proofs.Putting.{one_ready, started}
 use Rattle.solver.proofs.row.start_row.Goals as goal
 
@@ -11,9 +9,6 @@ copy_row-requires c = c.requires
 pub key_of-requires : goal.key_of-requires
 key_of-requires c =
     (omega (arith, c.requires.row_fits.0.low), omega arith)
-
-pub bounds-keys-1 : goal.bounds-keys-1
-bounds-keys-1 c = omega (arith, c.copy_row.ensures.long, c.requires.row_fits.1.long)
 
 pub past-requires : goal.past-requires
 past-requires c = let f = c.requires.row_fits.0 in (omega arith, omega (arith, f.few, f.taken))

@@ -5,7 +5,6 @@ use native.Mathlib.Decide.{dec_le}
 use native.Mathlib.Omega.{arith}
 use Rattle.solver.specs.Rows.{offer, too_wide, unlike}
 use Rattle.solver.proofs.Putting.{widened_ready}
-use borrow.Author.Rules.{rules}
 use Rattle.solver.proofs.row.widen.Goals as goal
 
 pub offer-requires : goal.offer-requires
