@@ -10,9 +10,8 @@ key_of-requires c = (omega (arith, c.requires.row_fits.0.low), omega arith)
 
 pub followed-last-requires : goal.followed-last-requires
 followed-last-requires c =
-    let H = c in
     let p = c.requires.row_fits in
-    (p.1.low H.loop-d.d, p.3.low (c.args.row.at + H.loop-d.d))
+    (p.1.low c.loop-d.d, p.3.low (c.args.row.at + c.loop-d.d))
 
 pub returns-then-row-n : goal.returns-then-row-n
 returns-then-row-n c = record { whole = λ e. refl; ending = λ l. absurd (omega (arith, c.if-row-n.true)) }

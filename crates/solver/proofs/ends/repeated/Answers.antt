@@ -9,5 +9,4 @@ returns-then-matched_within-d c = (λ l. end_unlike _ _ _ _ _ _ _ (omega (arith,
 
 pub returns : goal.returns
 returns c =
-    let M = c in
-    (λ l. c.offer_end.ensures, λ l. absurd (omega (arith, M.matched_within.ensures.1 l)))
+    (λ l. c.offer_end.ensures, λ l. absurd (omega (arith, c.matched_within.ensures.1 l)))

@@ -3,16 +3,14 @@ use native.Mathlib.Omega.{arith}
 use Rattle.solver.proofs.keys.offer_key.Goals as goal
 
 pub combined_of-requires : goal.combined_of-requires
-combined_of-requires c = let S = c in (S.requires.0.low S.args.h, omega arith)
+combined_of-requires c = (c.requires.0.low c.args.h, omega arith)
 
 pub pair_of-requires : goal.pair_of-requires
-pair_of-requires c = let S = c in (S.requires.3, S.requires.2)
+pair_of-requires c = (c.requires.3, c.requires.2)
 
 pub key_of-requires : goal.key_of-requires
 key_of-requires c =
-    let C = c in
-    let S = C in
-    (omega (arith, C.combined_of.ensures, S.requires.0.low S.args.h, S.requires.1), c.pair_of.ensures.1)
+    (omega (arith, c.combined_of.ensures, c.requires.0.low c.args.h, c.requires.1), c.pair_of.ensures.1)
 
 pub returns : goal.returns
 returns c =

@@ -1,8 +1,5 @@
 -- `solver::keys::plain_row` meets its contract. The loop's invariant: the places from `from` up to below d have the keys of the plain node.
 use native.Mathlib.Omega.{arith}
-use Prim.Native.Nat.{◌+◌, ◌<◌}
-use Rattle.table.specs.Keys.{stored_key}
-use Rattle.table.specs.Table.{key_at}
 use Rattle.table.proofs.Tables.{falling_read}
 use Rattle.solver.proofs.Putting.{put_more, plainly_all}
 use Rattle.solver.proofs.keys.plain_row.Goals as goal
@@ -13,23 +10,14 @@ key_of-plain-requires c =
 
 pub loop-d-preserved : goal.loop-d-preserved
 loop-d-preserved c =
-    let L = c in
+    let L = c.loop-d in
     let p = c.requires.row_fits in
-    let plain = L.key_of-plain.ensures in
+    let plain = c.key_of-plain.ensures in
     let rest = c.rest_key.ensures in
-    let f = p.0 in (
+    let f = p.0 in
+    let low = c.requires.row_read.2.rests 1 L.d (omega arith) (omega (arith, L.invariant.1.late, p.2)) c.loop-d-test.true in (
       omega (arith, f.few, f.some),
-      put_more _ _ _ _ _ L.loop-d.invariant.1 _ (omega (arith, p.1.long, f.few, f.some)) (
-        omega (
-          arith,
-          plain,
-          rest,
-          (let it : (let a = c.args in key_at a.costs.now a.choices.now a.numbers.now (a.row.at + 1) (a.row.at + c.loop-d.d) < stored_key) = let S = c in
-              S.requires.row_read.2.rests 1 c.loop-d.d (omega arith) (omega (arith, c.loop-d.invariant.1.late, S.requires.row_fits.2)) c.loop-d-test.true in it),
-          f.low,
-        ),
-        omega (arith, plain, rest),
-      ),
+      put_more _ _ _ _ _ L.invariant.1 _ (omega (arith, p.1.long, f.few, f.some)) (omega (arith, plain, rest, low, f.low), omega (arith, plain, rest)),
     )
 
 pub returns : goal.returns

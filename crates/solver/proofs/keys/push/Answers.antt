@@ -4,8 +4,7 @@ use mathlib.Core.Path.{refl}
 use mathlib.Core.Bool.{Bool, true, false, cond}
 use mathlib.Core.Logic.{inl, inr, ⊎_elim}
 use native.Mathlib.Omega.{arith}
-use Prim.Native.Nat.{ℕ, ◌<◌, ◌≤◌}
-use lib.ListN.{length}
+use Prim.Native.Nat.{ℕ, ◌≤◌}
 use Rattle.table.specs.Keys.{stored_key}
 use Rattle.table.proofs.Tables.{falling_read}
 use Rattle.solver.proofs.Putting.{put_more, pushing_all}
@@ -28,20 +27,15 @@ behind-rest-requires c =
 
 pub loop-d-preserved : goal.loop-d-preserved
 loop-d-preserved c =
-    let I = c in
-    let L = I.loop-d in
-    let S = c in
+    let L = c.loop-d in
+    let p = c.requires.row_fits in
+    let f = p.0 in
     let rest = c.behind-rest.ensures in
     let old = L.invariant.1.kept L.d (inr (omega arith)) in
     let r = c.lesser.ensures in
-    let some = S.requires.row_fits.0.some in (
-      omega (arith, S.requires.row_fits.0.few),
-      put_more _ _ _ _ _ L.invariant.1 _ (omega (
-        arith,
-        (let it : c.loop-d.d < length c.loop-d.keys = let p = c.requires.row_fits in
-            omega (arith, c.loop-d.invariant.1.same_length, p.1.long, p.0.few, p.0.some) in it),
-        L.invariant.1.same_length,
-      ))
+    let some = f.some in (
+      omega (arith, f.few),
+      put_more _ _ _ _ _ L.invariant.1 _ (omega (arith, p.1.long, f.few, some))
           (omega arith, omega arith, omega arith, ⊎_elim (λ e. inl (omega arith)) (λ e. inr (omega arith)) r.2),
     )
 

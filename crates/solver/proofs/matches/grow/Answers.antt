@@ -5,18 +5,15 @@ use Rattle.solver.proofs.matches.grow.Goals as goal
 
 pub longer-requires : goal.longer-requires
 longer-requires c =
-    let H = c in
-    let w = H.loop-w.w in
-    omega (arith, H.loop-w.invariant.2.later w (omega arith), c.requires.by_index w (omega arith) (omega arith))
+    let w = c.loop-w.w in
+    omega (arith, c.loop-w.invariant.2.later w (omega arith), c.requires.by_index w (omega arith) (omega arith))
 
 pub loop-w-preserved : goal.loop-w-preserved
 loop-w-preserved c =
-    let H = c in
-    let L = H.loop-w in
+    let L = c.loop-w in
     let r = c.longer.ensures in
     (omega arith, omega arith, grown_more _ _ _ _ _ L.invariant.2 (omega arith) _ (c.requires.by_index L.w (omega arith) (omega arith)) r.0 r.1)
 
 pub returns : goal.returns
 returns c =
-    let H = c in
-    grown_all _ _ _ _ _ H.loop-w.invariant.2 (omega arith) c.args.m (omega arith) (omega arith) (omega arith)
+    grown_all _ _ _ _ _ c.loop-w.invariant.2 (omega arith) c.args.m (omega arith) (omega arith) (omega arith)

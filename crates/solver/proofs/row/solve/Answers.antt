@@ -48,6 +48,5 @@ loop-d-preserved c =
 
 pub returns : goal.returns
 returns c =
-    let H = c in
-    let e : H.loop-d.d - 1 ≡ c.args.row.extent = omega (arith, c.loop-d-test.false, H.loop-d.invariant.0, H.loop-d.invariant.1) in
-    rw e at H.loop-d.invariant.2
+    let e : c.loop-d.d - 1 ≡ c.args.row.extent = omega (arith, c.loop-d-test.false, c.loop-d.invariant.0, c.loop-d.invariant.1) in
+    rw e at c.loop-d.invariant.2

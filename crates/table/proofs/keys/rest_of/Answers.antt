@@ -2,8 +2,5 @@
 use native.Mathlib.Omega.{arith}
 use Rattle.table.proofs.keys.rest_of.Goals as goal
 
-pub overflow_sub-result : goal.overflow_sub-result
-overflow_sub-result c = omega arith
-
 pub returns : goal.returns
 returns c = (omega arith, omega arith)

@@ -23,12 +23,6 @@ module _ (m : ℕ → Bool) (s : List ℕ) (p q : ℕ) (h : p < length s) (e : p
   unfolding marked_from
   at_command = let f : suc p ≡ q = omega arith in rw (← f) (ap (marked_from m false) (drop-cons s p 0 h))
 
-pub loop-p-init : goal.loop-p-init
-loop-p-init c = (omega arith, refl)
-
-pub bounds-part-p : goal.bounds-part-p
-bounds-part-p c = omega arith
-
 pub returns-then-is_marked : goal.returns-then-is_marked
 returns-then-is_marked c =
     let L = c.loop-p in
@@ -36,15 +30,6 @@ returns-then-is_marked c =
     let label : L.label ≡ true = c.if-label.true in
     let marked : marked_in a.marks.now (get_or a.part.now L.p 0) ≡ true = sym c.is_marked.ensures ∙ c.if-is_marked.true in
     sym (L.invariant.1 ∙ rw (label, at_label (marked_in a.marks.now) a.part.now L.p (L.p + 1) (omega arith) refl, marked))
-
-pub bounds-part-p-else-label : goal.bounds-part-p-else-label
-bounds-part-p-else-label c = omega arith
-
-pub overflow_add-p : goal.overflow_add-p
-overflow_add-p c = omega arith
-
-pub loop-p-smaller : goal.loop-p-smaller
-loop-p-smaller c = omega arith
 
 pub returns : goal.returns
 unfolding marked_from

@@ -1,5 +1,4 @@
 -- `table::nodes::offset_of` meets its contract: past the last sibling the bytes end, and each sibling stands where it is listed.
-use Prim.Native.Nat.{◌<◌}
 use native.Mathlib.Omega.{arith}
 use Rattle.format.specs.Forest.{at_most}
 use Rattle.table.proofs.Following.{reached_within, reached_place, reached_end}
@@ -9,10 +8,10 @@ pub returns-then-q-span : goal.returns-then-q-span
 returns-then-q-span c = λ i w. reached_end _ c.requires.spelled _ _ _ w (omega (arith, c.if-q-span.true))
 
 pub offset_bounds-places-q : goal.offset_bounds-places-q
-offset_bounds-places-q c = omega (arith, (let it : c.args.q < 1025 = omega (arith, reached_within (at_most 0) _ _ (c.requires.spelled.run (at_most 0)) _ _ c.requires.by_index_2.1, c.requires.by_index.1) in it))
+offset_bounds-places-q c = omega (arith, reached_within (at_most 0) _ _ (c.requires.spelled.run (at_most 0)) _ _ c.requires.by_index_2.1, c.requires.by_index.1)
 
 pub bounds-places-q : goal.bounds-places-q
-bounds-places-q c = omega (arith, (let it : c.args.q < 1025 = omega (arith, reached_within (at_most 0) _ _ (c.requires.spelled.run (at_most 0)) _ _ c.requires.by_index_2.1, c.requires.by_index.1) in it))
+bounds-places-q c = omega (arith, reached_within (at_most 0) _ _ (c.requires.spelled.run (at_most 0)) _ _ c.requires.by_index_2.1, c.requires.by_index.1)
 
 pub overflow_sub-result : goal.overflow_sub-result
 overflow_sub-result c =

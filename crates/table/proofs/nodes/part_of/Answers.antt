@@ -27,10 +27,10 @@ in_order s b q i at stop z h w e f =
     (omega (arith, sibling_long _ z i some), omega (arith, place_most _ z (i + 1)))
 
 pub offset_bounds-nexts-q : goal.offset_bounds-nexts-q
-offset_bounds-nexts-q c = omega (arith, (let it : c.args.q < 1025 = omega (arith, reached_within (at_most 0) _ _ (c.requires.spelled.run (at_most 0)) _ _ c.requires.behind_lt_q.1.1, c.requires.span_listed) in it))
+offset_bounds-nexts-q c = omega (arith, reached_within (at_most 0) _ _ (c.requires.spelled.run (at_most 0)) _ _ c.requires.behind_lt_q.1.1, c.requires.span_listed)
 
 pub bounds-nexts-q : goal.bounds-nexts-q
-bounds-nexts-q c = omega (arith, (let it : c.args.q < 1025 = omega (arith, reached_within (at_most 0) _ _ (c.requires.spelled.run (at_most 0)) _ _ c.requires.behind_lt_q.1.1, c.requires.span_listed) in it))
+bounds-nexts-q c = omega (arith, reached_within (at_most 0) _ _ (c.requires.spelled.run (at_most 0)) _ _ c.requires.behind_lt_q.1.1, c.requires.span_listed)
 
 pub offset_of-end-requires-clause-by_index_2 : goal.offset_of-end-requires-clause-by_index_2
 offset_of-end-requires-clause-by_index_2 c =
