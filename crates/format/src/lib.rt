@@ -215,6 +215,7 @@ pub fn full_head(limit: usize, steps: &[u16], groups: &[u16], marks: &[u8]) -> H
 
 // The refusal of a head: 11 for the table of steps, then 15 for that of groups, then 12 for the limit, then 18 for the marks;
 // 0 where none applies.
+#[tactic(auto, unfolding(crate::specs::Head::head_checks))]
 pub fn head_refusal(bounds: Limits, head: Head) -> u8
     ensures { result ≡ first_of (head_checks bounds head) }
 {

@@ -20,24 +20,12 @@ pub returns-then-marks-ne-LABELS : goal.returns-then-marks-ne-LABELS
 unfolding marks_in_order
 returns-then-marks-ne-LABELS c = rw (ne_eqb (length c.args.marks.now) 256 (omega (arith, c.if-marks-ne-LABELS.true)))
 
-pub loop-i-init : goal.loop-i-init
-loop-i-init c = (omega arith, refl)
-
-pub bounds-marks-i : goal.bounds-marks-i
-bounds-marks-i c = omega arith
-
 pub returns-then-marks-i-gt1 : goal.returns-then-marks-i-gt1
 unfolding marks_in_order
 returns-then-marks-i-gt1 c =
     let L = c.loop-i in
     let marks = c.args.marks.now in
     rw (L.invariant.1, next marks L.i (omega arith), lt-leb (get_or marks L.i 0) 1 (omega (arith, c.if-marks-i-gt1.true)), and-false)
-
-pub overflow_add-i : goal.overflow_add-i
-overflow_add-i c = omega arith
-
-pub loop-i-smaller : goal.loop-i-smaller
-loop-i-smaller c = omega arith
 
 pub loop-i-preserved : goal.loop-i-preserved
 loop-i-preserved c =
