@@ -36,7 +36,7 @@ fn copy_on(out: &mut [u8], start: usize, to: usize, more: usize) -> usize
 }
 
 // The items from a place on, up to the end of the input or to a close. A loop, so that siblings take no stack.
-#[cycle(put_item_put_sequence)]
+#[cycle(put)]
 pub fn put_sequence(s: &[u8], out: &mut [u8], w: Place) -> Place
     requires { (f : Forest) × SequenceFrom s.now (length out.old) w f }
     ensures { (f : Forest) → SequenceFrom s.now (length out.old) w f → PassedOver out.old out.new w f result }
@@ -57,7 +57,7 @@ pub fn put_sequence(s: &[u8], out: &mut [u8], w: Place) -> Place
 }
 
 // The item at a place. A repeat is unrolled once and then copied, so that its body is walked once whatever its count.
-#[cycle(put_item_put_sequence)]
+#[cycle(put)]
 fn put_item(s: &[u8], out: &mut [u8], w: Place) -> Place
     requires { (f : Forest) × ItemFrom s.now (length out.old) w f }
     ensures { (f : Forest) → ItemFrom s.now (length out.old) w f → PassedOver out.old out.new w f result }

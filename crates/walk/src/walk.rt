@@ -11,7 +11,7 @@ use crate::operands::operands_at;
 use format::{Format, Tally, opens_repeat};
 
 // The items from `at` on, up to the end of the input or to a close.
-#[cycle(group_item_repeat_sequence)]
+#[cycle(walk)]
 pub fn sequence(
     s: &[u8],
     steps: &[u16],
@@ -60,7 +60,7 @@ pub fn sequence(
 }
 
 // The item at `at`, which is no close.
-#[cycle(group_item_repeat_sequence)]
+#[cycle(walk)]
 fn item(
     s: &[u8],
     steps: &[u16],
@@ -90,7 +90,7 @@ fn item(
 }
 
 // The group at `at`.
-#[cycle(group_item_repeat_sequence)]
+#[cycle(walk)]
 fn group(
     s: &[u8],
     steps: &[u16],
@@ -126,7 +126,7 @@ fn group(
 }
 
 // The repeat at `at`.
-#[cycle(group_item_repeat_sequence)]
+#[cycle(walk)]
 fn repeat(
     s: &[u8],
     steps: &[u16],
