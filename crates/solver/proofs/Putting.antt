@@ -60,7 +60,7 @@ copied_all costs choices numbers j n d before now low past p =
 
 -- Those of the plain node with what follows it.
 abbrev pub OfPlain : (costs choices numbers : List ℕ) (row : Row) → ℕ → ℕ → Type 0
-OfPlain costs choices numbers row c x = (x ≤ top_key) × (x ≡ key row.own_val 0 + rest_key costs choices numbers (row.at + 1) (row.at + c))
+OfPlain costs choices numbers row c x = (x ≤ top_key) × (x ≡ key row.own 0 + rest_key costs choices numbers (row.at + 1) (row.at + c))
 
 pub plainly_all : (costs choices numbers : List ℕ) (row : Row) (from d : ℕ) (before now : List ℕ) → ((c : ℕ) → get_or before c 0 ≤ top_key)
     → row.extent < d → Put (OfPlain costs choices numbers row) from d before now → Plainly costs choices numbers row from before now
@@ -106,7 +106,7 @@ one_ready {k = k} {between = between} e ready small copied =
     }
 
 -- The three parts of a row's first keys: those copied, that of the one sibling, and those of the plain node past both.
-pub started : (costs choices numbers : List ℕ) (row : Row) (from k : ℕ) (start between keys : List ℕ) → k ≡ key row.own_val 0 → KeysReady start
+pub started : (costs choices numbers : List ℕ) (row : Row) (from k : ℕ) (start between keys : List ℕ) → k ≡ key row.own 0 → KeysReady start
     → 1 < from → row.span < from → ((c : ℕ) → 1 < c → row.span < c → from ≤ c)
     → Copied costs choices numbers (row.at + row.shift) row.span start between → Plainly costs choices numbers row from (set between 1 k) keys
     → Started costs choices numbers row keys

@@ -141,7 +141,7 @@ module _ {costs choices numbers : List ℕ} {row : Row} {prices same tails stops
   pub match_low : (w : ℕ) → 0 < w → i + w ≤ m → i + w + get_or same w 0 ≤ m
   match_low w p h = let d = matched w p h in omega (arith, from_here)
 
-  own_low : row.own_val < combined_base
+  own_low : row.own < combined_base
   own_low = omega (arith, z.own_cost, cost_low modest i 1)
 
   pub row_fits : RowFits row

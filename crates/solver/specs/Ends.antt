@@ -7,7 +7,7 @@ use Rattle.solver.specs.Rows.{offer_key}
 -- The keys of the candidates: the plain node, a solved stretch that is cheapest as one repeat, and a repeat that covers more than is
 -- solved, each with the tail behind it.
 abbrev pub plain_end : (row : Row) (tails : List ℕ) → ℕ
-plain_end row tails = key row.own_val 0 + get_or tails (row.at + 1) 0
+plain_end row tails = key row.own 0 + get_or tails (row.at + 1) 0
 
 abbrev pub cover_end : (row : Row) (tails keys : List ℕ) (d : ℕ) → ℕ
 cover_end row tails keys d = get_or keys d 0 + get_or tails (row.at + d) 0

@@ -16,7 +16,7 @@ use Rattle.solver.specs.declared.matches.Source.{Source}
 pub record RowFits (row : Row) : Type 0 where
   pub few : row.end ≤ 1024
   pub some : row.at < row.end
-  pub low : row.own_val < combined_base
+  pub low : row.own < combined_base
   pub taken : row.at + row.shift + row.span ≤ row.end
   pub under : row.span ≤ row.extent
   pub within : row.at + row.extent ≤ row.end
@@ -151,11 +151,11 @@ pub record Pushing (costs choices numbers tails : List ℕ) (row : Row) (c k fro
 -- plain node with the rest.
 pub record Started (costs choices numbers : List ℕ) (row : Row) (keys : List ℕ) : Type 0 where
   pub ready : KeysReady keys
-  pub one : get_or keys 1 0 ≡ key row.own_val 0
+  pub one : get_or keys 1 0 ≡ key row.own 0
   pub copied : (c : ℕ) → 1 < c → c ≤ row.span
       → get_or keys c 0 ≡ key_at costs choices numbers (row.at + row.shift) (row.at + row.shift + c)
   pub plain : (c : ℕ) → 1 < c → row.span < c → c ≤ row.extent
-      → get_or keys c 0 ≡ key row.own_val 0 + rest_key costs choices numbers (row.at + 1) (row.at + c)
+      → get_or keys c 0 ≡ key row.own 0 + rest_key costs choices numbers (row.at + 1) (row.at + c)
 
 -- The first n keys are those of another row.
 pub record Copied (costs choices numbers : List ℕ) (j n : ℕ) (before after : List ℕ) : Type 0 where
@@ -169,7 +169,7 @@ pub record Plainly (costs choices numbers : List ℕ) (row : Row) (from : ℕ) (
   pub low : (c : ℕ) → get_or after c 0 ≤ top_key
   pub kept : (c : ℕ) → c < from → get_or after c 0 ≡ get_or before c 0
   pub plain : (c : ℕ) → from ≤ c → c ≤ row.extent
-      → get_or after c 0 ≡ key row.own_val 0 + rest_key costs choices numbers (row.at + 1) (row.at + c)
+      → get_or after c 0 ≡ key row.own 0 + rest_key costs choices numbers (row.at + 1) (row.at + c)
 
 -- No key of up to `span` siblings has a repeat first that covers d of them and leaves something.
 abbrev pub NoneBehind : (row : Row) (d : ℕ) (keys : List ℕ) → Type 0
@@ -229,7 +229,7 @@ pub record RowReady (costs choices numbers : List ℕ) (row : Row) (prices same 
   pub rows_below : Entered allowed prices_are base tree (row.at + 1) extents costs choices
   pub tailing : Tailing allowed prices_are tree (row.at + 1) tails
   pub stopping : Stopping allowed prices_are tree (row.at + 1) extents stops
-  pub own_cost : row.own_val ≡ best_cost allowed prices_are (node row.at tree)
+  pub own_cost : row.own ≡ best_cost allowed prices_are (node row.at tree)
   pub matches : Matches allowed.marked (back row.at tree) same
   pub drawn : Drawn extents row.at row.end same (record { extent = row.extent; shift = row.shift; span = row.span })
 

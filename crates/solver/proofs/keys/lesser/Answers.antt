@@ -1,0 +1,11 @@
+-- `solver::keys::lesser` meets its contract.
+use mathlib.Core.Path.{refl}
+use mathlib.Core.Logic.{inl, inr}
+use native.Mathlib.Omega.{arith}
+use Rattle.solver.proofs.keys.lesser.Goals as goal
+
+pub returns-then-a-b : goal.returns-then-a-b
+returns-then-a-b c = (omega arith, omega arith, inl refl)
+
+pub returns : goal.returns
+returns c = (omega arith, omega arith, inr refl)
