@@ -6,6 +6,7 @@ use format::Folded;
 use harness::{Checked, alike, begins, fold_checked, unrolls};
 use print::{difference, number, setting, word};
 use reader::{read_fold, read_run};
+use std::io;
 
 // Whether a fold has this cost by the fold reader, and its run's nodes, bytes, steps and depth.
 fn reads(
@@ -27,18 +28,18 @@ fn reads(
 }
 
 // Prints an answer of the folder, what it was asked, and the run's steps and depth.
-fn show(name: &[u8], run: &[u8], a: Case, r: Folded) {
-    word(name);
-    setting(a.limit, a.first, a.each);
+fn show(rt: &impl Print, name: &[u8], run: &[u8], a: Case, r: Folded) -> io::Result<()> {
+    word(rt, name)?;
+    setting(rt, a.limit, a.first, a.each)?;
     if a.group != 1 {
-        number(b", groups ", a.group as u64);
+        number(rt, b", groups ", a.group as u64)?;
     }
-    number(b": cost ", r.cost);
-    number(b", length ", r.length as u64);
+    number(rt, b": cost ", r.cost)?;
+    number(rt, b", length ", r.length as u64)?;
     let s = read_run(run);
-    number(b", steps ", s.steps as u64);
-    number(b", depth ", s.depth as u64);
-    word(b"\n");
+    number(rt, b", steps ", s.steps as u64)?;
+    number(rt, b", depth ", s.depth as u64)?;
+    word(rt, b"\n")
 }
 
 // Whether the folder's answer is these bytes at this cost.
@@ -67,6 +68,7 @@ pub struct Case {
 
 // A run that folds to these bytes at this cost under the marks, with what is lent.
 pub fn known_in(
+    rt: &impl Print,
     name: &[u8],
     run: &[u8],
     a: Case,
@@ -76,14 +78,14 @@ pub fn known_in(
     choices: &mut [u32],
     out: &mut [u8],
     text: &mut [u8],
-) {
+) -> io::Result<()> {
     let group = a.group;
     let steps = [1u16; 256];
     let groups = [group; 256];
     let c = fold_checked(
         run, a.limit, &steps, &groups, marks, a.first, a.each, costs, choices, out,
     );
-    show(name, run, a, c.answer);
+    show(rt, name, run, a, c.answer)?;
     let mut right = wrote(c, out, fold, a.cost);
     if !reads(
         fold, a.limit, &steps, &groups, marks, a.first, a.each, run, a.cost,
@@ -94,17 +96,26 @@ pub fn known_in(
         right = false;
     }
     if !right {
-        difference(name);
+        difference(rt, name)?;
     }
+    Ok(())
 }
 
 // The same with room for 22 nodes.
-pub fn known_at(name: &[u8], run: &[u8], a: Case, marks: &[u8], fold: &[u8]) {
+pub fn known_at(
+    rt: &impl Print,
+    name: &[u8],
+    run: &[u8],
+    a: Case,
+    marks: &[u8],
+    fold: &[u8],
+) -> io::Result<()> {
     let mut costs = [0u32; 260];
     let mut choices = [0u32; 260];
     let mut out = [0u8; 80];
     let mut text = [0u8; 80];
     known_in(
+        rt,
         name,
         run,
         a,
@@ -114,5 +125,5 @@ pub fn known_at(name: &[u8], run: &[u8], a: Case, marks: &[u8], fold: &[u8]) {
         &mut choices,
         &mut out,
         &mut text,
-    );
+    )
 }

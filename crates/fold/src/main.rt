@@ -12,8 +12,8 @@ ghost use Rattle.fold.specs.Printed.{printed};
 use folder::fold;
 use format::Format;
 use input::read_input;
-use libc::STDOUT_FILENO;
 use reader::read_run;
+use std::io;
 use text::{put_refusal, put_report};
 
 // The text that is printed for a run. Unit costs: every label 1 for steps and groups and none marked, first 1, each 0. The work
@@ -47,19 +47,35 @@ fn answer(run: &[u8], text: &mut [u8]) -> usize
     put_report(nodes as u64, r.cost, &out[..length], text)
 }
 
+// Says on standard error what failed, a colon and what the system says of it. Where that can't be written either, nothing is said.
+fn fail(rt: &(impl Eprint + Alloc), what: &str, error: &io::Error) {
+    let _ = say(rt, what, error);
+}
+
+// An error of the system is written with its number behind, which is left out.
+fn say(rt: &(impl Eprint + Alloc), what: &str, error: &io::Error) -> io::Result<()> {
+    let text = error.to_string(rt.alloc())?;
+    let said = match text.as_str().split_once(" (os error ") {
+        Some((said, _)) => said,
+        None => text.as_str(),
+    };
+    eprintln!(rt; "{what}: {said}")
+}
+
 // At most 4,096 bytes are read: more cannot alter the answer (`more_input` in proofs/More.antt). An input that could not be read
 // has no answer, and nothing is printed of what came before.
-fn main() {
+fn main(rt: HostRuntime) {
     let mut bytes = [0u8; 4096];
-    let input = read_input(&mut bytes);
-    if input.failed {
-        os::fail(b"fold: standard input");
-        return;
-    }
-    let n = input.length;
+    let n = match read_input(&mut rt.stdin(), &mut bytes) {
+        Ok(n) => n,
+        Err(error) => {
+            fail(&rt, "fold: standard input", &error);
+            return;
+        }
+    };
     let mut text = [0u8; 8252];
     let k = answer(&bytes[..n], &mut text);
-    if !io::write_all(STDOUT_FILENO, &text[..k]) {
-        os::fail(b"fold: standard output");
+    if let Err(error) = rt.write_all(&text[..k]) {
+        fail(&rt, "fold: standard output", &error);
     }
 }

@@ -5,6 +5,7 @@ use harness::{above, begins};
 use index::{Found, Indexed, build_index, find};
 use print::{bytes, difference, number, word};
 use refusals::{FILLED, entries, front, no_node, still_filled};
+use std::io;
 use unroller::unroll;
 
 // Whether two bytes stand at an offset.
@@ -65,36 +66,37 @@ fn right_of(fold: &[u8], offsets: &[u32], before: &[u32]) -> usize {
 }
 
 // Prints what the finder answers at a position.
-fn show_node(position: u64, f: Found) {
-    number(b", position ", position);
+fn show_node(rt: &impl Print, position: u64, f: Found) -> io::Result<()> {
+    number(rt, b", position ", position)?;
     if f.refusal != 0 {
-        number(b" refused by ", f.refusal as u64);
+        number(rt, b" refused by ", f.refusal as u64)?;
     } else {
-        word(b" is ");
-        bytes(&[f.command, f.label]);
-        number(b" at offset ", f.offset as u64);
+        word(rt, b" is ")?;
+        bytes(rt, &[f.command, f.label])?;
+        number(rt, b" at offset ", f.offset as u64)?;
     }
-    word(b"\n");
+    word(rt, b"\n")
 }
 
 // Prints an index, at how many positions the finder is right by it, and its answer at one. Returns whether all are right.
 fn show(
+    rt: &impl Print,
     name: &[u8],
     fold: &[u8],
     offsets: &[u32],
     before: &[u32],
     nodes: usize,
     position: u64,
-) -> bool {
+) -> io::Result<bool> {
     let right = right_of(fold, offsets, before);
-    word(b"found in ");
-    word(name);
-    entries(b": offsets", offsets);
-    entries(b", before", before);
-    number(b", right at ", right as u64);
-    number(b" positions of ", nodes as u64);
-    show_node(position, find(fold, offsets, before, position));
-    right == nodes
+    word(rt, b"found in ")?;
+    word(rt, name)?;
+    entries(rt, b": offsets", offsets)?;
+    entries(rt, b", before", before)?;
+    number(rt, b", right at ", right as u64)?;
+    number(rt, b" positions of ", nodes as u64)?;
+    show_node(rt, position, find(fold, offsets, before, position))?;
+    Ok(right == nodes)
 }
 
 // Whether the finder, with the first n entries of what is lent, refuses by this number, at no place and with no values.
@@ -176,6 +178,7 @@ fn built(r: Indexed, offsets: &[u32], before: &[u32]) -> bool {
 
 // Whether all is right about the index that the builder left in the lent slices, n entries of each.
 fn compared(
+    rt: &impl Print,
     name: &[u8],
     fold: &[u8],
     offsets: &mut [u32],
@@ -183,30 +186,32 @@ fn compared(
     n: usize,
     nodes: usize,
     position: u64,
-) -> bool {
+) -> io::Result<bool> {
     if !show(
+        rt,
         name,
         fold,
         front(offsets, n),
         front(before, n),
         nodes,
         position,
-    ) {
-        return false;
+    )? {
+        return Ok(false);
     }
     if !bounded(fold, offsets, before, n, nodes) {
-        return false;
+        return Ok(false);
     }
-    numbers_count(fold, offsets, before, n)
+    Ok(numbers_count(fold, offsets, before, n))
 }
 
 // A fold, the nodes of its run, and the position whose answer is printed. More entries are lent than any of the folds has.
-fn found(name: &[u8], fold: &[u8], nodes: usize, position: u64) {
+fn found(rt: &impl Print, name: &[u8], fold: &[u8], nodes: usize, position: u64) -> io::Result<()> {
     let mut offsets = [FILLED; 8];
     let mut before = [FILLED; 8];
     let r = build_index(fold, &mut offsets, &mut before);
     let mut right = built(r, &offsets, &before);
     if !compared(
+        rt,
         name,
         fold,
         &mut offsets,
@@ -214,59 +219,66 @@ fn found(name: &[u8], fold: &[u8], nodes: usize, position: u64) {
         r.entries,
         nodes,
         position,
-    ) {
+    )? {
         right = false;
     }
     if !right {
-        difference(name);
+        difference(rt, name)?;
     }
+    Ok(())
 }
 
 // The folds. That of width 2 has refusal 7 at limit 1, and none here, where no limit is taken.
-pub fn finding() {
-    found(b"the empty fold", b"", 0, 0);
-    found(b"aaa", b"\x20\x00\x03\x00\x01\x10\x01\x21", 3, 1);
+pub fn finding(rt: &impl Print) -> io::Result<()> {
+    found(rt, b"the empty fold", b"", 0, 0)?;
+    found(rt, b"aaa", b"\x20\x00\x03\x00\x01\x10\x01\x21", 3, 1)?;
     found(
+        rt,
         b"group 05 holding aaa, twice",
         b"\x20\x00\x02\x00\x01\x11\x05\x20\x00\x03\x00\x01\x10\x01\x21\x12\x21",
         8,
         4,
-    );
+    )?;
     found(
+        rt,
         b"a repeat of width 2",
         b"\x20\x00\x02\x00\x02\x10\x07\x10\x07\x21",
         4,
         3,
-    );
-    longer();
+    )?;
+    longer(rt)
 }
 
 // The example of docs/FORMAT.md. Next ab; three times the sequence of c, group 05 with ab twice in it, and step 04 twice; group 06
 // with step 12 and twice group 07 with c in it; and step 10. The labels 12 and 10 look like commands. Then as many repeats inside
 // each other as there may be, which make 1,024 nodes of one step, and as many groups.
-fn longer() {
+fn longer(rt: &impl Print) -> io::Result<()> {
     found(
+        rt,
         b"the example of docs/FORMAT.md",
         b"\x10\x09\x20\x00\x02\x00\x02\x11\x05\x20\x00\x03\x00\x01\x10\x01\x21\x12\x10\x02\x21\x11\x06\x10\x03\x12",
         13,
         9,
-    );
+    )?;
     found(
+        rt,
         b"steps, repeats and groups",
         b"\x10\x01\x10\x02\x20\x00\x03\x00\x04\x10\x03\x11\x05\x20\x00\x02\x00\x02\x10\x01\x10\x02\x21\x12\x20\x00\x02\x00\x01\x10\x04\x21\x21\x11\x06\x10\x12\x20\x00\x02\x00\x01\x11\x07\x10\x03\x12\x21\x12\x10\x10",
         33,
         15,
-    );
+    )?;
     found(
+        rt,
         b"ten repeats inside each other",
         b"\x20\x00\x02\x02\x00\x20\x00\x02\x01\x00\x20\x00\x02\x00\x80\x20\x00\x02\x00\x40\x20\x00\x02\x00\x20\x20\x00\x02\x00\x10\x20\x00\x02\x00\x08\x20\x00\x02\x00\x04\x20\x00\x02\x00\x02\x20\x00\x02\x00\x01\x10\x01\x21\x21\x21\x21\x21\x21\x21\x21\x21\x21",
         1024,
         512,
-    );
+    )?;
     found(
+        rt,
         b"eight groups inside each other",
         b"\x11\x01\x11\x02\x11\x03\x11\x04\x11\x05\x11\x06\x11\x07\x11\x08\x20\x00\x03\x00\x01\x10\x09\x21\x12\x10\x0a\x12\x12\x12\x12\x12\x12\x12",
         12,
         9,
-    );
+    )
 }

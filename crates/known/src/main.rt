@@ -7,15 +7,17 @@ mod finding;
 mod parts;
 mod runs;
 
-fn main() {
-    cases::computed();
-    cases::longer();
-    cases::deep();
-    cases::thousand();
-    refusals::commands();
-    refusals::settings();
-    refusals::room();
-    refusals::positions();
-    parts::parts();
-    finding::finding();
+use std::io;
+
+fn main(rt: HostRuntime) -> io::Result<()> {
+    cases::computed(&rt)?;
+    cases::longer(&rt)?;
+    cases::deep(&rt)?;
+    cases::thousand(&rt)?;
+    refusals::commands(&rt)?;
+    refusals::settings(&rt)?;
+    refusals::room(&rt)?;
+    refusals::positions(&rt)?;
+    parts::parts(&rt)?;
+    finding::finding(&rt)
 }

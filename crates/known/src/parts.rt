@@ -3,6 +3,7 @@ use format::wide;
 use harness::above;
 use print::{difference, number, word};
 use reader::{part, same_node};
+use std::io;
 
 // Whether the part at an offset is that many bytes of the run.
 fn part_is(run: &[u8], at: usize, n: usize) -> bool {
@@ -38,47 +39,58 @@ fn parts_as(run: &[u8], lengths: &[u8]) -> usize {
 }
 
 // Prints the offsets that are right, and says where not all are.
-fn show(name: &[u8], run: &[u8], lengths: &[u8]) {
+fn show(rt: &impl Print, name: &[u8], run: &[u8], lengths: &[u8]) -> io::Result<()> {
     let right = parts_as(run, lengths);
-    word(name);
-    number(b": right at ", right as u64);
-    number(b" offsets of ", lengths.len() as u64);
-    word(b"\n");
+    word(rt, name)?;
+    number(rt, b": right at ", right as u64)?;
+    number(rt, b" offsets of ", lengths.len() as u64)?;
+    word(rt, b"\n")?;
     if right != lengths.len() {
-        difference(name);
+        difference(rt, name)?;
     }
+    Ok(())
 }
 
 // Two siblings that must be equal, or must not.
-fn siblings(name: &[u8], run: &[u8], a: usize, b: usize, equal: bool) {
+fn siblings(
+    rt: &impl Print,
+    name: &[u8],
+    run: &[u8],
+    a: usize,
+    b: usize,
+    equal: bool,
+) -> io::Result<()> {
     let same = same_node(run, a, b);
-    word(name);
+    word(rt, name)?;
     if same {
-        word(b": equal\n");
+        word(rt, b": equal\n")?;
     } else {
-        word(b": not equal\n");
+        word(rt, b": not equal\n")?;
     }
     if same != equal {
-        difference(name);
+        difference(rt, name)?;
     }
+    Ok(())
 }
 
 // A step, group 05 holding a, group 05 holding b, and group 05 holding a: a part starts at each node, and none at a label, at
 // a close, past the end or in a refused run.
-pub fn parts() {
+pub fn parts(rt: &impl Print) -> io::Result<()> {
     let run = b"\x10\x01\x11\x05\x10\x01\x12\x11\x05\x10\x02\x12\x11\x05\x10\x01\x12";
     let refused = b"\x10\x01\x11\x05\x10\x01\x12\x11";
     show(
+        rt,
         b"parts",
         run,
         b"\x02\x00\x05\x00\x02\x00\x00\x05\x00\x02\x00\x00\x05\x00\x02\x00\x00\x00\x00",
-    );
+    )?;
     show(
+        rt,
         b"parts of a refused run",
         refused,
         b"\x00\x00\x00\x00\x00\x00\x00\x00\x00\x00",
-    );
-    siblings(b"group 05 holding a, and again", run, 2, 12, true);
-    siblings(b"group 05 holding a, and holding b", run, 2, 7, false);
-    siblings(b"step 01, and group 05", run, 0, 2, false);
+    )?;
+    siblings(rt, b"group 05 holding a, and again", run, 2, 12, true)?;
+    siblings(rt, b"group 05 holding a, and holding b", run, 2, 7, false)?;
+    siblings(rt, b"step 01, and group 05", run, 0, 2, false)
 }

@@ -5,8 +5,10 @@
 mod folds;
 mod refused;
 
-fn main() {
-    folds::folds();
-    refused::wrong_marks();
-    refused::repeated();
+use std::io;
+
+fn main(rt: HostRuntime) -> io::Result<()> {
+    folds::folds(&rt)?;
+    refused::wrong_marks(&rt)?;
+    refused::repeated(&rt)
 }

@@ -6,6 +6,7 @@ use harness::{Checked, begins, cleared, fill_bytes, fill_words, put_byte, untouc
 use print::{difference, number, setting, word};
 use refusals::FREE;
 use season::fold_season;
+use std::io;
 
 // What a run is folded at, and how many entries of the work are then cleared: 256 for each step and one time more.
 #[derive(Clone, Copy)]
@@ -44,6 +45,7 @@ pub fn fold_checked(
 
 // A run that folds to this fold at this cost.
 fn folds_in(
+    rt: &impl Print,
     name: &[u8],
     run: &[u8],
     call: Call,
@@ -52,7 +54,7 @@ fn folds_in(
     cost: u64,
     work: &mut [u32],
     out: &mut [u8],
-) {
+) -> io::Result<()> {
     let labels = [1u16; 256];
     let c = fold_checked(run, call, &labels, &labels, marks, work, out);
     let r = c.answer;
@@ -66,62 +68,80 @@ fn folds_in(
     if r.cost != cost {
         right = false;
     }
-    word(name);
-    setting(call.limit, call.first, call.each);
-    number(b": cost ", r.cost);
-    number(b", length ", r.length as u64);
-    word(b"\n");
+    word(rt, name)?;
+    setting(rt, call.limit, call.first, call.each)?;
+    number(rt, b": cost ", r.cost)?;
+    number(rt, b", length ", r.length as u64)?;
+    word(rt, b"\n")?;
     if !right {
-        difference(name);
+        difference(rt, name)?;
     }
+    Ok(())
 }
 
 // The same with room enough for 15 steps.
-fn folds_to(name: &[u8], run: &[u8], call: Call, marks: &[u8], fold: &[u8], cost: u64) {
+fn folds_to(
+    rt: &impl Print,
+    name: &[u8],
+    run: &[u8],
+    call: Call,
+    marks: &[u8],
+    fold: &[u8],
+    cost: u64,
+) -> io::Result<()> {
     let mut work = [0u32; 4097];
     let mut out = [0u8; 64];
-    folds_in(name, run, call, marks, fold, cost, &mut work, &mut out);
+    folds_in(rt, name, run, call, marks, fold, cost, &mut work, &mut out)
 }
 
 // At unit prices, with no label marked.
-fn unit(name: &[u8], run: &[u8], limit: usize, used: usize, fold: &[u8], cost: u64) {
+fn unit(
+    rt: &impl Print,
+    name: &[u8],
+    run: &[u8],
+    limit: usize,
+    used: usize,
+    fold: &[u8],
+    cost: u64,
+) -> io::Result<()> {
     let call = Call {
         limit,
         first: 1,
         each: 0,
         used,
     };
-    folds_to(name, run, call, &FREE, fold, cost);
+    folds_to(rt, name, run, call, &FREE, fold, cost)
 }
 
 // The known folds of flat runs, of the steps a, b and c with the labels 01, 02 and 03.
-pub fn known() {
-    few_steps();
-    priced();
-    marked();
-    longer();
+pub fn known(rt: &impl Print) -> io::Result<()> {
+    few_steps(rt)?;
+    priced(rt)?;
+    marked(rt)?;
+    longer(rt)
 }
 
-fn few_steps() {
-    unit(b"the empty run", b"", 32, 256, b"", 0);
-    unit(b"a", b"\x10\x01", 32, 512, b"\x10\x01", 1);
-    unit(b"a", b"\x10\x01", 0, 512, b"\x10\x01", 1);
+fn few_steps(rt: &impl Print) -> io::Result<()> {
+    unit(rt, b"the empty run", b"", 32, 256, b"", 0)?;
+    unit(rt, b"a", b"\x10\x01", 32, 512, b"\x10\x01", 1)?;
+    unit(rt, b"a", b"\x10\x01", 0, 512, b"\x10\x01", 1)?;
     let aa = b"\x10\x01\x10\x01";
-    unit(b"aa", aa, 32, 768, aa, 2);
+    unit(rt, b"aa", aa, 32, 768, aa, 2)?;
     let aaa = b"\x10\x01\x10\x01\x10\x01";
     unit(
+        rt,
         b"aaa",
         aaa,
         32,
         1024,
         b"\x20\x00\x03\x00\x01\x10\x01\x21",
         2,
-    );
-    unit(b"aaa", aaa, 0, 1024, aaa, 3);
+    )?;
+    unit(rt, b"aaa", aaa, 0, 1024, aaa, 3)
 }
 
 // Other prices of repeats: of folds at one cost the one with fewer repeats, and a dear count.
-fn priced() {
+fn priced(rt: &impl Print) -> io::Result<()> {
     let aaaa = b"\x10\x01\x10\x01\x10\x01\x10\x01";
     let free = Call {
         limit: 32,
@@ -130,13 +150,14 @@ fn priced() {
         used: 1280,
     };
     folds_to(
+        rt,
         b"aaaa",
         aaaa,
         free,
         &FREE,
         b"\x20\x00\x04\x00\x01\x10\x01\x21",
         1,
-    );
+    )?;
     let dear = Call {
         limit: 32,
         first: 1,
@@ -144,11 +165,11 @@ fn priced() {
         used: 1280,
     };
     let twice = b"\x20\x00\x02\x00\x02\x10\x01\x10\x01\x21";
-    folds_to(b"aaaa", aaaa, dear, &FREE, twice, 3);
+    folds_to(rt, b"aaaa", aaaa, dear, &FREE, twice, 3)
 }
 
 // With a marked, aaa stands in no repeat.
-fn marked() {
+fn marked(rt: &impl Print) -> io::Result<()> {
     let aaa = b"\x10\x01\x10\x01\x10\x01";
     let mut marks = [0u8; 256];
     marks[1] = 1;
@@ -158,31 +179,33 @@ fn marked() {
         each: 0,
         used: 1024,
     };
-    folds_to(b"aaa with a marked", aaa, call, &marks, aaa, 3);
+    folds_to(rt, b"aaa with a marked", aaa, call, &marks, aaa, 3)
 }
 
-fn longer() {
+fn longer(rt: &impl Print) -> io::Result<()> {
     let abbcaabbca =
         b"\x10\x01\x10\x02\x10\x02\x10\x03\x10\x01\x10\x01\x10\x02\x10\x02\x10\x03\x10\x01";
     let five = b"\x20\x00\x02\x00\x05\x10\x01\x10\x02\x10\x02\x10\x03\x10\x01\x21";
-    unit(b"abbcaabbca", abbcaabbca, 32, 2816, five, 6);
-    unit(b"abbcaabbca", abbcaabbca, 4, 2816, abbcaabbca, 10);
+    unit(rt, b"abbcaabbca", abbcaabbca, 32, 2816, five, 6)?;
+    unit(rt, b"abbcaabbca", abbcaabbca, 4, 2816, abbcaabbca, 10)?;
     unit(
+        rt,
         b"abaababaab",
         b"\x10\x01\x10\x02\x10\x01\x10\x01\x10\x02\x10\x01\x10\x02\x10\x01\x10\x01\x10\x02",
         32,
         2816,
         b"\x20\x00\x02\x00\x05\x10\x01\x10\x02\x10\x01\x10\x01\x10\x02\x21",
         6,
-    );
+    )?;
     unit(
+        rt,
         b"abaababaabbaab",
         b"\x10\x01\x10\x02\x10\x01\x10\x01\x10\x02\x10\x01\x10\x02\x10\x01\x10\x01\x10\x02\x10\x02\x10\x01\x10\x01\x10\x02",
         32,
         3840,
         b"\x20\x00\x02\x00\x03\x10\x01\x10\x02\x10\x01\x21\x20\x00\x02\x00\x04\x10\x02\x10\x01\x10\x01\x10\x02\x21",
         9,
-    );
+    )
 }
 
 // Writes 32 different steps from a place on.
@@ -198,14 +221,14 @@ fn put_steps(s: &mut [u8], from: usize)
     }
 }
 
-pub fn widest() {
+pub fn widest(rt: &impl Print) -> io::Result<()> {
     let mut run = [0u8; 128];
     let mut fold = [0u8; 70];
-    widest_in(&mut run, &mut fold);
+    widest_in(rt, &mut run, &mut fold)
 }
 
 // 32 different steps twice, at the largest limit and at the next smaller.
-fn widest_in(run: &mut [u8], fold: &mut [u8]) {
+fn widest_in(rt: &impl Print, run: &mut [u8], fold: &mut [u8]) -> io::Result<()> {
     put_steps(run, 0);
     put_steps(run, 64);
     put_byte(fold, 0, Format::REPEAT);
@@ -213,11 +236,11 @@ fn widest_in(run: &mut [u8], fold: &mut [u8]) {
     put_byte(fold, 4, 32);
     put_steps(fold, 5);
     put_byte(fold, 69, Format::REPEAT_END);
-    twice(run, 32, fold, 33);
-    twice(run, 31, run, 64);
+    twice(rt, run, 32, fold, 33)?;
+    twice(rt, run, 31, run, 64)
 }
 
-fn twice(run: &[u8], limit: usize, fold: &[u8], cost: u64) {
+fn twice(rt: &impl Print, run: &[u8], limit: usize, fold: &[u8], cost: u64) -> io::Result<()> {
     let mut work = [0u32; 16650];
     let mut out = [0u8; 130];
     let call = Call {
@@ -227,6 +250,7 @@ fn twice(run: &[u8], limit: usize, fold: &[u8], cost: u64) {
         used: 16640,
     };
     folds_in(
+        rt,
         b"32 steps twice",
         run,
         call,
@@ -235,17 +259,17 @@ fn twice(run: &[u8], limit: usize, fold: &[u8], cost: u64) {
         cost,
         &mut work,
         &mut out,
-    );
+    )
 }
 
-pub fn thousand() {
+pub fn thousand(rt: &impl Print) -> io::Result<()> {
     let run = [Format::STEP; 2050];
     let mut work = [0u32; 262660];
-    thousand_in(&run, &mut work);
+    thousand_in(rt, &run, &mut work)
 }
 
 // 1,025 steps, one more than the first folder takes; their label is the byte of a step.
-fn thousand_in(run: &[u8], work: &mut [u32]) {
+fn thousand_in(rt: &impl Print, run: &[u8], work: &mut [u32]) -> io::Result<()> {
     let mut out = [0u8; 16];
     let call = Call {
         limit: 32,
@@ -254,5 +278,5 @@ fn thousand_in(run: &[u8], work: &mut [u32]) {
         used: 262656,
     };
     let fold = b"\x20\x04\x01\x00\x01\x10\x10\x21";
-    folds_in(b"1025 steps", run, call, &FREE, fold, 2, work, &mut out);
+    folds_in(rt, b"1025 steps", run, call, &FREE, fold, 2, work, &mut out)
 }

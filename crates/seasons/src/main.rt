@@ -7,26 +7,27 @@ mod read;
 mod refused;
 
 use format::Format;
+use std::io;
 
-fn main() {
-    read::runs();
-    read::folds();
-    read::refused_folds();
-    read::unrolled_folds();
-    folded::known();
-    folded::widest();
-    folded::thousand();
-    refused::settings();
-    refused::commands();
-    refused::room();
-    most_steps();
+fn main(rt: HostRuntime) -> io::Result<()> {
+    read::runs(&rt)?;
+    read::folds(&rt)?;
+    read::refused_folds(&rt)?;
+    read::unrolled_folds(&rt)?;
+    folded::known(&rt)?;
+    folded::widest(&rt)?;
+    folded::thousand(&rt)?;
+    refused::settings(&rt)?;
+    refused::commands(&rt)?;
+    refused::room(&rt)?;
+    most_steps(&rt)
 }
 
 // 65,535 steps and 65,536; their label is the byte of a step.
-fn most_steps() {
+fn most_steps(rt: &impl Print) -> io::Result<()> {
     let most = [Format::STEP; 131070];
     let more = [Format::STEP; 131072];
     let mut out = [0u8; 131072];
-    read::most_steps(&most, &more, &mut out);
-    refused::refuse_run(10, &more, 131070);
+    read::most_steps(rt, &most, &more, &mut out)?;
+    refused::refuse_run(rt, 10, &more, 131070)
 }

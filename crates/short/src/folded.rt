@@ -3,9 +3,17 @@ use folder::fold_short;
 use harness::{begins, fill_bytes, untouched};
 use print::{difference, number, word};
 use refusals::FREE;
+use std::io;
 
 // A run that folds to this short form at this cost; the work that it needs is left cleared, and what is lent beyond as it was.
-fn folds_to(name: &[u8], run: &[u8], first: u16, short: &[u8], cost: u64) {
+fn folds_to(
+    rt: &impl Print,
+    name: &[u8],
+    run: &[u8],
+    first: u16,
+    short: &[u8],
+    cost: u64,
+) -> io::Result<()> {
     let labels = [1u16; 256];
     let mut costs = [7u32; 60];
     let mut choices = [7u32; 60];
@@ -48,24 +56,25 @@ fn folds_to(name: &[u8], run: &[u8], first: u16, short: &[u8], cost: u64) {
     if choices[59] != 7 {
         right = false;
     }
-    word(name);
-    number(b", first ", first as u64);
-    number(b": cost ", r.cost);
-    number(b", short ", r.length as u64);
-    word(b"\n");
+    word(rt, name)?;
+    number(rt, b", first ", first as u64)?;
+    number(rt, b": cost ", r.cost)?;
+    number(rt, b", short ", r.length as u64)?;
+    word(rt, b"\n")?;
     if !right {
-        difference(name);
+        difference(rt, name)?;
     }
+    Ok(())
 }
 
 // The short form of the folder's fold, also where another fold has a shorter one: of aaaa at first 0, one repeat and not two.
-pub fn folded() {
+pub fn folded(rt: &impl Print) -> io::Result<()> {
     let aaa = b"\x10\x01\x10\x01\x10\x01";
-    folds_to(b"aaa", aaa, 1, b"\x22\x03\x01\x10\x01\x21", 2);
+    folds_to(rt, b"aaa", aaa, 1, b"\x22\x03\x01\x10\x01\x21", 2)?;
     let aaaa = b"\x10\x01\x10\x01\x10\x01\x10\x01";
-    folds_to(b"aaaa", aaaa, 0, b"\x22\x04\x01\x10\x01\x21", 1);
-    folds_to(b"aa", b"\x10\x01\x10\x01", 1, b"\x10\x01\x10\x01", 2);
+    folds_to(rt, b"aaaa", aaaa, 0, b"\x22\x04\x01\x10\x01\x21", 1)?;
+    folds_to(rt, b"aa", b"\x10\x01\x10\x01", 1, b"\x10\x01\x10\x01", 2)?;
     let twice = b"\x11\x05\x10\x01\x10\x01\x10\x01\x12\x11\x05\x10\x01\x10\x01\x10\x01\x12";
     let nested = b"\x22\x02\x01\x11\x05\x22\x03\x01\x10\x01\x21\x12\x21";
-    folds_to(b"group 05 holding aaa, twice", twice, 1, nested, 4);
+    folds_to(rt, b"group 05 holding aaa, twice", twice, 1, nested, 4)
 }

@@ -6,10 +6,12 @@ mod folded;
 mod forms;
 mod refused;
 
-fn main() {
-    forms::forms();
-    folded::folded();
-    refused::too_short();
-    refused::short_reader();
-    refused::elsewhere();
+use std::io;
+
+fn main(rt: HostRuntime) -> io::Result<()> {
+    forms::forms(&rt)?;
+    folded::folded(&rt)?;
+    refused::too_short(&rt)?;
+    refused::short_reader(&rt)?;
+    refused::elsewhere(&rt)
 }

@@ -1,9 +1,10 @@
 // The folder against the trial of every fold: the best of all folds of a run, by cost, then by the number of repeats and then by
 // byte order, at several prices, limits and marks.
-use format::{Format, wide};
+use format::Format;
 use harness::{Checked, begins, fold_checked};
-use libc::STDOUT_FILENO;
+use print::word;
 use reader::{read_fold, read_run};
+use std::io;
 use std::num::wrapping_add_u64;
 use strings::{fold_at, gather};
 
@@ -325,17 +326,18 @@ fn compare_all(tried: Sums, settings: Settings, run: &[u8], found: usize, pool: 
 }
 
 // The loud line of a difference: the bytes of the run on which the folder and the trial of every fold do not agree.
-fn differ(run: &[u8]) {
-    io::write_all(
-        STDOUT_FILENO,
+fn differ(rt: &impl Print, run: &[u8]) -> io::Result<()> {
+    word(
+        rt,
         b"difference in the folder and the trial of every fold: ",
-    );
+    )?;
     let mut i = 0;
     while i < run.len() {
-        io::print_hex(STDOUT_FILENO, wide(run[i]) as u64, 2);
+        let b = run[i];
+        print!(rt; "{b:02x}")?;
         i += 1;
     }
-    io::write_all(STDOUT_FILENO, b"\n");
+    word(rt, b"\n")
 }
 
 // All folds of a run against the folder's, at some settings.
@@ -356,7 +358,12 @@ fn try_folds(mut sums: Sums, settings: Settings, run: &[u8], most: u8) -> Sums {
 }
 
 // One run, at some settings, against all its folds.
-pub fn try_run(mut sums: Sums, settings: Settings, run: &[u8]) -> Sums {
+pub fn try_run(
+    rt: &impl Print,
+    mut sums: Sums,
+    settings: Settings,
+    run: &[u8],
+) -> io::Result<Sums> {
     let nodes = read_run(run).nodes;
     sums.runs = wrapping_add_u64(sums.runs, 1);
     if nodes < 256 {
@@ -365,7 +372,7 @@ pub fn try_run(mut sums: Sums, settings: Settings, run: &[u8]) -> Sums {
         sums.right = false;
     }
     if !sums.right {
-        differ(run);
+        differ(rt, run)?;
     }
-    sums
+    Ok(sums)
 }

@@ -8,16 +8,17 @@ mod runs;
 use compare::{Marked, Settings, Sums};
 use print::{number, word};
 use runs::try_runs;
+use std::io;
 
 // Prints what was tried.
-fn show(name: &[u8], s: Sums) {
-    word(name);
-    number(b": runs ", s.runs);
-    number(b", folds ", s.folds);
-    number(b", compared ", s.compared);
-    number(b", cost ", s.cost);
-    number(b", length ", s.length);
-    word(b"\n");
+fn show(rt: &impl Print, name: &[u8], s: Sums) -> io::Result<()> {
+    word(rt, name)?;
+    number(rt, b": runs ", s.runs)?;
+    number(rt, b", folds ", s.folds)?;
+    number(rt, b", compared ", s.compared)?;
+    number(rt, b", cost ", s.cost)?;
+    number(rt, b", length ", s.length)?;
+    word(rt, b"\n")
 }
 
 // All settings, under marks of the labels 1 and 2.
@@ -38,31 +39,36 @@ fn free(from: usize, to: usize) -> Settings {
     }
 }
 
-fn main() {
+fn main(rt: HostRuntime) -> io::Result<()> {
     let all = free(0, 30);
     let some = free(4, 10);
     let apart = free(25, 30);
-    show(b"runs of up to 5 nodes", try_runs(all, true, 5));
-    show(b"runs of up to 6 nodes", try_runs(some, true, 6));
+    show(&rt, b"runs of up to 5 nodes", try_runs(&rt, all, true, 5)?)?;
+    show(&rt, b"runs of up to 6 nodes", try_runs(&rt, some, true, 6)?)?;
     show(
+        &rt,
         b"runs of up to 6 nodes, groups priced apart",
-        try_runs(apart, true, 6),
-    );
-    show(b"runs of up to 9 steps", try_runs(all, false, 9));
+        try_runs(&rt, apart, true, 6)?,
+    )?;
+    show(&rt, b"runs of up to 9 steps", try_runs(&rt, all, false, 9)?)?;
     show(
+        &rt,
         b"runs of up to 5 nodes, label 1 marked",
-        try_runs(marked(1, 0), true, 5),
-    );
+        try_runs(&rt, marked(1, 0), true, 5)?,
+    )?;
     show(
+        &rt,
         b"runs of up to 5 nodes, label 2 marked",
-        try_runs(marked(0, 1), true, 5),
-    );
+        try_runs(&rt, marked(0, 1), true, 5)?,
+    )?;
     show(
+        &rt,
         b"runs of up to 5 nodes, both marked",
-        try_runs(marked(1, 1), true, 5),
-    );
+        try_runs(&rt, marked(1, 1), true, 5)?,
+    )?;
     show(
+        &rt,
         b"runs of up to 9 steps, label 1 marked",
-        try_runs(marked(1, 0), false, 9),
-    );
+        try_runs(&rt, marked(1, 0), false, 9)?,
+    )
 }

@@ -3,6 +3,7 @@ use crate::compare::{Settings, Sums, nothing, try_run};
 use format::Format;
 use harness::above;
 use reader::read_run;
+use std::io;
 use strings::{
     Search, command_at, deeper, left, number_at, put_number, retry, so_far, spent, start,
 };
@@ -67,11 +68,17 @@ fn look(
 }
 
 // A run is tried.
-fn tried(sums: Sums, settings: Settings, seen: u8, run: &[u8]) -> Sums {
+fn tried(
+    rt: &impl Print,
+    sums: Sums,
+    settings: Settings,
+    seen: u8,
+    run: &[u8],
+) -> io::Result<Sums> {
     if seen == 2 {
-        return try_run(sums, settings, run);
+        return try_run(rt, sums, settings, run);
     }
-    sums
+    Ok(sums)
 }
 
 // One turn of the search, by what was seen of its string.
@@ -95,28 +102,42 @@ fn over(s: Search, sums: Sums) -> bool {
 
 // Tries all runs of up to `most` nodes, with groups or without, up to the first difference.
 fn try_all(
+    rt: &impl Print,
     settings: Settings,
     groups: bool,
     most: usize,
     string: &mut [u8],
     starts: &mut [usize],
     nodes: &mut [usize],
-) -> Sums {
+) -> io::Result<Sums> {
     let mut s = start();
     let mut sums = nothing();
     let mut turns: usize = 100000000;
     while 0 < turns {
         let seen = look(s, groups, most, string, starts, nodes);
-        sums = tried(sums, settings, seen, so_far(string, starts, s.depth));
+        sums = tried(rt, sums, settings, seen, so_far(string, starts, s.depth))?;
         s = turn(s, seen, string, starts);
         turns = left(turns, over(s, sums));
     }
-    sums
+    Ok(sums)
 }
 
-pub fn try_runs(settings: Settings, groups: bool, most: usize) -> Sums {
+pub fn try_runs(
+    rt: &impl Print,
+    settings: Settings,
+    groups: bool,
+    most: usize,
+) -> io::Result<Sums> {
     let mut string = [0u8; 128];
     let mut starts = [0usize; 64];
     let mut nodes = [0usize; 64];
-    try_all(settings, groups, most, &mut string, &mut starts, &mut nodes)
+    try_all(
+        rt,
+        settings,
+        groups,
+        most,
+        &mut string,
+        &mut starts,
+        &mut nodes,
+    )
 }
