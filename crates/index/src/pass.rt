@@ -29,7 +29,7 @@ fn past_step(w: Spot) -> Spot
 
 // The items from a spot on, up to the end of the input or to a close. A loop, so that siblings take no stack; steps, which are
 // most of a run, take no call that comes back here.
-#[cycle(pass_holder_pass_sequence)]
+#[cycle(pass)]
 pub fn pass_sequence(s: &[u8], w: Spot) -> Spot
     requires { (f : Forest) × SequenceFrom s.now w f }
     ensures { (f : Forest) → SequenceFrom s.now w f → PassedOver w f result }
@@ -66,7 +66,7 @@ pub fn pass_item(s: &[u8], w: Spot) -> Spot
 }
 
 // The group or the repeat at a spot.
-#[cycle(pass_holder_pass_sequence)]
+#[cycle(pass)]
 fn pass_holder(s: &[u8], w: Spot) -> Spot
     requires { (f : Forest) × HolderFrom s.now w f }
     ensures { (f : Forest) → HolderFrom s.now w f → PassedOver w f result }

@@ -1,3 +1,4 @@
+-- The loop reads one copy behind where it writes, and what is written so far is a beginning of the copies.
 use Prim.Native.Nat.{◌-◌}
 use Rattle.unroller.proofs.Stores.{Copying}
 use Rattle.unroller.proofs.write.copy_on.Given as goal
