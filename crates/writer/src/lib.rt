@@ -30,7 +30,7 @@ pub fn fold_length(
 }
 
 // Writes the cheapest fold of a sequence at the front of the output, and answers its length.
-#[cycle(put_fold_put_node_put_span)]
+#[cycle(writing)]
 pub fn put_fold(
     run: &[u8],
     places: &[usize],
@@ -49,7 +49,7 @@ pub fn put_fold(
 
 // Writes the cheapest fold of a sequence from the place `to` on, and answers the place behind it. What follows an item is a sequence
 // again, and so is the body of a repeat.
-#[cycle(put_fold_put_node_put_span)]
+#[cycle(writing)]
 fn put_span(
     run: &[u8],
     places: &[usize],
@@ -86,7 +86,7 @@ fn put_span(
 
 // Writes the node of number q with the cheapest fold of what it holds: a group's children go into the rest of the lent output, the
 // empty one at its end where the output is full.
-#[cycle(put_fold_put_node_put_span)]
+#[cycle(writing)]
 fn put_node(
     run: &[u8],
     places: &[usize],

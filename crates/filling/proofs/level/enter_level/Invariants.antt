@@ -1,0 +1,16 @@
+use mathlib.Core.Path.{◌≡◌, sym, ◌∙◌}
+use Prim.Native.Nat.{◌+◌, ◌-◌, ◌≤◌}
+use native.Mathlib.Omega.{arith}
+use lib.ListN.{length-set}
+use Rattle.solver.proofs.Putting.{tails_ready}
+use Rattle.filling.specs.Filling.{Scratch}
+use Rattle.filling.proofs.Levels.{Descended, siblings_few, descended_none, extent_few, own_asks, row_asks, descended_more, level_filled, level_kept}
+use Rattle.filling.proofs.level.enter_level.Given as goal
+
+abbrev pub invariant-loop-i : goal.invariant-loop-i
+invariant-loop-i l =
+    (l.i ≤ l.m) × Descended l.s l.level.span.behind l.level.limit l.steps l.groups l.marks l.prices l.initial.costs l.initial.choices l.i l.costs l.choices l.matches l.extents l.tails l.stops
+    × Scratch l.offsets l.numbers l.kinds l.matches l.extents l.tails l.stops l.seen l.keys
+
+abbrev pub decreases-loop-i : goal.decreases-loop-i
+decreases-loop-i l = l.i
