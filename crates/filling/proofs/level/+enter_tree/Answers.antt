@@ -1,5 +1,5 @@
 -- `filling::level::enter_tree` meets its contract: it passes the siblings one by one, and calls itself on the bytes inside each group.
-use Rattle.std.proofs.Common.{arith, sym, ◌∙◌}
+use Rattle.std.proofs.Common.{arith}
 use Rattle.format.specs.Limits.{allowed}
 use Rattle.filling.specs.Filling.{counted_of}
 use Rattle.filling.proofs.Recursion.{through_none, through_listed, through_less, passing, through_step, group_long, opening, through_group, through_all}

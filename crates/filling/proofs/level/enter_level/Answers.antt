@@ -1,12 +1,11 @@
 -- `filling::level::enter_level` meets its contract. The loop's invariant: what is known of the rows from sibling i on, and the lists ready to
 -- be worked in. The measure is i.
 use mathlib.Core.Path.{◌≡◌, sym, ◌∙◌}
-use Prim.Native.Nat.{◌+◌, ◌-◌, ◌≤◌}
+use Prim.Native.Nat.{◌+◌, ◌-◌}
 use native.Mathlib.Omega.{arith}
 use lib.ListN.{length-set}
 use Rattle.solver.proofs.Putting.{tails_ready}
-use Rattle.filling.specs.Filling.{Scratch}
-use Rattle.filling.proofs.Levels.{Descended, siblings_few, descended_none, extent_few, own_asks, row_asks, descended_more, level_filled, level_kept}
+use Rattle.filling.proofs.Levels.{siblings_few, descended_none, extent_few, own_asks, row_asks, descended_more, level_filled, level_kept}
 use Rattle.filling.proofs.level.enter_level.Goals as goal
 
 pub list_siblings-m-requires : goal.list_siblings-m-requires
@@ -65,9 +64,6 @@ loop-i-init c =
       },
     )
 
-pub overflow_sub-i : goal.overflow_sub-i
-overflow_sub-i c = c.loop-i-test.true
-
 pub grow-requires : goal.grow-requires
 grow-requires c =
     let few = siblings_few c.requires.level_ready in
@@ -101,14 +97,6 @@ own_combined-own-requires c =
     l.placed in
     record { spelled = a.0; offsets_len = a.1.0; i_bound = a.1.1.0; falling = a.1.1.1.0; numbered = a.1.1.1.1 }
 
-pub offset_bounds-extents-i : goal.offset_bounds-extents-i
-offset_bounds-extents-i c =
-    omega (arith, c.list_siblings-m.ensures.counted, siblings_few c.requires.level_ready, c.loop-i-test.true, c.loop-i.invariant.0)
-
-pub bounds-extents-i : goal.bounds-extents-i
-bounds-extents-i c =
-    omega (arith, c.list_siblings-m.ensures.counted, siblings_few c.requires.level_ready, c.loop-i.invariant.2.long_extents, c.loop-i-test.true, c.loop-i.invariant.0)
-
 pub enter_row-requires : goal.enter_row-requires
 enter_row-requires c =
     let p = c.requires in
@@ -120,9 +108,6 @@ enter_row-requires c =
     row_asks _ p.level_ready (c.loop-i.i - 1) (sym l.counted) (omega (arith, c.loop-i-test.true)) L.0 l.numbered.0 l.numbered.1 L.1
     c.draw-g.result c.own_combined-own.ensures p.below c.classify.ensures.1 g c.draw-g.ensures c.loop-i.seen w.keys_ready w.tails_ready w.long_stops w.long_seen in
     record { row_held = a.0; keys_ready = a.1.0; row_ready = a.1.1 }
-
-pub loop-i-smaller : goal.loop-i-smaller
-loop-i-smaller c = let more = c.loop-i-test.true in omega arith
 
 pub loop-i-preserved : goal.loop-i-preserved
 loop-i-preserved c =
@@ -153,39 +138,6 @@ loop-i-preserved c =
         keys_ready = e.keys.0;
       },
     )
-
-pub shape_of-offsets : goal.shape_of-offsets
-shape_of-offsets c = c.loop-i.invariant.2.long_offsets ∙ sym c.requires.scratch_2.long_offsets
-
-pub shape_of-numbers : goal.shape_of-numbers
-shape_of-numbers c = c.loop-i.invariant.2.long_numbers ∙ sym c.requires.scratch_2.long_numbers
-
-pub shape_of-kinds : goal.shape_of-kinds
-shape_of-kinds c = c.loop-i.invariant.2.long_kinds ∙ sym c.requires.scratch_2.long_kinds
-
-pub shape_of-matches : goal.shape_of-matches
-shape_of-matches c = c.loop-i.invariant.2.long_matches ∙ sym c.requires.scratch_2.long_matches
-
-pub shape_of-extents : goal.shape_of-extents
-shape_of-extents c = c.loop-i.invariant.2.long_extents ∙ sym c.requires.scratch_2.long_extents
-
-pub shape_of-tails : goal.shape_of-tails
-shape_of-tails c = c.loop-i.invariant.2.tails_ready.long ∙ sym c.requires.scratch_2.tails_ready.long
-
-pub shape_of-stops : goal.shape_of-stops
-shape_of-stops c = c.loop-i.invariant.2.long_stops ∙ sym c.requires.scratch_2.long_stops
-
-pub shape_of-seen : goal.shape_of-seen
-shape_of-seen c = c.loop-i.invariant.2.long_seen ∙ sym c.requires.scratch_2.long_seen
-
-pub shape_of-keys : goal.shape_of-keys
-shape_of-keys c = c.loop-i.invariant.2.keys_ready.long ∙ sym c.requires.scratch_2.keys_ready.long
-
-pub shape_of-costs : goal.shape_of-costs
-shape_of-costs c = c.loop-i.invariant.1.kept_costs.same_length
-
-pub shape_of-choices : goal.shape_of-choices
-shape_of-choices c = c.loop-i.invariant.1.kept_choices.same_length
 
 pub returns : goal.returns
 returns c =

@@ -1,10 +1,6 @@
-use mathlib.Core.Path.{◌≡◌, sym, ◌∙◌}
-use Prim.Native.Nat.{◌+◌, ◌-◌, ◌≤◌}
-use native.Mathlib.Omega.{arith}
-use lib.ListN.{length-set}
-use Rattle.solver.proofs.Putting.{tails_ready}
+use Prim.Native.Nat.{◌≤◌}
 use Rattle.filling.specs.Filling.{Scratch}
-use Rattle.filling.proofs.Levels.{Descended, siblings_few, descended_none, extent_few, own_asks, row_asks, descended_more, level_filled, level_kept}
+use Rattle.filling.proofs.Levels.{Descended}
 use Rattle.filling.proofs.level.enter_level.Given as goal
 
 abbrev pub invariant-loop-i : goal.invariant-loop-i

@@ -50,14 +50,6 @@ returns-then-s-at-eq-STEP c =
     own_step _ _ _ _ (first _ _ c.args.i r.spelled r.offsets_len.1 r.i_bound.0) _ _ _ _ _ c.if-s-at-eq-STEP.true _
     (omega (arith, c.combined_of.ensures, c.price.ensures))
 
-pub overflow_sub-numbers : goal.overflow_sub-numbers
-overflow_sub-numbers c =
-    let r = c.requires in
-    omega (
-      arith,
-      further _ _ c.args.i _ _ r.spelled r.i_bound.0 (first _ _ c.args.i r.spelled r.offsets_len.1 r.i_bound.0) r.numbered c.if-s-at-eq-STEP.false,
-    )
-
 pub key_at-inside-requires : goal.key_at-inside-requires
 key_at-inside-requires c =
     let r = c.requires in
@@ -69,9 +61,6 @@ key_at-inside-requires c =
 
 pub combined_of-requires-2 : goal.combined_of-requires-2
 combined_of-requires-2 c = omega (arith, c.price-2.ensures)
-
-pub overflow_add-result : goal.overflow_add-result
-overflow_add-result c = omega (arith, c.combined_digits.ensures, c.combined_of-2.ensures, c.price-2.ensures)
 
 pub returns : goal.returns
 returns c =
