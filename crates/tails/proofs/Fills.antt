@@ -15,7 +15,7 @@ use Rattle.optimum.proofs.Powers.{reach}
 use Rattle.optimum.proofs.Cheapest.{best_cost_step}
 use Rattle.blocks.specs.Keys.{block, factor}
 use Rattle.blocks.specs.Solved.{Solved, Modest}
-use Rattle.blocks.proofs.Flats.{run, flat_run, flat_node}
+use Rattle.blocks.proofs.Flats.{flat_run, flat_node}
 use Rattle.tails.specs.declared.rates.Rates.{Rates}
 use Rattle.tails.specs.Solving.{label_at, EndPut, Matching, RowReady, OwnCost, RowSolved, FillReady, PricesAre, FilledFrom, KeptPast}
 use Rattle.tails.proofs.Rows.{best_end, solved_kept}
