@@ -53,12 +53,16 @@ fn fail(rt: &(impl Eprint + Alloc), what: &str, error: &io::Error) {
 }
 
 // An error of the system is written with its number behind, which is left out.
+fn without_number(text: &str) -> &str {
+    match text.split_once(" (os error ") {
+        Some((said, _)) => said,
+        None => text,
+    }
+}
+
 fn say(rt: &(impl Eprint + Alloc), what: &str, error: &io::Error) -> io::Result<()> {
     let text = error.to_string(rt.alloc())?;
-    let said = match text.as_str().split_once(" (os error ") {
-        Some((said, _)) => said,
-        None => text.as_str(),
-    };
+    let said = without_number(text.as_str());
     eprintln!(rt; "{what}: {said}")
 }
 
