@@ -1,5 +1,4 @@
 -- `fold::text::digit_of` meets its contract.
-use borrow.Author.Rules.{rules}
 use borrow.Author.Tests.{lt-ltb, le-ltb}
 use Rattle.fold.proofs.text.digit_of.Goals as goal
 

@@ -1,9 +1,6 @@
 use Prim.Native.Nat.{◌≤◌, ◌+◌, ◌-◌}
-use native.Mathlib.Nat.{add-zero}
-use native.Mathlib.Omega.{arith}
 use lib.ListN.{length, take}
 use Rattle.fold.specs.PutText.{PutText}
-use Rattle.fold.proofs.Puts.{put_none, put_next, put_whole, put_length}
 use Rattle.fold.proofs.text.put_bytes.Given as goal
 
 abbrev pub invariant-loop-i : goal.invariant-loop-i

@@ -5,7 +5,6 @@ use native.Mathlib.Omega.{arith}
 use lib.ListN.{length}
 use Rattle.fold.proofs.Puts.{put_one, put_same}
 use Rattle.fold.proofs.Digits.{fold_text_none, fold_text_some}
-use borrow.Author.Rules.{rules}
 use Rattle.fold.proofs.text.put_fold_text.Goals as goal
 
 pub returns-then-fold-eq0 : goal.returns-then-fold-eq0

@@ -1,11 +1,8 @@
 -- `fold::text::put_hexadecimal` meets its contract: what is written so far are the digits of a beginning of the bytes.
-use Prim.Native.Nat.{◌≤◌, ◌+◌, ◌*◌, ◌-◌}
-use mathlib.Core.Path.{◌≡◌}
 use Rattle.fold.proofs.Digits.{put_byte, put_every}
 use native.Mathlib.Omega.{arith}
-use lib.ListN.{length, take, length-set}
+use lib.ListN.{length-set}
 use Rattle.fold.specs.Text.{hexadecimal}
-use Rattle.fold.specs.PutText.{PutText}
 use Rattle.fold.proofs.Puts.{put_none, put_length}
 use Rattle.fold.proofs.text.put_hexadecimal.Goals as goal
 
@@ -42,11 +39,10 @@ loop-i-smaller c = omega arith
 
 pub loop-i-preserved : goal.loop-i-preserved
 loop-i-preserved c =
-    let L = c in
-    let bytes = L.args.bytes.now in (
+    let bytes = c.args.bytes.now in (
       omega arith,
       omega arith,
-      put_byte bytes L.loop-i.i _ _ c.digit_of.ensures c.digit_of-in-loop-i.ensures L.loop-i.invariant.2 (omega arith) (omega arith),
+      put_byte bytes c.loop-i.i _ _ c.digit_of.ensures c.digit_of-in-loop-i.ensures c.loop-i.invariant.2 (omega arith) (omega arith),
     )
 
 pub shape_of-out : goal.shape_of-out

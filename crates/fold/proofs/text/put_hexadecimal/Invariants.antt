@@ -1,11 +1,8 @@
 use Prim.Native.Nat.{◌≤◌, ◌+◌, ◌*◌, ◌-◌}
 use mathlib.Core.Path.{◌≡◌}
-use Rattle.fold.proofs.Digits.{put_byte, put_every}
-use native.Mathlib.Omega.{arith}
-use lib.ListN.{length, take, length-set}
+use lib.ListN.{length, take}
 use Rattle.fold.specs.Text.{hexadecimal}
 use Rattle.fold.specs.PutText.{PutText}
-use Rattle.fold.proofs.Puts.{put_none, put_length}
 use Rattle.fold.proofs.text.put_hexadecimal.Given as goal
 
 abbrev pub invariant-loop-i : goal.invariant-loop-i

@@ -2,7 +2,6 @@
 use native.Mathlib.Omega.{arith}
 use Rattle.fold.proofs.Puts.{put_both, put_length}
 use Rattle.fold.proofs.Digits.{decimal_length}
-use borrow.Author.Rules.{rules}
 use Rattle.fold.proofs.text.put_refusal.Goals as goal
 
 pub put_decimal-behind-requires : goal.put_decimal-behind-requires
@@ -18,5 +17,4 @@ put_number-requires c =
 
 pub returns : goal.returns
 returns c =
-    let C = c in
-    put_both (put_both C.put_bytes-first.ensures C.put_decimal-behind.ensures) c.put_number.ensures
+    put_both (put_both c.put_bytes-first.ensures c.put_decimal-behind.ensures) c.put_number.ensures

@@ -3,7 +3,6 @@ use native.Mathlib.Omega.{arith}
 use Rattle.fold.specs.Text.{nodes_word, cost_word}
 use Rattle.fold.proofs.Puts.{put_both, put_length}
 use Rattle.fold.proofs.Digits.{line_reached, fold_text_length}
-use borrow.Author.Rules.{rules}
 use Rattle.fold.proofs.text.put_report.Goals as goal
 
 pub put_number-third-requires : goal.put_number-third-requires
@@ -38,6 +37,5 @@ put_bytes-requires c =
 
 pub returns : goal.returns
 returns c =
-    let C = c in
-    let third = put_both (put_both C.put_bytes-bytes.ensures C.put_fold_text-end.ensures) c.put_bytes.ensures in
-    put_both (put_both C.put_number-second.ensures C.put_number-third.ensures) third
+    let third = put_both (put_both c.put_bytes-bytes.ensures c.put_fold_text-end.ensures) c.put_bytes.ensures in
+    put_both (put_both c.put_number-second.ensures c.put_number-third.ensures) third

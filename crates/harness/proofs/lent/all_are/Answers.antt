@@ -1,10 +1,8 @@
 -- `harness::lent::all_are` meets its contract. The loop's invariant: what is asked comes to the same from entry i on.
 use mathlib.Core.Path.{◌≡◌}
-use mathlib.Core.Logic.{◌↔◌}
-use Prim.Native.Nat.{◌-◌}
 use native.Mathlib.Omega.{arith}
 use lib.ListN.{length, replicate}
-use Rattle.harness.proofs.Fillings.{From, from_start, from_more, from_other, from_none}
+use Rattle.harness.proofs.Fillings.{from_start, from_more, from_other, from_none}
 use Rattle.harness.proofs.lent.all_are.Goals as goal
 
 pub loop-i-init : goal.loop-i-init

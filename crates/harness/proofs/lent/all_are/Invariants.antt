@@ -1,9 +1,8 @@
 use mathlib.Core.Path.{◌≡◌}
 use mathlib.Core.Logic.{◌↔◌}
 use Prim.Native.Nat.{◌-◌}
-use native.Mathlib.Omega.{arith}
 use lib.ListN.{length, replicate}
-use Rattle.harness.proofs.Fillings.{From, from_start, from_more, from_other, from_none}
+use Rattle.harness.proofs.Fillings.{From}
 use Rattle.harness.proofs.lent.all_are.Given as goal
 
 abbrev pub invariant-loop-i : goal.invariant-loop-i

@@ -1,9 +1,6 @@
 -- `harness::lent::begins` meets its contract: `check::same` tells whether the first n bytes are the others.
-use mathlib.Core.Path.{sym}
 use native.Mathlib.Omega.{arith}
-use lib.Seq.{length-take-le}
 use Rattle.harness.proofs.Says.{says_no}
-use borrow.Author.Rules.{rules}
 use Rattle.harness.proofs.lent.begins.Goals as goal
 
 pub returns-then-s-n : goal.returns-then-s-n

@@ -1,10 +1,6 @@
 -- `harness::lent::cleared` meets its contract: the two parts are looked at by themselves.
-use mathlib.Core.Path.{sym}
 use native.Mathlib.Omega.{arith}
-use lib.Seq.{length-take-le}
-use Rattle.harness.proofs.Says.{says_no, part_holds, part_fails}
-use Rattle.harness.proofs.Fillings.{cleared_parts, cleared_long, rest_whole}
-use borrow.Author.Rules.{rules}
+use Rattle.harness.proofs.Fillings.{cleared_parts, rest_whole}
 use Rattle.harness.proofs.lent.cleared.Goals as goal
 
 pub returns : goal.returns

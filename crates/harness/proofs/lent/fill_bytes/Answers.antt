@@ -1,10 +1,9 @@
 -- `harness::lent::fill_bytes` meets its contract. The loop's invariant: the first i entries are filled, and the others as they were.
 use mathlib.Core.Path.{◌≡◌, refl, ◌∙◌}
-use mathlib.Core.List.{◌++◌}
-use Prim.Native.Nat.{◌-◌, ◌≤◌, ◌<◌}
+use Prim.Native.Nat.{◌<◌}
 use native.Mathlib.Omega.{arith}
 use borrow.Author.Fill.{fill_more}
-use lib.ListN.{length, drop, replicate}
+use lib.ListN.{length}
 use Rattle.harness.proofs.Fillings.{filling_length, filled}
 use Rattle.harness.proofs.lent.fill_bytes.Goals as goal
 

@@ -1,6 +1,4 @@
 -- `harness::lent::unrolled` meets its contract: it looks at one part after the other.
-use Rattle.harness.proofs.Says.{says_no, part_holds, part_fails}
-use borrow.Author.Rules.{rules}
 use Rattle.harness.proofs.lent.unrolled.Goals as goal
 
 pub returns : goal.returns

@@ -1,8 +1,5 @@
 -- `harness::lent::untouched` meets its contract. The loop's invariant: what is asked comes to the same from entry i on.
-use mathlib.Core.Logic.{◌↔◌}
-use Prim.Native.Nat.{◌-◌}
 use native.Mathlib.Omega.{arith}
-use lib.ListN.{length}
 use Rattle.harness.proofs.Fillings.{From, from_more, from_other, from_none}
 use Rattle.harness.proofs.lent.untouched.Goals as goal
 

@@ -1,8 +1,7 @@
 use mathlib.Core.Logic.{◌↔◌}
 use Prim.Native.Nat.{◌-◌}
-use native.Mathlib.Omega.{arith}
 use lib.ListN.{length}
-use Rattle.harness.proofs.Fillings.{From, from_more, from_other, from_none}
+use Rattle.harness.proofs.Fillings.{From}
 use Rattle.harness.proofs.lent.untouched.Given as goal
 
 abbrev pub invariant-loop-i : goal.invariant-loop-i

@@ -1,5 +1,4 @@
 -- `harness::small::above` meets its contract.
-use borrow.Author.Rules.{rules}
 use borrow.Author.Tests.{lt-ltb, le-ltb}
 use Rattle.harness.proofs.small.above.Goals as goal
 
