@@ -1,7 +1,6 @@
 -- `fold_run` meets its contract: filled, written by the blocks, and cleared.
 use native.Mathlib.Omega.{arith}
 use Rattle.season.proofs.Runs.{run_filled, run_folded}
-use borrow.Author.Rules.{rules}
 use Rattle.season.proofs.run.fold_run.Goals as goal
 
 pub put_run-r-requires : goal.put_run-r-requires
