@@ -34,8 +34,8 @@ code() { # NAME COMPILER FLAGS [OBJECT]
 }
 cc=$("${CC:-cc}" --version | head -n 1)
 {
-    # The compiler behind `rt staticlib` is run at -O3, for no processor in particular: vectors are those of SSE2.
-    code folder "\`rt staticlib\`, $(rt version)" "-O3, baseline x86-64 (SSE2)" target/lib/librunfold.a
+    # The compiler behind `rt lib` is run at -O3, for no processor in particular: vectors are those of SSE2.
+    code folder "\`rt lib\`, $(rt version)" "-O3, baseline x86-64 (SSE2)" target/lib/librunfold.a
     for name in plain transposed blocked; do
         code $name "$cc" "$(cat target/benchmark/$name.flags)" target/benchmark/$name.o
     done

@@ -6,8 +6,8 @@ set -euo pipefail
 cd "$(dirname "$0")/.."
 
 mkdir -p target
-rt check fold >target/fold-edges.log 2>&1 || { cat target/fold-edges.log; exit 1; }
-fold=$PWD/target/bin/fold
+(cd crates/fold && rt run) </dev/null >target/fold-edges.log 2>&1 || { cat target/fold-edges.log; exit 1; }
+fold=$PWD/crates/fold/out/fold
 export LC_ALL=C
 scratch=$(mktemp -d)
 trap 'rm -rf "$scratch"' EXIT

@@ -5,10 +5,10 @@ set -euo pipefail
 cd "$(dirname "$0")/.."
 
 mkdir -p target/lib
-if ! rt staticlib embed >target/staticlib.log 2>&1; then
+if ! (cd crates/embed && rt lib) >target/staticlib.log 2>&1; then
     cat target/staticlib.log
     exit 1
 fi
 # The toolchain names the archive after its crate; a caller knows it by the name of the project.
-cp target/staticlib/libembed.a target/lib/librunfold.a
+cp crates/embed/out/libembed.a target/lib/librunfold.a
 echo "built target/lib/librunfold.a"

@@ -8,7 +8,7 @@ use lib.ListN.{length, get_or, take}
 use borrow.Author.Tests.{lt-ltb, le-ltb}
 use Rattle.format.specs.Limits.{season, Tariff, priced, allowed}
 use Rattle.format.specs.Order.{Bytes}
-use Rattle.format.specs.Forest.{Forest, end, step, group, repeat, nodes, cost, bytes, group_depth, Plain}
+use Rattle.format.specs.Forest.{Forest, end, step, group, repeat, cost, bytes, group_depth, Plain}
 use Rattle.format.specs.Head.{full_head}
 use Rattle.format.specs.Readings.{season_rules, as_run_reading, run_outcome_in}
 use Rattle.format.specs.Tree.{tree_of}

@@ -31,7 +31,7 @@ fn covers(pair: u64) -> usize
 
 // Writes the cheapest fold of the steps from `from` up to `end` from the place `to` on, and answers the place behind it: of a
 // tail, that goes up to the run's end, or of a stretch.
-#[cycle(put_item_put_steps)]
+#[cycle(put)]
 pub fn put_steps(
     run: &[u8],
     work: &[u32],
@@ -55,7 +55,7 @@ pub fn put_steps(
 }
 
 // Writes the item of step i by its pair.
-#[cycle(put_item_put_steps)]
+#[cycle(put)]
 fn put_item(run: &[u8], work: &[u32], i: usize, pair: u64, out: &mut [u8], to: usize) -> usize
     requires { ItemFits run.now work.now i pair to }
     ensures { ItemWritten run.now work.now i pair to out.old out.new result }
