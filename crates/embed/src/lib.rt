@@ -2,7 +2,7 @@
 // lent slices; in short.rt the short family, in seasons.rt whole seasons. Every answer is seven numbers in a lent slice: refusal,
 // place and five values, which readers, unroller and folder use for nodes, length, cost, steps and depth; 0 where the function
 // gives no such value.
-#![tactic(auto)]
+#![tactic(auto, using(crate::proofs::Entries::lent))]
 
 mod seasons;
 mod short;
