@@ -10,32 +10,11 @@ pub loop-i-init : goal.loop-i-init
 unfolding hexadecimal
 loop-i-init c = (omega arith, omega arith, put_none _ _ (omega arith))
 
-pub bounds-bytes-i : goal.bounds-bytes-i
-bounds-bytes-i c = omega arith
-
-pub digit_of-requires : goal.digit_of-requires
-digit_of-requires c = omega (arith, c.shared_slice_known-in-loop-i-1.given c.loop-i.i)
-
 pub bounds-out-to : goal.bounds-out-to
 bounds-out-to c = omega (arith, put_length c.loop-i.invariant.2)
 
-pub digit_of-requires-in-loop-i : goal.digit_of-requires-in-loop-i
-digit_of-requires-in-loop-i c = omega arith
-
-pub overflow_add-out : goal.overflow_add-out
-overflow_add-out c = omega arith
-
 pub bounds-out-to-in-loop-i : goal.bounds-out-to-in-loop-i
 bounds-out-to-in-loop-i c = simp length-set (omega (arith, put_length c.loop-i.invariant.2))
-
-pub overflow_add-to : goal.overflow_add-to
-overflow_add-to c = omega arith
-
-pub overflow_add-i : goal.overflow_add-i
-overflow_add-i c = omega arith
-
-pub loop-i-smaller : goal.loop-i-smaller
-loop-i-smaller c = omega arith
 
 pub loop-i-preserved : goal.loop-i-preserved
 loop-i-preserved c =
