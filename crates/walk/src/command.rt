@@ -94,6 +94,7 @@ pub fn step(s: &[u8], steps: &[u16], marks: &[u8], a: Terms, at: usize, d: Depth
 }
 
 // The open of a group: refusals 21, 3, 8, 19 and 10.
+#[tactic(auto, using(crate::proofs::Commands::group_banned, crate::proofs::Commands::group_short, crate::proofs::Commands::group_deep, crate::proofs::Commands::group_barred, crate::proofs::Commands::group_full, crate::proofs::Commands::group_on))]
 pub fn enter_group(
     s: &[u8],
     groups: &[u16],
