@@ -166,6 +166,7 @@ pub fn leave_group(s: &[u8], a: Terms, at: usize, t: Tally, i: Tally) -> Walk
 }
 
 // The open of a repeat: refusals 2, 3, 6, 7, 20 and 8.
+#[tactic(auto, using(crate::proofs::Commands::repeat_in_run, crate::proofs::Commands::repeat_short, crate::proofs::Commands::repeat_few, crate::proofs::Commands::repeat_wide, crate::proofs::Commands::repeat_long, crate::proofs::Commands::repeat_deep, crate::proofs::Commands::repeat_on, crate::proofs::Commands::bounded))]
 pub fn enter_repeat(s: &[u8], a: Terms, at: usize, d: Depth, t: Tally) -> Walk
     requires opens_at { OpensAt s.now at a.short }
     requires room { Room a.limits d t }
@@ -208,6 +209,7 @@ pub fn enter_repeat(s: &[u8], a: Terms, at: usize, d: Depth, t: Tally) -> Walk
 }
 
 // The close of a repeat whose outer counts are t and inner counts i: refusals 3 at the end, 4, 5, 10 and 9.
+#[tactic(auto, using(crate::proofs::Commands::left_open, crate::proofs::Commands::repeat_crossed, crate::proofs::Commands::repeat_empty, crate::proofs::Commands::repeat_untrue, crate::proofs::Commands::repeat_full, crate::proofs::Commands::repeat_left, crate::proofs::Commands::repeat_grown))]
 pub fn leave_repeat(s: &[u8], a: Terms, at: usize, o: Operands, t: Tally, i: Tally) -> Walk
     requires halted { Halted s.now at }
     requires room_somewhere { RoomSomewhere a.limits t }

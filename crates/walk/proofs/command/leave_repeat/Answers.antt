@@ -1,14 +1,10 @@
 -- `leave_repeat` meets its contract.
 use native.Mathlib.Omega.{arith}
 use mathlib.Core.Path.{◌≡◌}
-use Prim.Native.Nat.{ℕ, ◌<◌, ◌≤◌}
+use Prim.Native.Nat.{ℕ, ◌≤◌}
 use Rattle.format.specs.declared.Tally.{Tally}
-use Rattle.walk.proofs.Commands.{left_open, repeat_crossed, repeat_empty, repeat_untrue, repeat_full, repeat_left, repeat_grown}
+use Rattle.walk.proofs.Commands.{left_open, repeat_left, repeat_grown}
 use Rattle.walk.proofs.command.leave_repeat.Goals as goal
-
--- The node total that was tested is that of the counts.
-over : {m : ℕ} {r u : Tally} → r ≡ u → m < r.nodes → m < u.nodes
-over e h = rw (← e) h
 
 within : {m : ℕ} {r u : Tally} → r ≡ u → r.nodes ≤ m → u.nodes ≤ m
 within e h = rw (← e) h
@@ -16,22 +12,6 @@ within e h = rw (← e) h
 pub returns-then-at-s : goal.returns-then-at-s
 returns-then-at-s c =
     λ steps groups marks d. rw c.refused.ensures (left_open c.args.a steps groups marks c.args.s.now d c.args.at c.args.t c.args.i c.requires.halted c.requires.siblings_bound.1 c.if-at-s.true _ _)
-
-pub returns-then-s-at-eq-GROUP_END : goal.returns-then-s-at-eq-GROUP_END
-returns-then-s-at-eq-GROUP_END c =
-    λ steps groups marks d. rw c.refused-then-s-at-eq-GROUP_END.ensures (repeat_crossed c.args.a steps groups marks c.args.s.now d c.args.at c.args.t c.args.i c.requires.halted c.requires.siblings_bound.1 c.if-at-s.false c.requires.folds_value.0 c.args.o.count c.args.o.width c.if-s-at-eq-GROUP_END.true _)
-
-pub returns-then-siblings-eq0 : goal.returns-then-siblings-eq0
-returns-then-siblings-eq0 c =
-    λ steps groups marks d. rw c.refused-then-siblings-eq0.ensures (repeat_empty c.args.a steps groups marks c.args.s.now d c.args.at c.args.t c.args.i c.requires.halted c.requires.siblings_bound.1 c.if-at-s.false c.requires.folds_value.0 c.args.o.count c.args.o.width (c.requires.halted.close c.if-at-s.false c.if-s-at-eq-GROUP_END.false) c.if-siblings-eq0.true _)
-
-pub returns-then-most-total : goal.returns-then-most-total
-returns-then-most-total c =
-    λ steps groups marks d. rw c.refused-then-most-total.ensures (repeat_full c.args.a steps groups marks c.args.s.now d c.args.at c.args.t c.args.i c.requires.halted c.requires.siblings_bound.1 c.if-at-s.false c.requires.folds_value.0 c.args.o.count c.args.o.width (c.requires.halted.close c.if-at-s.false c.if-s-at-eq-GROUP_END.false) c.if-siblings-eq0.false (over c.after_repeat-passed.ensures c.if-most-total.true) _)
-
-pub returns-then-siblings-width : goal.returns-then-siblings-width
-returns-then-siblings-width c =
-    λ steps groups marks d. rw c.refused-then-siblings-width.ensures (repeat_untrue c.args.a steps groups marks c.args.s.now d c.args.at c.args.t c.args.i c.requires.halted c.requires.siblings_bound.1 c.if-at-s.false c.requires.folds_value.0 c.args.o.count c.args.o.width (c.requires.halted.close c.if-at-s.false c.if-s-at-eq-GROUP_END.false) c.if-siblings-eq0.false (within c.after_repeat-passed.ensures c.if-most-total.false) c.if-siblings-width.true _)
 
 pub returns : goal.returns
 returns c =
