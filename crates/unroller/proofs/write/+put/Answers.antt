@@ -81,20 +81,20 @@ pub put_sequence-put_item-p-requires : goal.put_sequence-put_item-p-requires
 put_sequence-put_item-p-requires t c =
     let z = c.requires.1 in
     let a = c.loop-p.invariant c.requires.0 z in
-    let m = more_before_close a.along z.stands.ends c.loop-p-test.true c.if-c-eq-GROUP_END.false c.if-c-eq-REPEAT_END.false in
+    let m = more_before_close a.along z.stands.ends c.loop-p-test.true (λ e. omega arith) (λ e. omega arith) in
     (omega (arith, a.put.passed), (_, writing_item a m))
 
 pub put_sequence-loop-p-smaller : goal.put_sequence-loop-p-smaller
 put_sequence-loop-p-smaller t c =
     let z = c.requires.1 in
     let a = c.loop-p.invariant c.requires.0 z in
-    let m = more_before_close a.along z.stands.ends c.loop-p-test.true c.if-c-eq-GROUP_END.false c.if-c-eq-REPEAT_END.false in
+    let m = more_before_close a.along z.stands.ends c.loop-p-test.true (λ e. omega arith) (λ e. omega arith) in
     omega (arith, writing_further a m (c.put_item-p.ensures (item a m) (writing_item a m)))
 
 pub put_sequence-loop-p-preserved : goal.put_sequence-loop-p-preserved
 put_sequence-loop-p-preserved t c =
     λ f z. let a = c.loop-p.invariant f z in
-    let m = more_before_close a.along z.stands.ends c.loop-p-test.true c.if-c-eq-GROUP_END.false c.if-c-eq-REPEAT_END.false in
+    let m = more_before_close a.along z.stands.ends c.loop-p-test.true (λ e. omega arith) (λ e. omega arith) in
     writing_more a m (c.put_item-p.ensures (item a m) (writing_item a m))
 
 pub put_sequence-returns : goal.put_sequence-returns
