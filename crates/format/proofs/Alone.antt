@@ -16,7 +16,7 @@ use Rattle.format.specs.Forest.{Forest, end, step, group, repeat, nodes, widest_
 use Rattle.format.specs.Machine.{Rules, State, Check, ◌when◌, first_of, checks, refusal, opens_repeat, width_operand, unless, advance, operands, scan, read, start, Outcome, refused, accepted}
 use Rattle.format.specs.Readings.{no_costs, free, fold_rules, in_family, format_rules, greatest_operand, alone_rules, alone_in}
 use Rattle.format.specs.Reasons.{holds_check, Because, at_command, left_open}
-use Rattle.format.specs.declared.Tally.{Tally}
+use Rattle.format.specs.declared.tally.Tally.{Tally}
 use Rattle.format.specs.Shape.{Reads}
 use Rattle.format.proofs.Bridge.{parses, reads_accepted, limit_law}
 use Rattle.format.proofs.Depth.{siblings_nodes}

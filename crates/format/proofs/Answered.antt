@@ -5,8 +5,8 @@ use mathlib.Core.Logic.{◌≢◌}
 use Prim.Native.Nat.{ℕ}
 use Rattle.format.specs.Machine.{Outcome, refused, accepted}
 use Rattle.format.specs.Readings.{as_fold_reading}
-use Rattle.format.specs.declared.FoldReading.{FoldReading}
-use Rattle.format.specs.declared.Tally.{Tally}
+use Rattle.format.specs.Numbers.{FoldReading}
+use Rattle.format.specs.declared.tally.Tally.{Tally}
 
 -- A number says that it is refused, with that number at that place.
 pub answered_refused : (o : Outcome) (m : FoldReading) → m ≡ as_fold_reading o → m.refusal ≢ 0 → o ≡ refused m.refusal m.place

@@ -15,7 +15,7 @@ use Rattle.format.specs.Order.{Bytes}
 use Rattle.format.specs.Forest.{Forest, end, step, group, repeat, join, copies, unroll, siblings, nodes, steps, cost, opening, opening_size, form_in, bytes, two_bytes, holds, Plain, Allowed, Repeats, Sound, Coded, group_depth, repeat_depth, widest_of}
 use Rattle.format.specs.Machine.{Rules, State, Open, a_group, a_repeat, open_groups, open_repeats, times, put_step, enter_group, leave_group, enter_repeat, leave_repeat, repeated, scan, read, start, refused, accepted, refusal}
 use Rattle.format.specs.Shape.{Shaped, tally_of, Reads}
-use Rattle.format.specs.declared.Tally.{Tally}
+use Rattle.format.specs.declared.tally.Tally.{Tally}
 use Rattle.format.proofs.Marks.{holds_both, neither, unmarked_step, unmarked_group, unmarked_repeat}
 use Rattle.format.proofs.Forests.{opening_append, form_join, bytes_join, bytes_copies, siblings_join, nodes_join, steps_join, cost_join, unroll_join, join_end, sound_join, plain_join, coded_join, group_depth_join, repeat_depth_join}
 use Rattle.format.proofs.Machine.{scan_end, scan_passed, refusal_other, scan_step, scan_group, scan_group_end, scan_repeat, scan_short, scan_repeat_end, step_passes, group_passes, group_end_passes, repeat_passes, repeat_end_passes, step_passed, group_passed, group_end_passed, repeat_passed, repeat_end_passed, Opens, by_two, by_one, Command, step_byte, group_byte, group_end_byte, repeat_byte, repeat_end_byte, other_byte, command, StepPasses, GroupPasses, GroupEndPasses, RepeatPasses, RepeatEndPasses}

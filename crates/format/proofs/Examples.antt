@@ -10,8 +10,8 @@ use Rattle.format.specs.Head.{marks_in_order}
 use Rattle.format.specs.Marks.{free_marks, mark_of, all_marks}
 use Rattle.format.specs.Readings.{run_reading_in, run_reading, reading_by, fold_reading, short_reading, season_run_reading, season_reading}
 use Rattle.format.specs.Parts.{part_of}
-use Rattle.format.specs.declared.RunReading.{RunReading}
-use Rattle.format.specs.declared.FoldReading.{FoldReading}
+use Rattle.format.specs.Numbers.{RunReading}
+use Rattle.format.specs.Numbers.{FoldReading}
 
 -- What a reader is asked: a run, or a season run; or a fold, a short fold or a season fold, at a width limit and what is lent to
 -- price it.

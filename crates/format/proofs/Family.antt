@@ -19,7 +19,7 @@ use Rattle.format.specs.Tree.{tree_of}
 use Rattle.format.specs.Meaning.{MeansAtCost}
 use Rattle.format.specs.Shape.{Shaped, tally_of, Reads}
 use Rattle.format.specs.Family.{converted_from, converted, short_form, long_form}
-use Rattle.format.specs.declared.Tally.{Tally}
+use Rattle.format.specs.declared.tally.Tally.{Tally}
 use Rattle.format.proofs.Forests.{opening_append, form_bytes}
 use Rattle.format.proofs.Bridge.{word_again, opening_length, parses, reads_accepted}
 use Rattle.format.proofs.Machine.{refusal_unknown}

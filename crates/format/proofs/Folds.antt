@@ -10,7 +10,7 @@ use Rattle.format.specs.Machine.{Rules, accepted}
 use Rattle.format.specs.Readings.{WellFormed}
 use Rattle.format.specs.Difference.{DiffersFirst}
 use Rattle.format.specs.Shape.{Reads}
-use Rattle.format.specs.declared.Tally.{Tally}
+use Rattle.format.specs.declared.tally.Tally.{Tally}
 use Rattle.format.proofs.Bridge.{parses}
 use Rattle.format.proofs.Tree.{bytes_injective}
 use Rattle.format.proofs.Order.{irreflexive, asymmetric, differs_before, compare_first, no_beginning}

@@ -17,7 +17,7 @@ use Rattle.format.specs.Reasons.{holds_check, Reached, Because, at_command, left
 use Rattle.format.specs.Head.{Head, head_checks, headed, marks_in_order, full_head}
 use Rattle.format.specs.Readings.{fold_rules, fold_numbers, as_fold_reading, outcome_by, fold_outcome, reading_by, fold_reading}
 use Rattle.format.specs.FormerOrder.{former_checks, former_refusal, former_read, former_outcome, former_reading, NineAndTen}
-use Rattle.format.specs.declared.Tally.{Tally}
+use Rattle.format.specs.declared.tally.Tally.{Tally}
 use Rattle.format.proofs.Machine.{first_none, refusal_repeat_end}
 use Rattle.format.proofs.Refusals.{said_holds, none_holds, Each, found_each, place, open_end, reached_by, refused_exactly, refused_some, accepted_exactly}
 use Rattle.format.proofs.Heads.{headed_refused, headed_passed}

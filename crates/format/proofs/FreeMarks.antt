@@ -18,7 +18,7 @@ use Rattle.format.specs.Shape.{Reads}
 use Rattle.format.specs.Tree.{tree_of}
 use Rattle.format.specs.Marks.{free_marks}
 use Rattle.format.specs.FreeMarks.{without, unmarked_headed, unmarked_reading}
-use Rattle.format.specs.declared.Tally.{Tally}
+use Rattle.format.specs.declared.tally.Tally.{Tally}
 use Rattle.format.proofs.Lists.{zeros}
 use Rattle.format.proofs.Marks.{holds_none}
 use Rattle.format.proofs.Bridge.{parses, reads_accepted, sound_widest, sound_within, reads_allowing}

@@ -11,7 +11,7 @@ use Rattle.format.specs.Limits.{Limits}
 use Rattle.format.specs.Machine.{first_of, Outcome, refused, accepted, unless, place_of}
 use Rattle.format.specs.Reasons.{First, None}
 use Rattle.format.specs.Head.{Head, head_checks, headed}
-use Rattle.format.specs.declared.Tally.{Tally}
+use Rattle.format.specs.declared.tally.Tally.{Tally}
 use Rattle.format.proofs.Machine.{first_none}
 use Rattle.format.proofs.Refusals.{Each, found_each, first_exactly, none_first}
 

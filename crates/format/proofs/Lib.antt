@@ -17,7 +17,9 @@ pub mod Order
 pub mod Folds
 pub mod Tree
 pub mod Runs
-pub mod Expansion
+mod EachMark
+pub mod Numbered
+mod Expansion
 pub mod Letters
 pub mod Report
 pub mod Family

@@ -13,7 +13,7 @@ use borrow.Author.Tests.{le-ltb, eq-eqb, ne_eqb, ltb-false, eqb-true, eqb-false,
 use Rattle.format.specs.Machine.{Rules, State, Check, ◌when◌, first_of, checks, refusal, scan_by, scan, advance, operands, label_operand, count_operand, width_operand, is_node, is_close, opens_repeat, is_known, place_of, unless, at_end, open_groups, open_repeats, in_group, in_repeat, claimed, total_of, node_total, refused, accepted, put_step, enter_group, leave_group, enter_repeat, leave_repeat}
 use Rattle.format.specs.Limits.{Prices, in_one_byte}
 use Rattle.format.specs.Reasons.{None}
-use Rattle.format.specs.declared.Tally.{Tally}
+use Rattle.format.specs.declared.tally.Tally.{Tally}
 
 -- Checks whose numbers are not 0.
 abbrev pub Positive : List Check → Type 0

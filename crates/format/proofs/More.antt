@@ -12,7 +12,7 @@ use borrow.Author.Tests.{le-ltb, ltb-false, ne_eqb}
 use Rattle.format.specs.Limits.{limits, Prices}
 use Rattle.format.specs.Machine.{Rules, State, checks, Open, a_group, a_repeat, Outcome, refused, accepted, refusal, scan, read, start, advance, opens_repeat, is_known, operands, open_groups, in_group, leave_group, place_of, at_end}
 use Rattle.format.specs.Readings.{free, run_rules}
-use Rattle.format.specs.declared.Tally.{Tally}
+use Rattle.format.specs.declared.tally.Tally.{Tally}
 use Rattle.format.specs.Reasons.{Reached, at_start, passed, Because, at_command, left_open}
 use Rattle.format.proofs.Machine.{by_two, by_one, Command, step_byte, group_byte, group_end_byte, repeat_byte, repeat_end_byte, other_byte, command, operands_few, refusal_other, step_passed, group_passed, group_end_passed, operands_there, scan_pass, scan_refuse}
 use Rattle.format.proofs.Refusals.{first_each, refused_exactly, accepted_exactly}

@@ -15,7 +15,7 @@ use Rattle.format.specs.Head.{head_checks, headed, marks_in_order, full_head}
 use Rattle.format.specs.Readings.{fold_rules, as_fold_reading, outcome_by, reading_by, fold_reading}
 use Rattle.format.specs.Tree.{tree_of}
 use Rattle.format.specs.OneTable.{label_cost, by_label, one_table_headed, one_table_reading}
-use Rattle.format.specs.declared.Tally.{Tally}
+use Rattle.format.specs.declared.tally.Tally.{Tally}
 use Rattle.format.proofs.Report.{accepted_cost}
 
 module _ (table marks : List ℕ) (first each : ℕ) where

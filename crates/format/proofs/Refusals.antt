@@ -12,7 +12,7 @@ use lib.ListN.{length, get_or, drop, length-drop}
 use lib.Seq.{drop-cons, drop-drop, drop-length}
 use borrow.Author.Tests.{eq-eqb}
 use Rattle.format.specs.Machine.{Rules, State, Open, Check, ◌when◌, first_of, checks, refusal, scan_by, scan, read, start, advance, operands, place_of, at_end, Outcome, refused, accepted}
-use Rattle.format.specs.declared.Tally.{Tally}
+use Rattle.format.specs.declared.tally.Tally.{Tally}
 use Rattle.format.specs.Reasons.{None, numbers, holds_check, First, Reached, at_start, passed, Because, at_command, left_open, Finished}
 use Rattle.format.proofs.Machine.{scan_end, by_past, scan_refuse, operands_there}
 

@@ -19,8 +19,8 @@ use Rattle.format.specs.Head.{Head, head_checks, full_head}
 use Rattle.format.specs.Shape.{Reads, tally_of}
 use Rattle.format.specs.Report.{RRT, empty, letter, repetition, count, Valid, append, series, Represents, Width, WidthAtMost, size}
 use Rattle.format.specs.Meaning.{Letter, step_of, group_of, report, report_of, TrueWidths, NoneMarked, NoneRepeated, MeansIn, report_size, MeansAtCostIn}
-use Rattle.format.specs.declared.Tally.{Tally}
-use Rattle.format.specs.declared.FoldReading.{FoldReading}
+use Rattle.format.specs.declared.tally.Tally.{Tally}
+use Rattle.format.specs.Numbers.{FoldReading}
 use Rattle.format.proofs.Forests.{siblings_unroll, plain_unroll, sound_unroll}
 use Rattle.format.proofs.Marks.{neither, unmarked_step, unmarked_group, unmarked_repeat}
 use Rattle.format.proofs.Bridge.{parses}

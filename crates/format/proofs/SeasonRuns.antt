@@ -9,7 +9,7 @@ use Rattle.format.specs.Order.{Bytes}
 use Rattle.format.specs.Machine.{accepted, read}
 use Rattle.format.specs.Readings.{run_rules_in, run_rules}
 use Rattle.format.specs.Shape.{Reads, tally_of}
-use Rattle.format.specs.declared.Tally.{Tally}
+use Rattle.format.specs.declared.tally.Tally.{Tally}
 use Rattle.format.proofs.Bridge.{parses, reads_accepted}
 use Rattle.format.proofs.Forests.{repeat_depth_plain}
 

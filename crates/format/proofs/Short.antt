@@ -12,7 +12,7 @@ use Rattle.format.specs.Order.{Bytes}
 use Rattle.format.specs.Forest.{Forest, end, step, group, repeat, Allowed, Sound, nodes, form_in, bytes}
 use Rattle.format.specs.Machine.{Rules, accepted, read}
 use Rattle.format.specs.Shape.{tally_of}
-use Rattle.format.specs.declared.Tally.{Tally}
+use Rattle.format.specs.declared.tally.Tally.{Tally}
 use Rattle.format.proofs.Bridge.{opening_length, parses}
 use Rattle.format.proofs.Depth.{siblings_nodes}
 

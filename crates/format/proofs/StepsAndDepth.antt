@@ -14,8 +14,8 @@ use Rattle.format.specs.Readings.{no_costs, free, run_rules, fold_rules, run_num
 use Rattle.format.specs.Head.{limit_head, full_head}
 use Rattle.format.specs.StepsAndDepth.{StepsAndDepth, Alike}
 use Rattle.format.specs.Shape.{Reads, tally_of}
-use Rattle.format.specs.declared.Tally.{Tally}
-use Rattle.format.specs.declared.RunReading.{RunReading}
+use Rattle.format.specs.declared.tally.Tally.{Tally}
+use Rattle.format.specs.Numbers.{RunReading}
 use Rattle.format.proofs.Forests.{nodes_unroll, steps_unroll, group_depth_unroll}
 use Rattle.format.proofs.Bridge.{accepts, parses}
 use Rattle.format.proofs.Tree.{bytes_injective}

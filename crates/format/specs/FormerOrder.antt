@@ -6,7 +6,7 @@ use Rattle.format.specs.Machine.{Rules, State, Check, ◌when◌, first_of, chec
 use Rattle.format.specs.Reasons.{holds_check, Reached}
 use Rattle.format.specs.Head.{Head, headed, full_head}
 use Rattle.format.specs.Readings.{fold_rules, as_fold_reading}
-use Rattle.format.specs.declared.FoldReading.{FoldReading}
+use Rattle.format.specs.Numbers.{FoldReading}
 
 -- Of a table, the checks of one number; and all in the order of these numbers.
 unfoldable pub numbered : ℕ → List Check → List Check

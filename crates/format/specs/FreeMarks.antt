@@ -3,7 +3,7 @@ use Rattle.std.specs.Prelude.{not, cond, List, [], ◌∷◌, ℕ, ltb, eqb, len
 use Rattle.format.specs.Limits.{limits, tariff, priced, at_most}
 use Rattle.format.specs.Machine.{Check, ◌when◌, first_of, Outcome, unless, read}
 use Rattle.format.specs.Readings.{fold_rules, as_fold_reading}
-use Rattle.format.specs.declared.FoldReading.{FoldReading}
+use Rattle.format.specs.Numbers.{FoldReading}
 
 -- A table of checks without those of one number.
 unfoldable pub without : ℕ → List Check → List Check

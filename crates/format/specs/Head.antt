@@ -2,7 +2,7 @@
 use Rattle.std.specs.Prelude.{Bool, true, not, ◌&&◌, List, [], ◌∷◌, ℕ, ltb, leb, eqb, length}
 use Rattle.format.specs.Limits.{Limits, limits, Tariff}
 use Rattle.format.specs.Machine.{Check, ◌when◌, first_of, Outcome, unless}
-pub use Rattle.format.specs.declared.Head.{Head}
+pub use Rattle.format.specs.declared.head.Head.{Head}
 
 -- Refusals 11, 15, 12 and 18, in the order of docs/REFUSALS.md.
 unfoldable pub head_checks : Limits → Head → List Check

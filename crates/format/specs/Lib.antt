@@ -6,9 +6,11 @@ pub mod Forest
 pub mod Machine
 pub mod Reasons
 pub mod Head
+pub mod Numbers
 pub mod Readings
 pub mod Family
 pub mod Output
+pub mod Answers
 pub mod StepsAndDepth
 pub mod Difference
 pub mod Shape

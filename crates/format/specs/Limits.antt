@@ -1,6 +1,6 @@
 -- The limits of the format, the lent prices and marks, which repeats they allow, and the size of the lent work.
 use Rattle.std.specs.Prelude.{Bool, false, ◌&&◌, List, ℕ, ◌+◌, ◌-◌, ◌*◌, ◌/◌, ltb, eqb, get_or}
-pub use Rattle.format.specs.declared.Limits.{Limits}
+pub use Rattle.format.specs.declared.kind.Limits.{Limits}
 
 -- What the format bounds: the associated constants of its type, which `Format::limits` gives, are these numbers.
 abbrev pub limits : Limits

@@ -2,7 +2,7 @@
 -- docs/REFUSALS.md that applies, and counts.
 use Rattle.std.specs.Prelude.{Bool, true, false, not, cond, ◌&&◌, ◌||◌, List, [], ◌∷◌, ◌++◌, ℕ, zero, suc, ◌+◌, ◌-◌, ◌*◌, max, ltb, leb, eqb, length, get_or, drop}
 use Rattle.format.specs.Limits.{Limits, Prices, of_repeat, Allowed, in_one_byte}
-use Rattle.format.specs.declared.Tally.{Tally}
+use Rattle.format.specs.declared.tally.Tally.{Tally}
 
 -- The commands: `10` a step, `11` opens a group, `12` closes it, `20` opens a repeat, `21` closes it. In the short family `22`
 -- opens a repeat too.

@@ -6,7 +6,7 @@ use Rattle.format.specs.Forest.{Forest, end, step, group, repeat}
 use Rattle.format.specs.Machine.{◌when◌, first_of, Outcome, unless, read}
 use Rattle.format.specs.Head.{marks_in_order}
 use Rattle.format.specs.Readings.{fold_rules, as_fold_reading}
-use Rattle.format.specs.declared.FoldReading.{FoldReading}
+use Rattle.format.specs.Numbers.{FoldReading}
 
 -- The one-table cost of a fold: the sum over its own commands, each `10` and each `11` by its label alone, each `20` by its count.
 unfoldable pub label_cost : (table : List ℕ) → (first each : ℕ) → Forest → ℕ

@@ -1,7 +1,7 @@
 -- What an entry point answers and writes that writes one text, by the outcome that has it, for every output.
 use Rattle.std.specs.Prelude.{cond, List, ◌++◌, ℕ, ltb, length, drop}
 use Rattle.format.specs.Machine.{Outcome, refused, accepted}
-use Rattle.format.specs.declared.Written.{Written}
+use Rattle.format.specs.Numbers.{Written}
 
 -- The answer where the output has room for `room` bytes: 14 where the text is longer.
 abbrev pub written_answer : Outcome → (room : ℕ) → Written

@@ -3,9 +3,9 @@ use Rattle.std.specs.Prelude.{◌≡◌, Bool, true, false, List, [], ℕ}
 use Rattle.format.specs.Limits.{Limits, limits, season, Prices, Tariff, tariff, priced, Allowed, at_most, allowed}
 use Rattle.format.specs.Machine.{Rules, none, Outcome, refused, accepted, read}
 use Rattle.format.specs.Head.{Head, headed, limit_head, full_head}
-use Rattle.format.specs.declared.Tally.{Tally}
-use Rattle.format.specs.declared.RunReading.{RunReading}
-use Rattle.format.specs.declared.FoldReading.{FoldReading}
+use Rattle.format.specs.declared.tally.Tally.{Tally}
+use Rattle.format.specs.Numbers.{RunReading}
+use Rattle.format.specs.Numbers.{FoldReading}
 
 -- Nothing has a price, and no label is marked.
 abbrev pub no_costs : Tariff

@@ -1,7 +1,7 @@
 -- Why bytes are refused and how they are accepted, command by command: the words of the theorems about refusals.
 use Rattle.std.specs.Prelude.{◌≡◌, Bool, true, false, ◌&&◌, ◌||◌, List, [], ◌∷◌, ◌++◌, ◌≢◌, ◌⊎◌, ℕ, suc, ◌+◌, ◌<◌, eqb, length, get_or, drop}
 use Rattle.format.specs.Machine.{Rules, State, Check, ◌when◌, refusal, start, advance, opens_repeat, operands, place_of}
-use Rattle.format.specs.declared.Tally.{Tally}
+use Rattle.format.specs.declared.tally.Tally.{Tally}
 
 -- Checks of which none applies.
 abbrev pub None : List Check → Type 0

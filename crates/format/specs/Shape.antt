@@ -3,7 +3,7 @@ use Rattle.std.specs.Prelude.{◌≡◌, false, List, ℕ, ◌≤◌, length}
 use Rattle.format.specs.Limits.{Prices}
 use Rattle.format.specs.Forest.{Forest, Coded, Sound, Plain, group_depth, repeat_depth, siblings, nodes, steps, cost, form_in, bytes, unroll}
 use Rattle.format.specs.Machine.{Rules}
-use Rattle.format.specs.declared.Tally.{Tally}
+use Rattle.format.specs.declared.tally.Tally.{Tally}
 
 -- A tree of the right shape for these rules.
 pub record Shaped (R : Rules) (f : Forest) : Type 0 where

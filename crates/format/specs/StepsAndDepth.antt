@@ -2,8 +2,8 @@
 use Rattle.std.specs.Prelude.{◌≡◌, List, ◌↔◌, ℕ, ◌≤◌, length}
 use Rattle.format.specs.Machine.{Rules}
 use Rattle.format.specs.Readings.{run_reading}
-use Rattle.format.specs.declared.Tally.{Tally}
-use Rattle.format.specs.declared.FoldReading.{FoldReading}
+use Rattle.format.specs.declared.tally.Tally.{Tally}
+use Rattle.format.specs.Numbers.{FoldReading}
 
 -- The counts have no more steps than nodes and no greater depth than groups may be open; and the depth is 0 exactly where every
 -- node is a step.

@@ -13,8 +13,8 @@ use Rattle.format.specs.Machine.{accepted, read}
 use Rattle.format.specs.Readings.{run_rules_in, fold_rules_in, rules_by, season_rules}
 use Rattle.format.specs.Shape.{Shaped, Reads, tally_of}
 use Rattle.format.specs.Tree.{tree_of}
-use Rattle.format.specs.declared.Limits.{Limits}
-use Rattle.format.specs.declared.Tally.{Tally}
+use Rattle.format.specs.declared.kind.Limits.{Limits}
+use Rattle.format.specs.declared.tally.Tally.{Tally}
 use Rattle.format.proofs.Forests.{nodes_unroll, group_depth_join, coded_bytes}
 use Rattle.format.proofs.Bridge.{accepts, parses, sound_widest, sound_within}
 use Rattle.format.proofs.Marks.{sound_plain}

@@ -13,8 +13,8 @@ use Rattle.format.specs.Shape.{Reads}
 use Rattle.format.specs.Tree.{tree_of}
 use Rattle.format.specs.Meaning.{Letter, NoneRepeated, MeansIn, report, report_size}
 use Rattle.format.specs.Report.{RRT, Valid, WidthAtMost, Represents}
-use Rattle.format.specs.declared.Limits.{Limits}
-use Rattle.format.specs.declared.Tally.{Tally}
+use Rattle.format.specs.declared.kind.Limits.{Limits}
+use Rattle.format.specs.declared.tally.Tally.{Tally}
 use Rattle.format.proofs.Forests.{coded_bytes}
 use Rattle.format.proofs.Tree.{tree_of_bytes}
 use Rattle.format.proofs.Letters.{Lettered, fold_of, report_fold_of}

@@ -17,10 +17,10 @@ use Rattle.format.specs.Machine.{Outcome, refused, accepted, read}
 use Rattle.format.specs.Head.{head_checks, full_head}
 use Rattle.format.specs.Readings.{run_rules_in, rules_by, as_run_reading, run_outcome_in}
 use Rattle.format.specs.Tree.{tree_of}
-use Rattle.format.specs.declared.Limits.{Limits}
-use Rattle.format.specs.declared.Tally.{Tally}
-use Rattle.format.specs.declared.RunReading.{RunReading}
-use Rattle.format.specs.declared.Folded.{Folded}
+use Rattle.format.specs.declared.kind.Limits.{Limits}
+use Rattle.format.specs.declared.tally.Tally.{Tally}
+use Rattle.format.specs.Numbers.{RunReading}
+use Rattle.format.specs.Numbers.{Folded}
 use Rattle.format.proofs.Heads.{headed_accepted, headed_narrow, headed_each}
 use Rattle.format.proofs.Refusals.{refused_some, refused_numbered}
 use Rattle.optimum.specs.Fewest.{preferred}

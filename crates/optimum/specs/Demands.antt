@@ -1,7 +1,7 @@
 -- Demands 2 and 3 about any bytes: what a fold of a run within a limit is, and which one is the cheapest.
 use Rattle.std.specs.Prelude.{◌≡◌, List, ℕ, ◌<◌, ◌≤◌, length}
 use Rattle.format.specs.Limits.{limits, Tariff, priced, allowed}
-use Rattle.format.specs.declared.Limits.{Limits}
+use Rattle.format.specs.declared.kind.Limits.{Limits}
 use Rattle.format.specs.Order.{Bytes}
 use Rattle.format.specs.Forest.{widest_of}
 use Rattle.format.specs.Machine.{Rules}

@@ -6,8 +6,8 @@ use Rattle.format.specs.Forest.{Allowed, form_in, cost}
 use Rattle.format.specs.Machine.{Outcome, refused, accepted}
 use Rattle.format.specs.Head.{full_head}
 use Rattle.format.specs.Readings.{run_outcome_in}
-use Rattle.format.specs.declared.Limits.{Limits}
-use Rattle.format.specs.declared.Folded.{Folded}
+use Rattle.format.specs.declared.kind.Limits.{Limits}
+use Rattle.format.specs.Numbers.{Folded}
 use Rattle.format.specs.Tree.{tree_of}
 use Rattle.optimum.specs.Fewest.{preferred}
 
