@@ -1,116 +1,41 @@
-// The readers: run reader, part of a node, fold reader with cost, the same of the short family, and without limit and costs; and
-// those of season runs, which differ in their limits alone. One walk serves them all (crate walk). Each answers for every input
-// whatsoever, and none writes anywhere.
+// The readers: run reader, part of a node, fold reader with cost, the same of the short family, and without limit and costs. Each
+// kind of runs, the format's and whole seasons, has the same readers within its own limits. One walk serves them all (crate walk).
+// Each answers for every input whatsoever, and none writes anywhere.
 #![tactic(auto)]
 
 mod node;
 
-ghost use Rattle.std.specs.Prelude.{◌≡◌, true, ◌<◌};
-ghost use Rattle.format.specs.Limits.{season, tariff};
-ghost use Rattle.format.specs.Readings.{run_numbers, fold_numbers, as_run_reading, run_outcome_in, run_outcome, run_reading_in, run_reading, season_run_reading, outcome_by, measured_by, measured, season_measured, alone_in, fold_reading, short_reading, season_reading, as_fold_reading};
+ghost use Rattle.std.specs.Prelude.{◌≡◌, ◌↔◌, false, IfOk, IsTrue};
+ghost use Rattle.format.specs.Readings.{as_run_reading, run_outcome_in, run_reading_in, outcome_by, measured_by, alone_in, reading_by, short_reading, as_fold_reading};
+ghost use Rattle.format.specs.Answers.{run_said, fold_said, tariff_of};
 ghost use Rattle.format.specs.Family.{long_form};
 ghost use Rattle.format.specs.Meaning.{MeansAtCostIn, MeansAtCost};
 ghost use Rattle.format.specs.Parts.{node_part, part_of};
-ghost use Rattle.walk.specs.Walk.{outcome};
 
-use format::{
-    FoldReading, Format, Head, Limits, RunReading, Season, Tally, full_head, head_refusal,
-    wide_cost,
-};
+use format::{Costs, FoldCounts, Format, Head, Kind, Refusal, RunCounts};
 use node::{node_end, starts_at};
-use walk::{Terms, Walk, whole};
+use walk::{Terms, whole};
 
-// The run reader's answer: a refusal's number and place and nothing counted, or 0 and 0 and the counts of the run.
-fn as_run(refusal: u8, place: usize, run: Tally) -> RunReading
-    ensures { result ≡ run_numbers refusal place run }
+// The run reader: refusals 1 to 5, 21, 8 and 10, or the nodes, the steps and the depth.
+pub fn read_run<K: Kind>(run: &[u8]) -> Result<RunCounts, Refusal>
+    ensures { run_said result ≡ run_reading_in K.bounds run.now }
 {
-    RunReading {
-        refusal,
-        place,
-        nodes: run.nodes,
-        steps: run.steps,
-        depth: run.depth,
-    }
-}
-
-// The fold reader's answer, likewise.
-fn as_fold(refusal: u8, place: usize, fold: Tally) -> FoldReading
-    ensures { result ≡ fold_numbers refusal place fold }
-{
-    FoldReading {
-        refusal,
-        place,
-        nodes: fold.nodes,
-        length: fold.size,
-        cost: fold.cost,
-        steps: fold.steps,
-        depth: fold.depth,
-    }
-}
-
-// A run within limits of 16 bits: refusals 1 to 5, 21, 8 and 10, or how many nodes there are, how many of them are steps, and the
-// depth.
-fn read_run_in(run: &[u8], bounds: Limits) -> RunReading
-    requires { (bounds.nodes < 65536) × (bounds.groups < 65536) × (bounds.repeats < 65536) }
-    ensures { result ≡ run_reading_in bounds run.now }
-{
-    let free: [u16; 0] = [0; 0];
-    let a = Terms {
-        limits: bounds,
+    let terms = Terms {
+        limits: K::limits(),
         folds: false,
         short: false,
         widest: 0,
-        first: 0,
-        each: 0,
+        costs: Costs::none(),
     };
-    let unmarked: [u8; 0] = [0; 0];
-    let w = whole(run, &free, &free, &unmarked, a);
-    let none = Tally::none();
-    if w.refusal != 0 {
-        return as_run(w.refusal, w.at, none);
-    }
-    as_run(0, 0, w.tally)
+    Ok(RunCounts::from(whole(run, &terms)?))
 }
 
-// The run reader: refusals 1 to 5, 8 and 10, or the nodes, the steps and the depth.
-pub fn read_run(run: &[u8]) -> RunReading
-    ensures { result ≡ run_reading run.now }
+// The admission of a run at an entry point with this head: the checks of the head, then the run's own refusals.
+pub fn admit<K: Kind>(run: &[u8], head: Head) -> Result<RunCounts, Refusal>
+    ensures { run_said result ≡ as_run_reading (run_outcome_in K.bounds head run.now) }
 {
-    read_run_in(run, Format::limits())
-}
-
-// The season run reader: refusals 1 to 4, 21 and 10, or the nodes, all of them steps, at depth 0.
-pub fn read_season_run(run: &[u8]) -> RunReading
-    ensures { result ≡ season_run_reading run.now }
-{
-    read_run_in(run, Season::limits())
-}
-
-// A run within limits at an entry point with this head: the checks of the head, then the run's own refusals; or what the run reader
-// gives.
-fn admit_in(run: &[u8], head: Head, bounds: Limits) -> RunReading
-    requires { (bounds.nodes < 65536) × (bounds.groups < 65536) × (bounds.repeats < 65536) }
-    ensures { result ≡ as_run_reading (run_outcome_in bounds head run.now) }
-{
-    let refusal = head_refusal(bounds, head);
-    if refusal != 0 {
-        return as_run(refusal, 0, Tally::none());
-    }
-    read_run_in(run, bounds)
-}
-
-// The admission of a run.
-pub fn admit(run: &[u8], head: Head) -> RunReading
-    ensures { result ≡ as_run_reading (run_outcome head run.now) }
-{
-    admit_in(run, head, Format::limits())
-}
-
-// The admission of a season run.
-pub fn admit_season(run: &[u8], head: Head) -> RunReading
-    ensures { result ≡ as_run_reading (run_outcome_in season head run.now) }
-{
-    admit_in(run, head, Season::limits())
+    head.check(K::limits())?;
+    read_run::<K>(run)
 }
 
 // The node that stands at an offset, with all it holds; what is left where it does not end.
@@ -118,7 +43,7 @@ pub fn node_at(s: &[u8], at: usize) -> &[u8]
     ensures { result.now ≡ node_part s.now at }
 {
     if s.len() <= at {
-        return &s[0..0];
+        return &[];
     }
     let end = node_end(s, at);
     if s.len() < end {
@@ -132,164 +57,84 @@ pub fn node_at(s: &[u8], at: usize) -> &[u8]
 pub fn part(run: &[u8], at: usize) -> &[u8]
     ensures { result.now ≡ part_of run.now at }
 {
-    if read_run(run).refusal != 0 {
-        return &run[0..0];
-    }
-    if !starts_at(run, at) {
-        return &run[0..0];
+    if read_run::<Format>(run).is_err() || !starts_at(run, at) {
+        return &[];
     }
     node_at(run, at)
 }
 
 // Whether two siblings are equal, label and children together: whether their parts are.
 pub fn same_node(run: &[u8], a: usize, b: usize) -> bool
-    ensures { (result ≡ true → part_of run.now a ≡ part_of run.now b) × (part_of run.now a ≡ part_of run.now b → result ≡ true) }
+    ensures { IsTrue result ↔ (part_of run.now a ≡ part_of run.now b) }
 {
-    check::same(part(run, a), part(run, b))
+    part(run, a) == part(run, b)
 }
 
-// The answer about a fold that was walked.
-fn answer(w: Walk) -> FoldReading
-    ensures { result ≡ as_fold_reading (outcome w) }
-{
-    if w.refusal != 0 {
-        return as_fold(w.refusal, w.at, Tally::none());
-    }
-    as_fold(0, 0, w.tally)
-}
-
-// A fold of a family, within limits, at an entry point with this head: the checks of the head, then refusals 1, 21, 3 to 10 and
-// 19, in the short family 20 as well; or the nodes, bytes, steps and depth of the run and the fold's cost.
-fn read_headed(
+// A fold of a family at an entry point with this head: the checks of the head, then refusals 1, 21, 3 to 10 and 19, in the short
+// family 20 as well; or the nodes, bytes, steps and depth of the run and the fold's cost.
+fn read_headed<K: Kind>(
     fold: &[u8],
-    bounds: Limits,
     short: bool,
     head: Head,
-    steps: &[u16],
-    groups: &[u16],
-    marks: &[u8],
-    first: u16,
-    each: u16,
-) -> FoldReading
-    requires { (bounds.nodes < 65536) × (bounds.groups < 65536) × (bounds.repeats < 65536) }
-    ensures { result ≡ as_fold_reading (outcome_by bounds short head (tariff steps.now groups.now marks.now first each) fold.now) }
+    costs: Costs,
+) -> Result<FoldCounts, Refusal>
+    ensures { fold_said result ≡ as_fold_reading (outcome_by K.bounds short head (tariff_of costs.entry) fold.now) }
 {
-    let number = head_refusal(bounds, head);
-    if number != 0 {
-        return as_fold(number, 0, Tally::none());
-    }
-    let a = Terms {
-        limits: bounds,
+    let limits = K::limits();
+    head.check(limits)?;
+    let terms = Terms {
+        limits,
         folds: true,
         short,
         widest: head.limit,
-        first: wide_cost(first),
-        each: wide_cost(each),
+        costs,
     };
-    answer(whole(fold, steps, groups, marks, a))
+    Ok(FoldCounts::from(whole(fold, &terms)?))
 }
 
-// A fold within limits at a width limit, without costs: refusals 12, 1, 21 and 3 to 10, or the nodes, bytes, steps and depth of
-// the run at cost 0.
-fn measure_in(fold: &[u8], bounds: Limits, limit: usize) -> FoldReading
-    requires { (bounds.nodes < 65536) × (bounds.groups < 65536) × (bounds.repeats < 65536) }
-    ensures { result ≡ as_fold_reading (measured_by bounds fold.now limit) }
+// A fold at a width limit, without costs: refusals 12, 1, 21 and 3 to 10, or the nodes, bytes, steps and depth of the run at cost 0.
+pub fn measure<K: Kind>(fold: &[u8], limit: usize) -> Result<FoldCounts, Refusal>
+    ensures { fold_said result ≡ as_fold_reading (measured_by K.bounds fold.now limit) }
 {
-    let free: [u16; 0] = [0; 0];
-    let unmarked: [u8; 0] = [0; 0];
     let head = Head {
         steps: Format::LABELS,
         groups: Format::LABELS,
         limit,
         marks: true,
     };
-    read_headed(fold, bounds, false, head, &free, &free, &unmarked, 0, 0)
-}
-
-// A fold at a width limit, and a season fold.
-pub fn measure(fold: &[u8], limit: usize) -> FoldReading
-    ensures { result ≡ as_fold_reading (measured fold.now limit) }
-{
-    measure_in(fold, Format::limits(), limit)
-}
-
-pub fn measure_season(fold: &[u8], limit: usize) -> FoldReading
-    ensures { result ≡ as_fold_reading (season_measured fold.now limit) }
-{
-    measure_in(fold, Season::limits(), limit)
+    read_headed::<K>(fold, false, head, Costs::none())
 }
 
 // A fold of a family by itself, without limit and costs: refusals 1, 3 to 6 and 8 to 10, in the short family 20 as well, or the
 // nodes, bytes, steps and depth of the run at cost 0. The walk gets a width limit that no operand passes.
-pub fn read_alone(fold: &[u8], short: bool) -> FoldReading
-    ensures { result ≡ as_fold_reading (alone_in short fold.now) }
+pub fn read_alone(fold: &[u8], short: bool) -> Result<FoldCounts, Refusal>
+    ensures { fold_said result ≡ as_fold_reading (alone_in short fold.now) }
 {
-    let free: [u16; 0] = [0; 0];
-    let unmarked: [u8; 0] = [0; 0];
-    let a = Terms {
+    let terms = Terms {
         limits: Format::limits(),
         folds: true,
         short,
         widest: Format::GREATEST_OPERAND,
-        first: 0,
-        each: 0,
+        costs: Costs::none(),
     };
-    answer(whole(fold, &free, &free, &unmarked, a))
+    Ok(FoldCounts::from(whole(fold, &terms)?))
 }
 
-// The fold reader: refusals 11, 15, 12, 18, 1, 3 to 10 and 19, or the nodes, bytes, steps and depth of the run and the fold's
-// cost. `steps` and `groups` are the cost tables, what a step and what a group costs by its label; `marks` has 1 for each label
-// that may stand in no repeat. What it accepts means, in the report's words, a run of that length at that cost.
-pub fn read_fold(
-    fold: &[u8],
-    limit: usize,
-    steps: &[u16],
-    groups: &[u16],
-    marks: &[u8],
-    first: u16,
-    each: u16,
-) -> FoldReading
-    ensures answered { result ≡ fold_reading fold.now limit (tariff steps.now groups.now marks.now first each) }
-    ensures meant { result.refusal ≡ 0 → MeansAtCost limit (tariff steps.now groups.now marks.now first each) fold.now result.length result.cost }
+// The fold reader: refusals 11, 15, 12, 18, 1, 21, 3 to 10 and 19, or the nodes, bytes, steps and depth of the run and the fold's
+// cost. What it accepts means, in the report's words, a run of that length at that cost.
+pub fn read_fold<K: Kind>(fold: &[u8], limit: usize, costs: &Costs) -> Result<FoldCounts, Refusal>
+    ensures answered { fold_said result ≡ reading_by K.bounds false fold.now limit (tariff_of costs.now) }
+    ensures meant { IfOk result (λ f. MeansAtCostIn K.bounds limit (tariff_of costs.now) fold.now f.length f.cost) }
 {
-    let head = full_head(limit, steps, groups, marks);
-    let bounds = Format::limits();
-    read_headed(fold, bounds, false, head, steps, groups, marks, first, each)
+    read_headed::<K>(fold, false, Head::full(limit, costs), *costs)
 }
 
 // The short reader: the fold reader of the short family, which refuses with 20 as well. What it accepts means, in the report's
 // words, what its long form means.
-pub fn read_short(
-    fold: &[u8],
-    limit: usize,
-    steps: &[u16],
-    groups: &[u16],
-    marks: &[u8],
-    first: u16,
-    each: u16,
-) -> FoldReading
-    ensures answered { result ≡ short_reading fold.now limit (tariff steps.now groups.now marks.now first each) }
-    ensures meant { result.refusal ≡ 0 → MeansAtCost limit (tariff steps.now groups.now marks.now first each) (long_form fold.now) result.length result.cost }
+// Stays: not `read_fold` with a family for a parameter, since the clause `meant` of each says another thing.
+pub fn read_short(fold: &[u8], limit: usize, costs: &Costs) -> Result<FoldCounts, Refusal>
+    ensures answered { fold_said result ≡ short_reading fold.now limit (tariff_of costs.now) }
+    ensures meant { IfOk result (λ f. MeansAtCost limit (tariff_of costs.now) (long_form fold.now) f.length f.cost) }
 {
-    let head = full_head(limit, steps, groups, marks);
-    let bounds = Format::limits();
-    read_headed(fold, bounds, true, head, steps, groups, marks, first, each)
-}
-
-// The season fold reader: the fold reader within the limits of season runs, which refuses with 21 as well.
-pub fn read_season(
-    fold: &[u8],
-    limit: usize,
-    steps: &[u16],
-    groups: &[u16],
-    marks: &[u8],
-    first: u16,
-    each: u16,
-) -> FoldReading
-    ensures answered { result ≡ season_reading fold.now limit (tariff steps.now groups.now marks.now first each) }
-    ensures meant { result.refusal ≡ 0 → MeansAtCostIn season limit (tariff steps.now groups.now marks.now first each) fold.now result.length result.cost }
-{
-    let head = full_head(limit, steps, groups, marks);
-    let season = Season::limits();
-    read_headed(fold, season, false, head, steps, groups, marks, first, each)
+    read_headed::<Format>(fold, true, Head::full(limit, costs), *costs)
 }

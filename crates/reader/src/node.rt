@@ -9,45 +9,34 @@ fn open_after(d: usize, c: u8) -> usize
     requires { d < 18446744073709551615 }
     ensures { (result ≡ still_open d c) × (result ≤ d + 1) }
 {
-    if c == Format::GROUP {
-        return d + 1;
+    match c {
+        Format::GROUP => d + 1,
+        Format::GROUP_END => d.saturating_sub(1),
+        _ => d,
     }
-    if c == Format::GROUP_END {
-        if d == 0 {
-            return 0;
-        }
-        return d - 1;
-    }
-    d
 }
 
 // Whether a node starts at an offset, counting commands from the first one on.
+#[tactic(auto, using(crate::proofs::Nodes::starts_past, crate::proofs::Nodes::counted_here, crate::proofs::Nodes::counted_inside))]
 pub fn starts_at(run: &[u8], at: usize) -> bool
     ensures { result ≡ starts at 0 run.now }
 {
-    let mut q = 0;
-    let mut skip: usize = 0;
-    while q < at {
-        if q == run.len() {
-            return false;
-        }
-        if skip == 0 {
-            skip = operand_bytes(run[q]);
-        } else {
-            skip = skip - 1;
-        }
-        q = q + 1;
-    }
-    if at == run.len() {
+    if run.len() <= at {
         return false;
     }
-    if skip == 0 {
-        return opens_node(run[at]);
+    let mut skip: usize = 0;
+    for c in &run[..at] {
+        if skip == 0 {
+            skip = operand_bytes(*c);
+        } else {
+            skip -= 1;
+        }
     }
-    false
+    skip == 0 && opens_node(run[at])
 }
 
 // Where the node at an offset ends.
+#[tactic(auto, using(crate::proofs::Nodes::ending_first, crate::proofs::Nodes::ending_command, crate::proofs::Nodes::ending_operand, crate::proofs::Nodes::ending_closed, crate::proofs::Nodes::ending_last, crate::proofs::Nodes::ending_all))]
 pub fn node_end(run: &[u8], at: usize) -> usize
     requires { at < length run.now }
     ensures { result ≡ at + node_size (drop at run.now) }
@@ -55,22 +44,19 @@ pub fn node_end(run: &[u8], at: usize) -> usize
     let c = run[at];
     let mut d = open_after(0, c);
     let mut skip = operand_bytes(c);
-    let mut q = at + 1;
-    while q < run.len() {
+    for q in at + 1..run.len() {
         if d == 0 {
             return q + skip;
         }
         if skip == 0 {
-            let b = run[q];
-            d = open_after(d, b);
-            skip = operand_bytes(b);
+            d = open_after(d, run[q]);
+            skip = operand_bytes(run[q]);
         } else {
-            skip = skip - 1;
+            skip -= 1;
         }
-        q = q + 1;
     }
     if d == 0 {
-        return q + skip;
+        return run.len() + skip;
     }
-    q
+    run.len()
 }

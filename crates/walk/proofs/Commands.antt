@@ -10,10 +10,10 @@ use lib.Dec.{eqb}
 use lib.ListN.{length, get_or, drop, length-drop}
 use lib.Seq.{get_or-drop, drop-drop}
 use borrow.Author.Tests.{lt-ltb, le-ltb, eq-eqb, ne_eqb, le-leb, lt-leb}
-use Rattle.format.specs.Machine.{Rules, Open, a_group, a_repeat, first_of, refusal, place_of, operands, is_node, is_close, is_known, put_step, enter_group, leave_group, enter_repeat, leave_repeat, with_step, group_entered, repeat_entered, after_group, after_repeat, label_operand, times}
+use Rattle.format.specs.Machine.{none, Rules, Open, a_group, a_repeat, first_of, refusal, place_of, operands, is_node, is_close, is_known, put_step, enter_group, leave_group, enter_repeat, leave_repeat, with_step, group_entered, repeat_entered, after_group, after_repeat, label_operand, times}
 use Rattle.format.specs.Limits.{in_one_byte}
-use Rattle.format.specs.declared.Limits.{Limits}
-use Rattle.format.specs.declared.Tally.{Tally}
+use Rattle.format.specs.declared.kind.Limits.{Limits}
+use Rattle.format.specs.declared.tally.Tally.{Tally}
 use Rattle.format.proofs.Machine.{Opens, opens, opens_advance, repeat_checks, refusal_step, refusal_group, refusal_group_end, refusal_repeat, refusal_repeat_end, repeat_passes, group_end_passes, repeat_end_passes, scan_step, scan_group, scan_group_end, scan_past, scan_repeat_end}
 use Rattle.walk.specs.Walk.{rules_of, At, OpensAt, Halted, Room, Grown, OpenAt, ItemRead, OpenRead, CloseRead, in_group_of, in_repeat_of, count_at, width_at, repeat_at, barred}
 use Rattle.walk.specs.declared.command.Terms.{Terms}
@@ -33,27 +33,27 @@ rest_short s p k h e = rw length-drop (omega arith)
 rest_long : (s : List ℕ) (p k : ℕ) → p + suc k ≤ length s → k ≤ length (drop (p + 1) s)
 rest_long s p k h = rw length-drop (omega arith)
 
-module _ (a : Terms) (steps groups marks s : List ℕ) (d : Depth) (p : ℕ) (t : Tally) where
+module _ (a : Terms) (s : List ℕ) (d : Depth) (p : ℕ) (t : Tally) where
   abbrev R : Rules
-  R = rules_of a steps groups marks
+  R = rules_of a
 
   -- `10`
-  pub step_short : At s p 0x10 → length s < p + 2 → (u : Tally) → ItemRead R s d p t (record { refusal = 3; at = length s; tally = u })
-  step_short h e u =
+  pub step_short : At s p 0x10 → length s < p + 2 → ItemRead R s d p t (record { refusal = 3; at = length s; tally = none })
+  step_short h e =
       item_refused R s d p t _ (λ z. omega arith)
       (λ os o x. stop R s p os t x 3 h.below (omega arith) (rw (h.byte, refusal_step R (at os t x) (drop (p + 1) s), lt-ltb _ _ (rest_short s p 1 h.below e))))
 
-  pub step_barred : At s p 0x10 → p + 2 ≤ length s → barred marks (get_or s (p + 1) 0) d ≡ true → (u : Tally) → ItemRead R s d p t (record { refusal = 19; at = p; tally = u })
-  step_barred h e f u =
+  pub step_barred : At s p 0x10 → p + 2 ≤ length s → barred a.costs.marks.now (get_or s (p + 1) 0) d ≡ true → ItemRead R s d p t (record { refusal = 19; at = p; tally = none })
+  step_barred h e f =
       item_refused R s d p t _ (λ z. omega arith)
       (λ os o x. stop R s p os t x 19 h.below (omega arith) (rw (h.byte, refusal_step R (at os t x) (drop (p + 1) s), le-ltb _ _ (rest_long s p 1 e), label_at s p, o.repeats, f)))
 
-  pub step_full : At s p 0x10 → p + 2 ≤ length s → barred marks (get_or s (p + 1) 0) d ≡ false → a.limits.nodes ≤ t.nodes → (u : Tally) → ItemRead R s d p t (record { refusal = 10; at = p; tally = u })
-  step_full h e b f u =
+  pub step_full : At s p 0x10 → p + 2 ≤ length s → barred a.costs.marks.now (get_or s (p + 1) 0) d ≡ false → a.limits.nodes ≤ t.nodes → ItemRead R s d p t (record { refusal = 10; at = p; tally = none })
+  step_full h e b f =
       item_refused R s d p t _ (λ z. omega arith)
       (λ os o x. stop R s p os t x 10 h.below (omega arith) (rw (h.byte, refusal_step R (at os t x) (drop (p + 1) s), le-ltb _ _ (rest_long s p 1 e), label_at s p, o.repeats, b, lt-ltb a.limits.nodes (t.nodes + 1) (omega arith))))
 
-  pub step_on : At s p 0x10 → p + 2 ≤ length s → barred marks (get_or s (p + 1) 0) d ≡ false → t.nodes < a.limits.nodes → (k : ℕ) → k ≡ get_or steps (get_or s (p + 1) 0) 0 → k < 65536 → ItemRead R s d p t (record { refusal = 0; at = p + 2; tally = with_step t k })
+  pub step_on : At s p 0x10 → p + 2 ≤ length s → barred a.costs.marks.now (get_or s (p + 1) 0) d ≡ false → t.nodes < a.limits.nodes → (k : ℕ) → k ≡ get_or a.costs.steps.now (get_or s (p + 1) 0) 0 → k < 65536 → ItemRead R s d p t (record { refusal = 0; at = p + 2; tally = with_step t k })
   unfolding put_step
   step_on h e b f k q g =
       record {
@@ -67,8 +67,8 @@ module _ (a : Terms) (steps groups marks s : List ℕ) (d : Depth) (p : ℕ) (t 
       }
 
   -- `11`
-  pub group_banned : At s p 0x11 → a.limits.groups ≡ 0 → (o : Open) (u : Tally) → OpenRead R s d (in_group_of d) p t o 2 1 65535 (record { refusal = 21; at = p; tally = u })
-  group_banned h e o u =
+  pub group_banned : At s p 0x11 → a.limits.groups ≡ 0 → (o : Open) → OpenRead R s d (in_group_of d) p t o 2 1 65535 (record { refusal = 21; at = p; tally = none })
+  group_banned h e o =
       open_refused R s d p t _ (λ z. omega arith) (in_group_of d) o 2 1 65535
       (λ os m x. stop R s p os t x 21 h.below (omega arith) (rw (h.byte, refusal_group R (at os t x) (drop (p + 1) s), eq-eqb _ _ e)))
 
@@ -76,27 +76,27 @@ module _ (a : Terms) (steps groups marks s : List ℕ) (d : Depth) (p : ℕ) (t 
   some_groups : d.groups < a.limits.groups → eqb a.limits.groups 0 ≡ false
   some_groups e = ne_eqb a.limits.groups 0 (omega arith)
 
-  pub group_short : At s p 0x11 → (a.limits.groups ≡ 0 → ⊥) → length s < p + 2 → (o : Open) (u : Tally) → OpenRead R s d (in_group_of d) p t o 2 1 65535 (record { refusal = 3; at = length s; tally = u })
-  group_short h some e o u =
+  pub group_short : At s p 0x11 → (a.limits.groups ≡ 0 → ⊥) → length s < p + 2 → (o : Open) → OpenRead R s d (in_group_of d) p t o 2 1 65535 (record { refusal = 3; at = length s; tally = none })
+  group_short h some e o =
       open_refused R s d p t _ (λ z. omega arith) (in_group_of d) o 2 1 65535
       (λ os m x. stop R s p os t x 3 h.below (omega arith) (rw (h.byte, refusal_group R (at os t x) (drop (p + 1) s), ne_eqb _ _ some, lt-ltb _ _ (rest_short s p 1 h.below e))))
 
-  pub group_deep : At s p 0x11 → (a.limits.groups ≡ 0 → ⊥) → p + 2 ≤ length s → a.limits.groups ≤ d.groups → (o : Open) (u : Tally) → OpenRead R s d (in_group_of d) p t o 2 1 65535 (record { refusal = 8; at = p; tally = u })
-  group_deep h some e f o u =
+  pub group_deep : At s p 0x11 → (a.limits.groups ≡ 0 → ⊥) → p + 2 ≤ length s → a.limits.groups ≤ d.groups → (o : Open) → OpenRead R s d (in_group_of d) p t o 2 1 65535 (record { refusal = 8; at = p; tally = none })
+  group_deep h some e f o =
       open_refused R s d p t _ (λ z. omega arith) (in_group_of d) o 2 1 65535
       (λ os m x. stop R s p os t x 8 h.below (omega arith) (rw (h.byte, refusal_group R (at os t x) (drop (p + 1) s), ne_eqb _ _ some, le-ltb _ _ (rest_long s p 1 e), m.groups, le-leb a.limits.groups d.groups f)))
 
-  pub group_barred : At s p 0x11 → p + 2 ≤ length s → d.groups < a.limits.groups → barred marks (get_or s (p + 1) 0) d ≡ true → (o : Open) (u : Tally) → OpenRead R s d (in_group_of d) p t o 2 1 65535 (record { refusal = 19; at = p; tally = u })
-  group_barred h e f b o u =
+  pub group_barred : At s p 0x11 → p + 2 ≤ length s → d.groups < a.limits.groups → barred a.costs.marks.now (get_or s (p + 1) 0) d ≡ true → (o : Open) → OpenRead R s d (in_group_of d) p t o 2 1 65535 (record { refusal = 19; at = p; tally = none })
+  group_barred h e f b o =
       open_refused R s d p t _ (λ z. omega arith) (in_group_of d) o 2 1 65535
       (λ os m x. stop R s p os t x 19 h.below (omega arith) (rw (h.byte, refusal_group R (at os t x) (drop (p + 1) s), some_groups f, le-ltb _ _ (rest_long s p 1 e), m.groups, lt-leb a.limits.groups d.groups f, label_at s p, m.repeats, b)))
 
-  pub group_full : At s p 0x11 → p + 2 ≤ length s → d.groups < a.limits.groups → barred marks (get_or s (p + 1) 0) d ≡ false → a.limits.nodes ≤ t.nodes → (o : Open) (u : Tally) → OpenRead R s d (in_group_of d) p t o 2 1 65535 (record { refusal = 10; at = p; tally = u })
-  group_full h e f b g o u =
+  pub group_full : At s p 0x11 → p + 2 ≤ length s → d.groups < a.limits.groups → barred a.costs.marks.now (get_or s (p + 1) 0) d ≡ false → a.limits.nodes ≤ t.nodes → (o : Open) → OpenRead R s d (in_group_of d) p t o 2 1 65535 (record { refusal = 10; at = p; tally = none })
+  group_full h e f b g o =
       open_refused R s d p t _ (λ z. omega arith) (in_group_of d) o 2 1 65535
       (λ os m x. stop R s p os t x 10 h.below (omega arith) (rw (h.byte, refusal_group R (at os t x) (drop (p + 1) s), some_groups f, le-ltb _ _ (rest_long s p 1 e), m.groups, lt-leb a.limits.groups d.groups f, label_at s p, m.repeats, b, lt-ltb a.limits.nodes (t.nodes + 1) (omega arith))))
 
-  pub group_on : Room a.limits d t → At s p 0x11 → p + 2 ≤ length s → d.groups < a.limits.groups → barred marks (get_or s (p + 1) 0) d ≡ false → t.nodes < a.limits.nodes → (k : ℕ) → k ≡ get_or groups (get_or s (p + 1) 0) 0 → k < 65536 → OpenRead R s d (in_group_of d) p t (a_group t) 2 1 65535 (record { refusal = 0; at = p + 2; tally = group_entered d.groups t k })
+  pub group_on : Room a.limits d t → At s p 0x11 → p + 2 ≤ length s → d.groups < a.limits.groups → barred a.costs.marks.now (get_or s (p + 1) 0) d ≡ false → t.nodes < a.limits.nodes → (k : ℕ) → k ≡ get_or a.costs.groups.now (get_or s (p + 1) 0) 0 → k < 65536 → OpenRead R s d (in_group_of d) p t (a_group t) 2 1 65535 (record { refusal = 0; at = p + 2; tally = group_entered d.groups t k })
   unfolding enter_group
   group_on room h e f b g k q j =
       record {
@@ -116,9 +116,9 @@ module _ (a : Terms) (steps groups marks s : List ℕ) (d : Depth) (p : ℕ) (t 
       }
 
 -- The open of a repeat, by `20` or by `22`.
-module _ (a : Terms) (steps groups marks s : List ℕ) (d : Depth) (p : ℕ) (t : Tally) (h : OpensAt s p a.short) (room : Room a.limits d t) where
+module _ (a : Terms) (s : List ℕ) (d : Depth) (p : ℕ) (t : Tally) (h : OpensAt s p a.short) (room : Room a.limits d t) where
   abbrev Q : Rules
-  Q = rules_of a steps groups marks
+  Q = rules_of a
 
   abbrev c : ℕ
   c = get_or s p 0
@@ -138,40 +138,40 @@ module _ (a : Terms) (steps groups marks s : List ℕ) (d : Depth) (p : ℕ) (t 
   known = rw h.byte (or-true (is_node c || is_close c))
 
   -- What the table says of it, in its own order.
-  refused_repeat : (n : ℕ) → n ≢ 0 → ((os : List Open) → OpenAt d os → (x : List ℕ) → first_of (repeat_checks Q (at os t x) rest c) ≡ n) → (o : Open) (u : Tally) → OpenRead Q s d (in_repeat_of d) p t o 0 0 4294967295 (record { refusal = n; at = place_of n p (length s); tally = u })
-  refused_repeat n z e o u =
+  refused_repeat : (n : ℕ) → n ≢ 0 → ((os : List Open) → OpenAt d os → (x : List ℕ) → first_of (repeat_checks Q (at os t x) rest c) ≡ n) → (o : Open) → OpenRead Q s d (in_repeat_of d) p t o 0 0 4294967295 (record { refusal = n; at = place_of n p (length s); tally = none })
+  refused_repeat n z e o =
       open_refused Q s d p t _ z (in_repeat_of d) o 0 0 4294967295
       (λ os m x. stop Q s p os t x n h.below z (refusal_repeat Q (at os t x) rest command room.nodes ∙ e os m x))
 
-  pub repeat_in_run : a.folds ≡ false → (o : Open) (u : Tally) → OpenRead Q s d (in_repeat_of d) p t o 0 0 4294967295 (record { refusal = 2; at = p; tally = u })
+  pub repeat_in_run : a.folds ≡ false → (o : Open) → OpenRead Q s d (in_repeat_of d) p t o 0 0 4294967295 (record { refusal = 2; at = p; tally = none })
   repeat_in_run f = refused_repeat 2 (omega arith) (λ os m x. rw (known, f))
 
   module _ (folds : a.folds ≡ true) where
-    pub repeat_short : length s ≤ p + operands c → (o : Open) (u : Tally) → OpenRead Q s d (in_repeat_of d) p t o 0 0 4294967295 (record { refusal = 3; at = length s; tally = u })
+    pub repeat_short : length s ≤ p + operands c → (o : Open) → OpenRead Q s d (in_repeat_of d) p t o 0 0 4294967295 (record { refusal = 3; at = length s; tally = none })
     repeat_short e = refused_repeat 3 (omega arith) (λ os m x. rw (known, folds, lt-ltb _ _ (rest_short s p (operands c) h.below (omega arith))))
 
     module _ (long : p + operands c < length s) where
       there : operands c ≤ length rest
       there = rest_long s p (operands c) (omega arith)
 
-      pub repeat_few : count_at s p < 2 → (o : Open) (u : Tally) → OpenRead Q s d (in_repeat_of d) p t o 0 0 4294967295 (record { refusal = 6; at = p; tally = u })
+      pub repeat_few : count_at s p < 2 → (o : Open) → OpenRead Q s d (in_repeat_of d) p t o 0 0 4294967295 (record { refusal = 6; at = p; tally = none })
       repeat_few e = refused_repeat 6 (omega arith) (λ os m x. rw (known, folds, le-ltb _ _ there, lt-ltb _ _ e))
 
       module _ (twice : 2 ≤ count_at s p) where
-        pub repeat_wide : a.widest < width_at s p → (o : Open) (u : Tally) → OpenRead Q s d (in_repeat_of d) p t o 0 0 4294967295 (record { refusal = 7; at = p; tally = u })
+        pub repeat_wide : a.widest < width_at s p → (o : Open) → OpenRead Q s d (in_repeat_of d) p t o 0 0 4294967295 (record { refusal = 7; at = p; tally = none })
         repeat_wide e = refused_repeat 7 (omega arith) (λ os m x. rw (known, folds, le-ltb _ _ there, le-ltb _ _ twice, lt-ltb _ _ e))
 
         module _ (narrow : width_at s p ≤ a.widest) where
-          pub repeat_long : (eqb c 0x20 && (a.short && in_one_byte (count_at s p) (width_at s p))) ≡ true → (o : Open) (u : Tally) → OpenRead Q s d (in_repeat_of d) p t o 0 0 4294967295 (record { refusal = 20; at = p; tally = u })
+          pub repeat_long : (eqb c 0x20 && (a.short && in_one_byte (count_at s p) (width_at s p))) ≡ true → (o : Open) → OpenRead Q s d (in_repeat_of d) p t o 0 0 4294967295 (record { refusal = 20; at = p; tally = none })
           repeat_long e = refused_repeat 20 (omega arith) (λ os m x. rw (known, folds, le-ltb _ _ there, le-ltb _ _ twice, le-ltb _ _ narrow, e))
 
           module _ (fitting : (eqb c 0x20 && (a.short && in_one_byte (count_at s p) (width_at s p))) ≡ false) where
-            pub repeat_deep : a.limits.repeats ≤ d.repeats → (o : Open) (u : Tally) → OpenRead Q s d (in_repeat_of d) p t o 0 0 4294967295 (record { refusal = 8; at = p; tally = u })
+            pub repeat_deep : a.limits.repeats ≤ d.repeats → (o : Open) → OpenRead Q s d (in_repeat_of d) p t o 0 0 4294967295 (record { refusal = 8; at = p; tally = none })
             repeat_deep e =
                 refused_repeat 8 (omega arith)
                 (λ os m x. rw (known, folds, le-ltb _ _ there, le-ltb _ _ twice, le-ltb _ _ narrow, fitting, m.repeats, le-leb a.limits.repeats d.repeats e))
 
-            pub repeat_on : d.repeats < a.limits.repeats → (k : ℕ) → k ≡ a.first + a.each * (count_at s p - 2) → k ≤ 4294967295 → OpenRead Q s d (in_repeat_of d) p t (repeat_at s p t) 0 0 4294967295 (record { refusal = 0; at = p + 1 + operands c; tally = repeat_entered t k })
+            pub repeat_on : d.repeats < a.limits.repeats → (k : ℕ) → k ≡ a.costs.first + a.costs.each * (count_at s p - 2) → k ≤ 4294967295 → OpenRead Q s d (in_repeat_of d) p t (repeat_at s p t) 0 0 4294967295 (record { refusal = 0; at = p + 1 + operands c; tally = repeat_entered t k })
             unfolding enter_repeat
             repeat_on e k q j =
                 record {
@@ -198,34 +198,34 @@ module _ (a : Terms) (steps groups marks s : List ℕ) (d : Depth) (p : ℕ) (t 
                 }
 
 -- `12` and `21`, where a sequence has come to its end inside an open group or repeat.
-module _ (a : Terms) (steps groups marks s : List ℕ) (d : Depth) (p : ℕ) (t i : Tally) (h : Halted s p) (within : i.nodes ≤ a.limits.nodes) where
-  pub left_open : p ≡ length s → (o : Open) (u : Tally) → CloseRead (rules_of a steps groups marks) s d p t i o (record { refusal = 3; at = p; tally = u })
+module _ (a : Terms) (s : List ℕ) (d : Depth) (p : ℕ) (t i : Tally) (h : Halted s p) (within : i.nodes ≤ a.limits.nodes) where
+  pub left_open : p ≡ length s → (o : Open) → (u : Tally) → CloseRead (rules_of a) s d p t i o (record { refusal = 3; at = p; tally = u })
   left_open e o u =
-      close_refused (rules_of a steps groups marks) s d p t _ (λ z. omega arith) i o (λ os m x. stop_end (rules_of a steps groups marks) s p o os i x e)
+      close_refused (rules_of a) s d p t _ (λ z. omega arith) i o (λ os m x. stop_end (rules_of a) s p o os i x e)
 
   module _ (more : p ≡ length s → ⊥) where
-    refused_close : (c n : ℕ) → get_or s p 0 ≡ c → eqb n 3 ≡ false → n ≢ 0 → (o : Open) → ((os : List Open) → (x : List ℕ) → refusal (rules_of a steps groups marks) (at (o ∷ os) i x) c (drop (p + 1) s) ≡ n) → (u : Tally) → CloseRead (rules_of a steps groups marks) s d p t i o (record { refusal = n; at = p; tally = u })
+    refused_close : (c n : ℕ) → get_or s p 0 ≡ c → eqb n 3 ≡ false → n ≢ 0 → (o : Open) → ((os : List Open) → (x : List ℕ) → refusal (rules_of a) (at (o ∷ os) i x) c (drop (p + 1) s) ≡ n) → (u : Tally) → CloseRead (rules_of a) s d p t i o (record { refusal = n; at = p; tally = u })
     refused_close c n b z y o e u =
-        close_refused (rules_of a steps groups marks) s d p t _ y i o
-        (λ os m x. stop (rules_of a steps groups marks) s p (o ∷ os) i x n (omega (arith, h.within)) y (rw b (e os x)) ∙ rw z)
+        close_refused (rules_of a) s d p t _ y i o
+        (λ os m x. stop (rules_of a) s p (o ∷ os) i x n (omega (arith, h.within)) y (rw b (e os x)) ∙ rw z)
 
     -- the close of a group
-    pub group_empty : get_or s p 0 ≡ 0x12 → i.siblings ≡ 0 → (u : Tally) → CloseRead (rules_of a steps groups marks) s d p t i (a_group t) (record { refusal = 5; at = p; tally = u })
+    pub group_empty : get_or s p 0 ≡ 0x12 → i.siblings ≡ 0 → (u : Tally) → CloseRead (rules_of a) s d p t i (a_group t) (record { refusal = 5; at = p; tally = u })
     group_empty b e =
         refused_close 0x12 5 b refl (omega arith) (a_group t)
-        (λ os x. rw (refusal_group_end (rules_of a steps groups marks) (at (a_group t ∷ os) i x) (drop (p + 1) s) within, e))
+        (λ os x. rw (refusal_group_end (rules_of a) (at (a_group t ∷ os) i x) (drop (p + 1) s) within, e))
 
-    pub group_crossed_run : get_or s p 0 ≡ 0x21 → a.folds ≡ false → (u : Tally) → CloseRead (rules_of a steps groups marks) s d p t i (a_group t) (record { refusal = 2; at = p; tally = u })
+    pub group_crossed_run : get_or s p 0 ≡ 0x21 → a.folds ≡ false → (u : Tally) → CloseRead (rules_of a) s d p t i (a_group t) (record { refusal = 2; at = p; tally = u })
     group_crossed_run b e =
         refused_close 0x21 2 b refl (omega arith) (a_group t)
-        (λ os x. rw (refusal_repeat_end (rules_of a steps groups marks) (at (a_group t ∷ os) i x) (drop (p + 1) s), e))
+        (λ os x. rw (refusal_repeat_end (rules_of a) (at (a_group t ∷ os) i x) (drop (p + 1) s), e))
 
-    pub group_crossed : get_or s p 0 ≡ 0x21 → a.folds ≡ true → (u : Tally) → CloseRead (rules_of a steps groups marks) s d p t i (a_group t) (record { refusal = 4; at = p; tally = u })
+    pub group_crossed : get_or s p 0 ≡ 0x21 → a.folds ≡ true → (u : Tally) → CloseRead (rules_of a) s d p t i (a_group t) (record { refusal = 4; at = p; tally = u })
     group_crossed b e =
         refused_close 0x21 4 b refl (omega arith) (a_group t)
-        (λ os x. rw (refusal_repeat_end (rules_of a steps groups marks) (at (a_group t ∷ os) i x) (drop (p + 1) s), e))
+        (λ os x. rw (refusal_repeat_end (rules_of a) (at (a_group t ∷ os) i x) (drop (p + 1) s), e))
 
-    pub group_left : get_or s p 0 ≡ 0x12 → (i.siblings ≡ 0 → ⊥) → Grown a.limits t (after_group t i) → CloseRead (rules_of a steps groups marks) s d p t i (a_group t) (record { refusal = 0; at = p + 1; tally = after_group t i })
+    pub group_left : get_or s p 0 ≡ 0x12 → (i.siblings ≡ 0 → ⊥) → Grown a.limits t (after_group t i) → CloseRead (rules_of a) s d p t i (a_group t) (record { refusal = 0; at = p + 1; tally = after_group t i })
     unfolding leave_group
     group_left b e g =
         record {
@@ -233,8 +233,8 @@ module _ (a : Terms) (steps groups marks s : List ℕ) (d : Depth) (p : ℕ) (t 
             goes = λ z os o x. (
               x ++ 0x12 ∷ [],
               rw (cut_one s p (omega (arith, h.within)), b)
-                  (scan_group_end (rules_of a steps groups marks) p (at (a_group t ∷ os) i x) (drop (p + 1) s)
-                  (group_end_passes (rules_of a steps groups marks) (at (a_group t ∷ os) i x) (drop (p + 1) s) within (record { inner = refl; some = omega arith }))),
+                  (scan_group_end (rules_of a) p (at (a_group t ∷ os) i x) (drop (p + 1) s)
+                  (group_end_passes (rules_of a) (at (a_group t ∷ os) i x) (drop (p + 1) s) within (record { inner = refl; some = omega arith }))),
             );
             stops = λ z. absurd (z refl);
           };
@@ -245,30 +245,30 @@ module _ (a : Terms) (steps groups marks s : List ℕ) (d : Depth) (p : ℕ) (t 
 
     -- the close of a repeat
     module _ (folds : a.folds ≡ true) (n w : ℕ) where
-      pub repeat_crossed : get_or s p 0 ≡ 0x12 → (u : Tally) → CloseRead (rules_of a steps groups marks) s d p t i (a_repeat n w t) (record { refusal = 4; at = p; tally = u })
+      pub repeat_crossed : get_or s p 0 ≡ 0x12 → (u : Tally) → CloseRead (rules_of a) s d p t i (a_repeat n w t) (record { refusal = 4; at = p; tally = u })
       repeat_crossed b =
           refused_close 0x12 4 b refl (omega arith) (a_repeat n w t)
-          (λ os x. rw (refusal_group_end (rules_of a steps groups marks) (at (a_repeat n w t ∷ os) i x) (drop (p + 1) s) within))
+          (λ os x. rw (refusal_group_end (rules_of a) (at (a_repeat n w t ∷ os) i x) (drop (p + 1) s) within))
 
       module _ (b : get_or s p 0 ≡ 0x21) where
-        pub repeat_empty : i.siblings ≡ 0 → (u : Tally) → CloseRead (rules_of a steps groups marks) s d p t i (a_repeat n w t) (record { refusal = 5; at = p; tally = u })
+        pub repeat_empty : i.siblings ≡ 0 → (u : Tally) → CloseRead (rules_of a) s d p t i (a_repeat n w t) (record { refusal = 5; at = p; tally = u })
         repeat_empty e =
             refused_close 0x21 5 b refl (omega arith) (a_repeat n w t)
-            (λ os x. rw (refusal_repeat_end (rules_of a steps groups marks) (at (a_repeat n w t ∷ os) i x) (drop (p + 1) s), folds, e))
+            (λ os x. rw (refusal_repeat_end (rules_of a) (at (a_repeat n w t ∷ os) i x) (drop (p + 1) s), folds, e))
 
         module _ (some : i.siblings ≡ 0 → ⊥) where
-          pub repeat_full : a.limits.nodes < (after_repeat n t i).nodes → (u : Tally) → CloseRead (rules_of a steps groups marks) s d p t i (a_repeat n w t) (record { refusal = 10; at = p; tally = u })
+          pub repeat_full : a.limits.nodes < (after_repeat n t i).nodes → (u : Tally) → CloseRead (rules_of a) s d p t i (a_repeat n w t) (record { refusal = 10; at = p; tally = u })
           repeat_full e =
               refused_close 0x21 10 b refl (omega arith) (a_repeat n w t)
-              (λ os x. rw (refusal_repeat_end (rules_of a steps groups marks) (at (a_repeat n w t ∷ os) i x) (drop (p + 1) s), folds, ne_eqb _ _ some, lt-ltb _ _ e))
+              (λ os x. rw (refusal_repeat_end (rules_of a) (at (a_repeat n w t ∷ os) i x) (drop (p + 1) s), folds, ne_eqb _ _ some, lt-ltb _ _ e))
 
           module _ (total : (after_repeat n t i).nodes ≤ a.limits.nodes) where
-            pub repeat_untrue : (i.siblings ≡ w → ⊥) → (u : Tally) → CloseRead (rules_of a steps groups marks) s d p t i (a_repeat n w t) (record { refusal = 9; at = p; tally = u })
+            pub repeat_untrue : (i.siblings ≡ w → ⊥) → (u : Tally) → CloseRead (rules_of a) s d p t i (a_repeat n w t) (record { refusal = 9; at = p; tally = u })
             repeat_untrue e =
                 refused_close 0x21 9 b refl (omega arith) (a_repeat n w t)
-                (λ os x. rw (refusal_repeat_end (rules_of a steps groups marks) (at (a_repeat n w t ∷ os) i x) (drop (p + 1) s), folds, ne_eqb _ _ some, le-ltb _ _ total, ne_eqb _ _ e))
+                (λ os x. rw (refusal_repeat_end (rules_of a) (at (a_repeat n w t ∷ os) i x) (drop (p + 1) s), folds, ne_eqb _ _ some, le-ltb _ _ total, ne_eqb _ _ e))
 
-            pub repeat_left : i.siblings ≡ w → Grown a.limits t (after_repeat n t i) → CloseRead (rules_of a steps groups marks) s d p t i (a_repeat n w t) (record { refusal = 0; at = p + 1; tally = after_repeat n t i })
+            pub repeat_left : i.siblings ≡ w → Grown a.limits t (after_repeat n t i) → CloseRead (rules_of a) s d p t i (a_repeat n w t) (record { refusal = 0; at = p + 1; tally = after_repeat n t i })
             unfolding leave_repeat
             repeat_left e g =
                 record {
@@ -276,8 +276,8 @@ module _ (a : Terms) (steps groups marks s : List ℕ) (d : Depth) (p : ℕ) (t 
                     goes = λ z os o x. (
                       x ++ times (n - 1) (drop t.size x),
                       rw (cut_one s p (omega (arith, h.within)), b)
-                          (scan_repeat_end (rules_of a steps groups marks) p (at (a_repeat n w t ∷ os) i x) (drop (p + 1) s)
-                          (repeat_end_passes (rules_of a steps groups marks) (at (a_repeat n w t ∷ os) i x) (drop (p + 1) s)
+                          (scan_repeat_end (rules_of a) p (at (a_repeat n w t ∷ os) i x) (drop (p + 1) s)
+                          (repeat_end_passes (rules_of a) (at (a_repeat n w t ∷ os) i x) (drop (p + 1) s)
                           (record { folds = folds; inner = refl; some = omega arith; true_width = e; total = total }))),
                     );
                     stops = λ z. absurd (z refl);

@@ -9,13 +9,12 @@ use native.Mathlib.Omega.{arith}
 use lib.ListN.{length, get_or, drop, length-drop}
 use lib.Seq.{drop-cons, drop-length}
 use borrow.Author.Tests.{ne_eqb}
-use Rattle.format.specs.Machine.{Rules, Open, a_group, a_repeat, State, refused, accepted, refusal, place_of, opens_in}
-use Rattle.format.specs.declared.Limits.{Limits}
-use Rattle.format.specs.declared.Tally.{Tally}
+use Rattle.format.specs.Machine.{none, Rules, Open, a_group, a_repeat, State, refused, accepted, refusal, place_of, opens_in}
+use Rattle.format.specs.declared.kind.Limits.{Limits}
+use Rattle.format.specs.declared.tally.Tally.{Tally}
 use Rattle.format.proofs.Machine.{scan_refuse, scan_end, refusal_unknown}
-use Rattle.walk.specs.Walk.{from, GoesOn, Stops, OpenAt, Halted, Room, Grown, ItemRead, SequenceRead, OpenRead, CloseRead, NoClose, in_group_of, in_repeat_of}
+use Rattle.walk.specs.Walk.{Walk, from, GoesOn, Stops, OpenAt, Halted, Room, Grown, ItemRead, SequenceRead, OpenRead, CloseRead, NoClose, in_group_of, in_repeat_of}
 use Rattle.walk.specs.declared.command.Depth.{Depth}
-use Rattle.walk.specs.declared.command.Walk.{Walk}
 
 -- The bytes from an offset on, taken apart one and two at a time.
 pub cut_one : (s : List ℕ) (p : ℕ) → p < length s → drop p s ≡ get_or s p 0 ∷ drop (p + 1) s
@@ -175,8 +174,8 @@ pub closed_as : {R : Rules} {s : List ℕ} {d : Depth} {p : ℕ} {t i : Tally} {
 closed_as e f h = rw (e, f) at h
 
 -- A byte that is no command.
-pub item_unknown : (R : Rules) (s : List ℕ) (d : Depth) (p : ℕ) (t u : Tally) → NoClose s p → (get_or s p 0 ≡ 0x10 → ⊥) → (get_or s p 0 ≡ 0x11 → ⊥) → opens_in R.short (get_or s p 0) ≡ false → ItemRead R s d p t (record { refusal = 1; at = p; tally = u })
-item_unknown R s d p t u n a b c =
+pub item_unknown : (R : Rules) (s : List ℕ) (d : Depth) (p : ℕ) (t : Tally) → NoClose s p → (get_or s p 0 ≡ 0x10 → ⊥) → (get_or s p 0 ≡ 0x11 → ⊥) → opens_in R.short (get_or s p 0) ≡ false → ItemRead R s d p t (record { refusal = 1; at = p; tally = none })
+item_unknown R s d p t n a b c =
     item_refused R s d p t _ (λ z. omega arith)
     (λ os m x.
     stop R s p os t x 1 n.below (omega arith)

@@ -1,22 +1,39 @@
 -- What the functions of the walk promise: reading on from here is reading on from there, or refusing.
-use Rattle.std.specs.Prelude.{◌≡◌, Bool, true, cond, ◌&&◌, List, [], ◌∷◌, ℕ, ◌+◌, ◌*◌, ◌<◌, ◌≤◌, eqb, ltb, length, get_or, drop}
-use Rattle.format.specs.Limits.{tariff, priced, marked_in, allowed}
-use Rattle.format.specs.declared.Limits.{Limits}
-use Rattle.format.specs.Machine.{Rules, Open, a_repeat, Outcome, refused, accepted, scan, read, open_groups, open_repeats, opens_in, count_operand, width_operand}
-use Rattle.format.specs.declared.Tally.{Tally}
+use Rattle.std.specs.Prelude.{◌≡◌, Bool, true, ◌&&◌, List, [], ◌∷◌, ℕ, ◌+◌, ◌*◌, ◌<◌, ◌≤◌, ltb, length, get_or, drop, Result, Ok, Err}
+use Rattle.format.specs.Limits.{priced, marked_in, allowed}
+use Rattle.format.specs.Answers.{number, tariff_of}
+use Rattle.format.specs.declared.answers.Refusal.{Refusal}
+use Rattle.format.specs.declared.kind.Limits.{Limits}
+use Rattle.format.specs.Machine.{none, Rules, Open, a_repeat, Outcome, refused, accepted, scan, read, open_groups, open_repeats, opens_in, count_operand, width_operand}
+use Rattle.format.specs.declared.tally.Tally.{Tally}
 use Rattle.walk.specs.declared.command.Terms.{Terms}
 use Rattle.walk.specs.declared.command.Depth.{Depth}
-use Rattle.walk.specs.declared.command.Walk.{Walk}
+use Rattle.walk.specs.declared.command.Passed.{Passed}
 
--- The machine's rules for what was asked, with the cost tables of steps and of groups and the marks.
-abbrev pub rules_of : Terms → (steps groups marks : List ℕ) → Rules
-rules_of a steps groups marks =
+-- Where a walk has come to, in numbers: at an offset with these counts, or refused with this number at the place `at`.
+pub record Walk : Type 0 where
+  pub refusal : ℕ
+  pub at : ℕ
+  pub tally : Tally
+
+abbrev pub seen : Result Passed Refusal → Walk
+seen (Ok w) = record { refusal = 0; at = w.at; tally = w.tally }
+seen (Err e) = record { refusal = number e.reason; at = e.place; tally = none }
+
+-- At the end of the input no place is left to be told.
+abbrev pub ended : Result Tally Refusal → Walk
+ended (Ok t) = record { refusal = 0; at = 0; tally = t }
+ended (Err e) = record { refusal = number e.reason; at = e.place; tally = none }
+
+-- The machine's rules for what was asked.
+abbrev pub rules_of : Terms → Rules
+rules_of a =
     record {
       limits = a.limits;
       folds = a.folds;
       short = a.short;
-      allowed = allowed a.widest marks;
-      prices = priced (tariff steps groups marks a.first a.each);
+      allowed = allowed a.widest a.costs.marks.now;
+      prices = priced (tariff_of a.costs);
     }
 
 -- Whether a label may not stand at a depth: it is marked, and a repeat is open.
@@ -66,13 +83,11 @@ pub record Halted (s : List ℕ) (p : ℕ) : Type 0 where
   pub within : p ≤ length s
   pub close : (p ≡ length s → ⊥) → (get_or s p 0 ≡ 0x12 → ⊥) → get_or s p 0 ≡ 0x21
 
--- Limits and prices of 16 bits, so that the counts are within what the machine words hold.
+-- Limits of 16 bits, as the prices are, so that the counts are within what the machine words hold.
 pub record Sane (a : Terms) : Type 0 where
   pub nodes : a.limits.nodes < 65536
   pub groups : a.limits.groups < 65536
   pub repeats : a.limits.repeats < 65536
-  pub first : a.first < 65536
-  pub each : a.each < 65536
 
 -- The counts so far are within the limits, and the machine words hold them: a step has 2 bytes and a group 3; a node and a
 -- closed repeat each cost less than 2 ^ 32 and add at least one to the node total.
@@ -169,5 +184,6 @@ pub record Whole (R : Rules) (s : List ℕ) (w : Walk) : Type 0 where
   pub refuses : (w.refusal ≡ 0 → ⊥) → read R s ≡ refused w.refusal w.at
 
 -- What a walk over the whole input says of it, the unrolled bytes aside.
-abbrev pub outcome : Walk → Outcome
-outcome w = cond (eqb w.refusal 0) (accepted w.tally []) (refused w.refusal w.at)
+abbrev pub outcome : Result Tally Refusal → Outcome
+outcome (Ok t) = accepted t []
+outcome (Err e) = refused (number e.reason) e.place

@@ -1,24 +1,14 @@
 // The counts of a reading: what each command that is passed makes of them.
-ghost use Rattle.std.specs.Prelude.{◌≡◌, ◌<◌, ◌≤◌, max};
+ghost use Rattle.std.specs.Prelude.{◌≡◌, ◌<◌, ◌≤◌};
 ghost use Rattle.format.specs.Machine.{repeated, with_step, group_entered, repeat_entered, after_group, after_repeat};
 ghost use Rattle.walk.specs.Walk.{Small};
 
 use format::Tally;
 
-// The greater of two numbers.
-fn greater(a: usize, b: usize) -> usize
-    ensures { result ≡ max a b }
-{
-    if a < b {
-        return b;
-    }
-    a
-}
-
 // The counts after a step of that price.
 pub fn after_step(t: Tally, price: u64) -> Tally
     requires small { Small t }
-    requires price_bound { price < 65536 }
+    requires priced { price < 65536 }
     ensures { result ≡ with_step t price }
 {
     Tally {
@@ -34,7 +24,7 @@ pub fn after_step(t: Tally, price: u64) -> Tally
 // The counts inside a group of that price; so many groups were open before it.
 pub fn inside_group(groups: usize, outer: Tally, price: u64) -> Tally
     requires small { Small outer }
-    requires groups_bound { (groups < 65536) × (price < 65536) }
+    requires bounded { (groups < 65536) × (price < 65536) }
     ensures { result ≡ group_entered groups outer price }
 {
     Tally {
@@ -43,7 +33,7 @@ pub fn inside_group(groups: usize, outer: Tally, price: u64) -> Tally
         size: outer.size + 2,
         cost: outer.cost + price,
         steps: outer.steps,
-        depth: greater(outer.depth, groups + 1),
+        depth: outer.depth.max(groups + 1),
     }
 }
 
@@ -65,7 +55,7 @@ pub fn after_group(outer: Tally, inner: Tally) -> Tally
 // The counts inside a repeat of that price.
 pub fn inside_repeat(before: Tally, price: u64) -> Tally
     requires small { Small before }
-    requires price_bound { price < 4294967296 }
+    requires priced { price < 4294967296 }
     ensures { result ≡ repeat_entered before price }
 {
     Tally {
@@ -80,8 +70,8 @@ pub fn inside_repeat(before: Tally, price: u64) -> Tally
 
 // A total after all passes of a repeat, by that before it and that after one pass.
 fn repeated(count: usize, before: usize, pass: usize) -> usize
-    requires le_count { (1 ≤ count) × (count < 65536) }
-    requires before_le_pass { (before ≤ pass) × (pass < 196608) }
+    requires counted { (1 ≤ count) × (count < 65536) }
+    requires grown { (before ≤ pass) × (pass < 196608) }
     ensures { result ≡ repeated count before pass }
 {
     pass + (count - 1) * (pass - before)
@@ -89,10 +79,10 @@ fn repeated(count: usize, before: usize, pass: usize) -> usize
 
 // The counts after a repeat, by those before it and those after one pass: all passes count, but not for cost and depth.
 pub fn after_repeat(count: usize, before: Tally, pass: Tally) -> Tally
-    requires le_count { (1 ≤ count) × (count < 65536) }
+    requires counted { (1 ≤ count) × (count < 65536) }
     requires small { Small before }
-    requires small_2 { Small pass }
-    requires nodes_le_nodes { (before.nodes ≤ pass.nodes) × (before.size ≤ pass.size) × (before.steps ≤ pass.steps) }
+    requires small_pass { Small pass }
+    requires grown { (before.nodes ≤ pass.nodes) × (before.size ≤ pass.size) × (before.steps ≤ pass.steps) }
     ensures { result ≡ after_repeat count before pass }
 {
     Tally {

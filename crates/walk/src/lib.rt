@@ -7,37 +7,30 @@ mod counts;
 mod operands;
 mod walk;
 
-ghost use Rattle.walk.specs.Walk.{Sane, Whole, rules_of};
+ghost use Rattle.walk.specs.Walk.{Sane, Whole, rules_of, ended};
 
-use command::{Depth, refused};
-pub use command::{Terms, Walk, price};
-use format::{Format, Tally};
+use command::Depth;
+pub use command::{Terms, price};
+use format::{Format, Reason, Refusal, Tally};
 pub use operands::{operand, operands_at};
 use walk::sequence;
 
-// The whole input, at the cost tables of steps and of groups and under the marks: the top sequence, then the end and no close.
-pub fn whole(s: &[u8], steps: &[u16], groups: &[u16], marks: &[u8], a: Terms) -> Walk
-    requires { Sane a }
-    ensures { Whole (rules_of a steps.now groups.now marks.now) s.now result }
+// The whole input: the top sequence, then the end and no close.
+pub fn whole(s: &[u8], a: &Terms) -> Result<Tally, Refusal>
+    requires { Sane a.now }
+    ensures { Whole (rules_of a.now) s.now (ended result) }
 {
-    let none = Tally::none();
     let top = Depth {
         groups: 0,
         repeats: 0,
     };
-    let w = sequence(s, steps, groups, marks, a, 0, top, none);
-    if w.refusal != 0 {
-        return w;
-    }
-    let at = w.at;
+    let read = sequence(s, a, 0, top, Tally::none())?;
+    let at = read.at;
     if at == s.len() {
-        return w;
+        return Ok(read.tally);
     }
-    if s[at] == Format::GROUP_END {
-        return refused(4, at, none);
+    if s[at] == Format::GROUP_END || a.folds {
+        return Err(Reason::WrongClose.at(at));
     }
-    if a.folds {
-        return refused(4, at, none);
-    }
-    refused(2, at, none)
+    Err(Reason::RepeatInRun.at(at))
 }

@@ -3,7 +3,7 @@ ghost use Rattle.std.specs.Prelude.{◌≡◌, ◌&&◌, ◌<◌, eqb, length, g
 ghost use Rattle.format.specs.Limits.{in_one_byte};
 ghost use Rattle.walk.specs.Walk.{word_at, count_at, width_at};
 
-use format::{Format, opens_short, wide};
+use format::{Format, opens_short};
 
 // What a repeat's command says of it: the copies of its body, and the body's width.
 #[derive(Clone, Copy)]
@@ -16,10 +16,10 @@ pub struct Operands {
 fn byte_at(s: &[u8], at: usize) -> usize
     ensures { (result ≡ get_or s.now at 0) × (result < 256) }
 {
-    if at < s.len() {
-        return wide(s[at]);
+    match s.get(at) {
+        Some(byte) => usize::from(*byte),
+        None => 0,
     }
-    0
 }
 
 // The operand of two bytes at an offset, the high byte first; bytes past the end count as 0.
@@ -27,7 +27,7 @@ pub fn operand(s: &[u8], at: usize) -> usize
     ensures { (result ≡ word_at s.now at) × (result < 65536) }
 {
     if at < s.len() {
-        return wide(s[at]) * 256 + byte_at(s, at + 1);
+        return usize::from(s[at]) * 256 + byte_at(s, at + 1);
     }
     0
 }
@@ -36,8 +36,8 @@ pub fn operand(s: &[u8], at: usize) -> usize
 // 0.
 pub fn operands_at(s: &[u8], at: usize) -> Operands
     requires { at < length s.now }
-    ensures count_value { (result.count ≡ count_at s.now at) × (result.count < 65536) }
-    ensures width_value { (result.width ≡ width_at s.now at) × (result.width < 65536) }
+    ensures count { (result.count ≡ count_at s.now at) × (result.count < 65536) }
+    ensures width { (result.width ≡ width_at s.now at) × (result.width < 65536) }
 {
     if s[at] == Format::SHORT_REPEAT {
         return Operands {
@@ -55,8 +55,5 @@ pub fn operands_at(s: &[u8], at: usize) -> Operands
 pub fn has_shorter(short: bool, c: u8, o: Operands) -> bool
     ensures { result ≡ (eqb c 0x20 && (short && in_one_byte o.count o.width)) }
 {
-    if c != Format::REPEAT {
-        return false;
-    }
-    opens_short(short, o.count, o.width)
+    c == Format::REPEAT && opens_short(short, o.count, o.width)
 }

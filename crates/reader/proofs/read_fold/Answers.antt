@@ -1,11 +1,10 @@
 -- `read_fold` meets its contract.
-use Rattle.format.specs.Limits.{limits, tariff}
+use Rattle.format.specs.Answers.{tariff_of}
 use Rattle.reader.proofs.Answers.{with_meaning}
 use Rattle.reader.proofs.read_fold.Goals as goal
 
 pub returns : goal.returns
-returns c =
-    let a = c.args in
-    let both = with_meaning a.fold.now a.limit (tariff a.steps.now a.groups.now a.marks.now a.first a.each) (λ i. (c.type_inv.fold i).fits)
-    c.read_headed.result limits (rw (c.limits-bounds.ensures, c.full_head-head.ensures a.first a.each) at c.read_headed.ensures) in
+returns g c =
+    let both = with_meaning c.args.fold.now c.args.limit (tariff_of c.args.costs.now) (λ i. (c.type_inv.fold i).fits) g.K.Kind.bounds
+    c.read_headed.result (rw c.full.ensures at c.read_headed.ensures) in
     record { answered = both.0; meant = both.1 }

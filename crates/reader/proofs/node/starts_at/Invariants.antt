@@ -1,11 +1,6 @@
--- The invariant: whether a node starts at `at` is what it is from q on, after `skip` operand bytes. The measure is what is left up
--- to `at`.
-use Prim.Native.Nat.{◌-◌}
+-- The invariant: whether a node starts at `at` is what it is from the next command on, after `skip` operand bytes.
 use Rattle.reader.proofs.Nodes.{Counted}
 use Rattle.reader.proofs.node.starts_at.Given as goal
 
-abbrev pub invariant-loop-q : goal.invariant-loop-q
-invariant-loop-q l = Counted l.run l.at l.q l.skip
-
-abbrev pub decreases-loop-q : goal.decreases-loop-q
-decreases-loop-q l = l.at - l.q
+abbrev pub invariant-loop-c : goal.invariant-loop-c
+invariant-loop-c l = Counted l.fn.run l.at l.c-index l.skip

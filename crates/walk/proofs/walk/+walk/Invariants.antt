@@ -17,8 +17,8 @@ decreases-repeat l = 3 * (length l.s.now - l.at)
 abbrev pub decreases-sequence : goal.decreases-sequence
 decreases-sequence l = 3 * (length l.s.now - l.at) + 2
 
-abbrev pub invariant-sequence-loop-p : goal.invariant-sequence-loop-p
-invariant-sequence-loop-p l = Along (rules_of l.a l.steps l.groups l.marks) l.s l.d l.at l.initial.now l.p l.now
+abbrev pub invariant-sequence-loop-now : goal.invariant-sequence-loop-now
+invariant-sequence-loop-now l = Along (rules_of l.a) l.s l.d l.fn.at l.fn.t l.now.at l.now.tally
 
-abbrev pub decreases-sequence-loop-p : goal.decreases-sequence-loop-p
-decreases-sequence-loop-p l = length l.s - l.p
+abbrev pub decreases-sequence-loop-now : goal.decreases-sequence-loop-now
+decreases-sequence-loop-now l = length l.s - l.now.at
