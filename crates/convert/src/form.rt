@@ -18,6 +18,7 @@ pub fn put_form(s: &[u8], short: bool, out: &mut [u8]) -> usize
 {
     let mut at = 0;
     let mut to = 0;
+    // Stays: each command says where the next one starts, which no range or iterator steps over.
     while at < s.len() {
         to = put_command(s, at, short, out, to);
         at = at + 1 + operand_bytes(s[at]);
@@ -49,8 +50,5 @@ fn put_command(s: &[u8], at: usize, short: bool, out: &mut [u8], to: usize) -> u
 fn label_at(s: &[u8], at: usize) -> u8
     ensures { result ≡ get_or s.now at 0 }
 {
-    if at < s.len() {
-        return s[at];
-    }
-    0
+    s.get(at).copied().unwrap_or(0)
 }

@@ -10,7 +10,7 @@ use Rattle.format.specs.Machine.{accepted}
 use Rattle.format.specs.Order.{Bytes}
 use Rattle.format.specs.Readings.{free, fold_rules, greatest_operand, alone_in, fold_alone}
 use Rattle.format.specs.Shape.{tally_of}
-use Rattle.format.specs.declared.Tally.{Tally}
+use Rattle.format.specs.declared.tally.Tally.{Tally}
 use Rattle.format.proofs.Bridge.{parses}
 use Rattle.format.proofs.Tree.{tree_of_bytes}
 use Rattle.index.specs.Nodes.{Node, Written, StandsIn, marked, nodes_of, written_by}

@@ -9,8 +9,7 @@ use Rattle.format.specs.Tree.{tree_of}
 use Rattle.index.specs.Nodes.{written, writes, written_by}
 use Rattle.index.specs.Index.{sums, same, index_of, indexed, index_answer, index_output}
 use Rattle.index.specs.Finding.{not_found, find_answer}
-use Rattle.index.specs.declared.Indexed.{Indexed}
-use Rattle.index.specs.declared.Found.{Found}
+use Rattle.index.specs.Numbers.{Indexed, Found}
 
 -- A step 09; twice a group 05 that holds three steps 01, and a step 02; a group 06 that holds a step 03. Three outermost items.
 abbrev pub mixed : List ℕ

@@ -6,9 +6,10 @@ use mathlib.Core.List.{List, [], ◌++◌}
 use mathlib.Core.Logic.{◌≢◌}
 use Prim.Native.Nat.{ℕ, suc, ◌+◌, ◌≤◌, ◌<◌}
 use native.Mathlib.Nat.{zero-add}
+use native.Mathlib.Decide.{dec_le, ℕ_discrete}
 use native.Mathlib.Omega.{arith}
 use lib.Dec.{eqb}
-use lib.ListN.{length, length-append, length-drop, get_or, take, drop, set}
+use lib.ListN.{length, length-append, get_or, take, drop, set}
 use lib.Seq.{take_all, take-suc, drop-cons, set_at, append_snoc}
 use borrow.Author.Tests.{eqb-true, eqb-false}
 use Rattle.format.specs.Limits.{limits}
@@ -113,6 +114,21 @@ module _ {s : List ℕ} {p : Spot} {i : ℕ} (o : Outer s p i) (z : WasRead s) w
         let c = next o.walked.along some_left in
         omega (arith, ap outermost (sym whole), outermost_join (done o) (join c.front c.back), outermost_join c.front c.back, outermost_one c.one, o.number)
 
+  -- Where entries are left there are items, and where none is there are none.
+  items_left : i < outermost (tree_of s) → p.at < length s
+  items_left few = by_end (dec_le (length s) p.at)
+    where
+      by_end : Dec (length s ≤ p.at) → p.at < length s
+      by_end (yes e) = absurd (omega (arith, o.number, ap outermost (outer_all e)))
+      by_end (no e) = omega arith
+
+  no_items_left : outermost (tree_of s) ≤ i → length s ≤ p.at
+  no_items_left all = by_end (dec_le (length s) p.at)
+    where
+      by_end : Dec (length s ≤ p.at) → length s ≤ p.at
+      by_end (yes e) = e
+      by_end (no e) = absurd (omega (arith, entry_left (omega arith)))
+
 -- A lent slice that the first entries are written into, by a measure.
 abbrev pub Filled : (m : Forest → ℕ) → (passed : Forest) → (i : ℕ) → (before now : List ℕ) → Type 0
 Filled m f i before now = now ≡ sums m 0 f ++ drop i before
@@ -120,11 +136,6 @@ Filled m f i before now = now ≡ sums m 0 f ++ drop i before
 filled_none : (m : Forest → ℕ) (before : List ℕ) → Filled m end 0 before before
 unfolding sums
 filled_none m before = refl
-
-filled_length : (m : Forest → ℕ) (f : Forest) (i : ℕ) (before : List ℕ) {now : List ℕ} → Filled m f i before now → i ≡ outermost f → i ≤ length before
-    → length now ≡ length before
-filled_length m f i before e number fits =
-    ap length e ∙ length-append (sums m 0 f) (drop i before) ∙ omega (arith, length_sums m 0 f, length-drop i before, number)
 
 filled_more : (m : Forest → ℕ) (a : Adds m) (f g : Forest) (i v : ℕ) (before now : List ℕ) → One g → Filled m f i before now
     → i ≡ outermost f → v ≡ m f → i < length before → Filled m (join f g) (i + 1) before (set now i v)
@@ -144,55 +155,45 @@ pub filling_none : {s : List ℕ} → WasRead s → (offsets before : List ℕ) 
 filling_none z offsets before =
     record { outer = outer_none z; offsets_filled = filled_none byte_length offsets; before_filled = filled_none nodes before }
 
--- There is room for every entry.
-pub record Roomy (s offsets before : List ℕ) : Type 0 where
-  pub for_offsets : outermost (tree_of s) ≤ length offsets
-  pub for_before : outermost (tree_of s) ≤ length before
+-- So many entries there are, and there is room for them.
+pub record Roomy (s offsets before : List ℕ) (n : ℕ) : Type 0 where
+  pub all : n ≡ length (index_of s).offsets
+  pub for_offsets : n ≤ length offsets
+  pub for_before : n ≤ length before
 
-module _ {s : List ℕ} {p : Spot} {i : ℕ} {offsets₀ before₀ offsets before : List ℕ} (w : Filling s p i offsets₀ before₀ offsets before)
-    (z : WasRead s) (room : Roomy s offsets₀ before₀) where
-  number_within : i ≤ outermost (tree_of s)
-  number_within =
-      let a = w.outer.walked.along in
-      omega (arith, w.outer.number, ap outermost (sym a.split), outermost_join a.done a.left)
+module _ {s : List ℕ} {p : Spot} {i n : ℕ} {offsets₀ before₀ offsets before : List ℕ} (w : Filling s p i offsets₀ before₀ offsets before)
+    (z : WasRead s) (room : Roomy s offsets₀ before₀ n) where
+  every : n ≡ outermost (tree_of s)
+  every = room.all ∙ length_sums byte_length 0 (tree_of s)
 
-  pub offsets_length : length offsets ≡ length offsets₀
-  offsets_length = filled_length byte_length (done w.outer) i offsets₀ w.offsets_filled w.outer.number (omega (arith, number_within, room.for_offsets))
+  module _ (left : i < n) where
+    pub item_there : p.at < length s
+    item_there = items_left w.outer z (omega (arith, every))
 
-  pub before_length : length before ≡ length before₀
-  before_length = filled_length nodes (done w.outer) i before₀ w.before_filled w.outer.number (omega (arith, number_within, room.for_before))
-
-  module _ (there : p.at < length s) where
-    pub offsets_room : i < length offsets
-    offsets_room = omega (arith, entry_left w.outer z there, room.for_offsets, offsets_length)
-
-    pub before_room : i < length before
-    before_room = omega (arith, entry_left w.outer z there, room.for_before, before_length)
-
-    pub filling_more : {r : Spot} → PassedOver p (item w.outer.walked (some_left w.outer z there)) r
+    pub filling_more : {r : Spot} → PassedOver p (item w.outer.walked (some_left w.outer z item_there)) r
         → Filling s r (i + 1) offsets₀ before₀ (set offsets i p.at) (set before i p.nodes)
     filling_more y =
         let o = w.outer in
-        let g = item o.walked (some_left o z there) in
-        let one = (next o.walked.along (some_left o z there)).one in
+        let g = item o.walked (some_left o z item_there) in
+        let one = (next o.walked.along (some_left o z item_there)).one in
         record {
-          outer = outer_more o z there y;
+          outer = outer_more o z item_there y;
           offsets_filled =
               filled_more byte_length bytes_adds (done o) g i p.at offsets₀ offsets one w.offsets_filled o.number (at_size o z)
-              (omega (arith, offsets_room, offsets_length));
+              (omega (arith, room.for_offsets));
           before_filled =
               filled_more nodes nodes_adds (done o) g i p.nodes before₀ before one w.before_filled o.number (nodes_counted o z)
-              (omega (arith, before_room, before_length));
+              (omega (arith, room.for_before));
         }
 
-  pub filling_all : length s ≤ p.at
+  pub filling_all : n ≤ i
       → (offsets ≡ (index_of s).offsets ++ drop (length (index_of s).offsets) offsets₀)
       × (before ≡ (index_of s).before ++ drop (length (index_of s).before) before₀)
   filling_all e =
       let o = w.outer in
-      let all = outer_all o z e in
-      let n : i ≡ outermost (tree_of s) = o.number ∙ ap outermost all in
-      (rw (length_sums byte_length 0 (tree_of s), ← n, ← all) w.offsets_filled, rw (length_sums nodes 0 (tree_of s), ← n, ← all) w.before_filled)
+      let all = outer_all o z (no_items_left o z (omega (arith, every))) in
+      let number : i ≡ outermost (tree_of s) = o.number ∙ ap outermost all in
+      (rw (length_sums byte_length 0 (tree_of s), ← number, ← all) w.offsets_filled, rw (length_sums nodes 0 (tree_of s), ← number, ← all) w.before_filled)
 
 -- A lent slice whose first entries are those of the index, by a measure; and that it is or is not all of them.
 abbrev pub Agrees : (m : Forest → ℕ) → (lent : List ℕ) → (passed : Forest) → (i : ℕ) → Type 0
@@ -264,13 +265,14 @@ module _ {s : List ℕ} {p : Spot} {i : ℕ} {offsets before : List ℕ} (w : Co
   abbrev Y : List ℕ
   Y = sums nodes 0 (tree_of s)
 
+  -- An entry is left that is of no item, or is not that of the next one.
+  pub offsets_long : length s ≤ p.at → i < length offsets → verdict ≡ false
+  offsets_long e f = not_left offsets X before Y (goes_on byte_length bytes_adds offsets w.outer z e (omega arith))
+
+  pub still_there : p.at ≢ length s → p.at < length s
+  still_there e = omega (arith, outer_within w.outer z)
+
   module _ (there : p.at < length s) where
-    pub offsets_short : i ≡ length offsets → verdict ≡ false
-    offsets_short e = not_left offsets X before Y (ends_early byte_length bytes_adds offsets w.outer z there e)
-
-    pub before_short : i ≡ length before → verdict ≡ false
-    before_short e = not_right offsets X before Y (ends_early nodes nodes_adds before w.outer z there e)
-
     pub offset_differs : get_or offsets i 0 ≢ p.at → verdict ≡ false
     offset_differs e = not_left offsets X before Y (differs byte_length bytes_adds offsets w.outer z there (λ same. e (same ∙ sym (at_size w.outer z))))
 
@@ -278,34 +280,36 @@ module _ {s : List ℕ} {p : Spot} {i : ℕ} {offsets before : List ℕ} (w : Co
     nodes_differ e = not_right offsets X before Y (differs nodes nodes_adds before w.outer z there (λ same. e (same ∙ sym (nodes_counted w.outer z))))
 
     pub comparing_more : {r : Spot} → PassedOver p (item w.outer.walked (some_left w.outer z there)) r
-        → i ≢ length offsets → i ≢ length before → get_or offsets i 0 ≡ p.at → get_or before i 0 ≡ p.nodes → Comparing s r (i + 1) offsets before
+        → i < length offsets → i < length before → get_or offsets i 0 ≡ p.at → get_or before i 0 ≡ p.nodes → Comparing s r (i + 1) offsets before
     comparing_more y e f g h =
         let o = w.outer in
         let one = (next o.walked.along (some_left o z there)).one in
         record {
           outer = outer_more o z there y;
           offsets_agree =
-              agrees_more byte_length bytes_adds offsets (done o) (item o.walked (some_left o z there)) i one w.offsets_agree
-              (omega (arith, w.offsets_agree.0, e)) (g ∙ at_size o z);
+              agrees_more byte_length bytes_adds offsets (done o) (item o.walked (some_left o z there)) i one w.offsets_agree e (g ∙ at_size o z);
           before_agree =
-              agrees_more nodes nodes_adds before (done o) (item o.walked (some_left o z there)) i one w.before_agree
-              (omega (arith, w.before_agree.0, f)) (h ∙ nodes_counted o z);
+              agrees_more nodes nodes_adds before (done o) (item o.walked (some_left o z there)) i one w.before_agree f (h ∙ nodes_counted o z);
         }
 
-  module _ (e : length s ≤ p.at) where
-    pub offsets_long : i ≢ length offsets → verdict ≡ false
-    offsets_long f = not_left offsets X before Y (goes_on byte_length bytes_adds offsets w.outer z e f)
+  -- All entries are compared: the slices are the index where all items are passed.
+  pub last_compared : i ≡ length offsets → i ≡ length before → eqb p.at (length s) ≡ verdict
+  last_compared f g = go (eqb p.at (length s)) refl
+    where
+      all : length s ≤ p.at → verdict ≡ true
+      all e =
+          both offsets X before Y (is_all byte_length bytes_adds offsets w.outer z e f w.offsets_agree) (is_all nodes nodes_adds before w.outer z e g w.before_agree)
 
-    before_long : i ≢ length before → verdict ≡ false
-    before_long f = not_right offsets X before Y (goes_on nodes nodes_adds before w.outer z e f)
+      go : (b : Bool) → eqb p.at (length s) ≡ b → b ≡ verdict
+      go true e = sym (all (omega (arith, eqb-true _ _ e)))
+      go false e =
+          let there = still_there (eqb-false _ _ e) in
+          sym (not_left offsets X before Y (ends_early byte_length bytes_adds offsets w.outer z there f))
 
-    compared_all : i ≡ length offsets → i ≡ length before → verdict ≡ true
-    compared_all f g =
-        both offsets X before Y (is_all byte_length bytes_adds offsets w.outer z e f w.offsets_agree) (is_all nodes nodes_adds before w.outer z e g w.before_agree)
-
-    pub last_compared : i ≡ length offsets → eqb i (length before) ≡ verdict
-    last_compared f = go (eqb i (length before)) refl
-      where
-        go : (b : Bool) → eqb i (length before) ≡ b → b ≡ verdict
-        go true g = sym (compared_all f (eqb-true _ _ g))
-        go false g = sym (before_long (eqb-false _ _ g))
+-- Two slices of which one is longer are not the index.
+pub uneven : (s offsets before : List ℕ) → length offsets ≢ length before → is_index (index_of s) offsets before ≡ false
+uneven s offsets before e = go (ℕ_discrete (length offsets) (outermost (tree_of s)))
+  where
+    go : Dec (length offsets ≡ outermost (tree_of s)) → is_index (index_of s) offsets before ≡ false
+    go (yes a) = not_right offsets _ before _ (λ same. e (a ∙ sym (ap length same ∙ length_sums nodes 0 (tree_of s))))
+    go (no a) = not_left offsets _ before _ (λ same. a (ap length same ∙ length_sums byte_length 0 (tree_of s)))

@@ -15,7 +15,7 @@ use Rattle.format.specs.Machine.{accepted}
 use Rattle.format.specs.Order.{Bytes}
 use Rattle.format.specs.Readings.{fold_alone}
 use Rattle.format.specs.inner.Standing.{One}
-use Rattle.format.specs.declared.Tally.{Tally}
+use Rattle.format.specs.declared.tally.Tally.{Tally}
 use Rattle.format.proofs.Forests.{sound_parts}
 use Rattle.format.proofs.Standing.{bytes_adds, nodes_adds, one_some}
 use Rattle.index.specs.Nodes.{Written, written_by}

@@ -8,7 +8,7 @@ use Rattle.format.specs.Readings.{fold_alone}
 use Rattle.format.specs.Meaning.{Means}
 use Rattle.index.specs.Nodes.{Written, written, StandsIn, nodes_of, written_by}
 use Rattle.index.specs.Index.{index_of, is_index}
-use Rattle.index.specs.declared.Found.{Found}
+use Rattle.index.specs.Numbers.{Found}
 
 -- A refusal, all values 0.
 abbrev pub not_found : (refusal place : ℕ) → Found

@@ -3,7 +3,7 @@ use Rattle.std.specs.Prelude.{Bool, true, false, cond, ◌&&◌, ◌||◌, List,
 use Rattle.format.specs.Forest.{Forest, end, step, group, repeat, nodes, bytes}
 use Rattle.format.specs.Tree.{tree_of}
 use Rattle.format.specs.Machine.{Outcome, refused, accepted}
-use Rattle.index.specs.declared.Indexed.{Indexed}
+use Rattle.index.specs.Numbers.{Indexed}
 
 -- For each outermost item, n plus what the items before it measure.
 unfoldable pub sums : (measure : Forest → ℕ) → (n : ℕ) → Forest → List ℕ

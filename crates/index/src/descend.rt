@@ -18,33 +18,35 @@ pub fn descend(s: &[u8], from: usize, position: usize) -> usize
 {
     let mut at = from;
     let mut n = position;
+    // Stays: the way goes from command to command, into a body or past it, which no range or iterator steps over.
     while at < s.len() {
-        let c = s[at];
-        if c == Format::GROUP_END {
-            at += 1;
-        } else if c == Format::REPEAT {
-            let body = pass_sequence(
-                s,
-                Spot {
-                    at: at + 5,
-                    nodes: 0,
-                },
-            );
-            let one = body.nodes;
-            let all = operand(s, at + 1) * one;
-            if n < all {
-                n = n % one;
-                at += 5;
-            } else {
-                n -= all;
-                at = body.at + 1;
+        match s[at] {
+            Format::GROUP_END => at += 1,
+            Format::REPEAT => {
+                let body = pass_sequence(
+                    s,
+                    Spot {
+                        at: at + 5,
+                        nodes: 0,
+                    },
+                );
+                let one = body.nodes;
+                let all = operand(s, at + 1) * one;
+                if n < all {
+                    n %= one;
+                    at += 5;
+                } else {
+                    n -= all;
+                    at = body.at + 1;
+                }
             }
-        } else {
-            if n == 0 {
-                return at;
+            _ => {
+                if n == 0 {
+                    return at;
+                }
+                n -= 1;
+                at += 2;
             }
-            n -= 1;
-            at += 2;
         }
     }
     // Not reached: the node looked for comes before the end.

@@ -6,7 +6,7 @@ ghost use Rattle.format.specs.Limits.{limits};
 ghost use Rattle.format.specs.Forest.{Forest};
 ghost use Rattle.index.specs.inner.Passing.{SequenceFrom, ItemFrom, HolderFrom, PassedOver};
 
-use format::Format;
+use format::{Format, closes};
 use walk::operand;
 
 // How far the fold is passed over, and the nodes counted on the way.
@@ -35,20 +35,13 @@ pub fn pass_sequence(s: &[u8], w: Spot) -> Spot
     ensures { (f : Forest) → SequenceFrom s.now w f → PassedOver w f result }
 {
     let mut p = w;
-    while p.at < s.len() {
-        let at = p.at;
-        let c = s[at];
-        if c == Format::STEP {
-            p = past_step(p);
+    // Stays: each item says where the next one starts, which no range or iterator steps over.
+    while p.at < s.len() && !closes(s[p.at]) {
+        p = if s[p.at] == Format::STEP {
+            past_step(p)
         } else {
-            if c == Format::GROUP_END {
-                return p;
-            }
-            if c == Format::REPEAT_END {
-                return p;
-            }
-            p = pass_holder(s, p);
-        }
+            pass_holder(s, p)
+        };
     }
     p
 }

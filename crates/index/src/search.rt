@@ -9,6 +9,7 @@ pub fn last_up_to(entries: &[u32], n: usize) -> usize
 {
     let mut low = 0;
     let mut high = entries.len();
+    // Stays: partition_point asks for entries that rise, which this function does not ask of its callers.
     while 1 < high - low {
         let middle = low + (high - low) / 2;
         if entries[middle] as usize <= n {

@@ -52,12 +52,8 @@ later_copy (suc n) x j k e f =
     let g : j < length (times n x) = omega (arith, length-append x (times n x)) in
     rw (← e) (get_or-append-add x (times n x) j 0 ∙ sym (get_or-append (times n x) x 0 j g) ∙ rw (times_last n x))
 
--- The part from `start` to `to` is being copied on behind `to`, `more` times and byte by byte: reading is at `from`, writing
--- one copy ahead of it, at i.
-pub record Copying (before : List ℕ) (start to more : ℕ) (now : List ℕ) (from i : ℕ) : Type 0 where
-  pub begun : start ≤ from
-  pub ahead : from + (to - start) ≡ i
-  pub within : i ≤ to + more * (to - start)
+-- The part from `start` to `to` is being copied on behind `to`, `more` times and byte by byte, as far as i.
+pub record Copying (before : List ℕ) (start to more : ℕ) (now : List ℕ) (i : ℕ) : Type 0 where
   pub list : now ≡ sets before to (take (i - to) (times more (drop start (take to before))))
   pub kept : length now ≡ length before
 
@@ -74,19 +70,19 @@ module _ (before : List ℕ) (start to more : ℕ) (order : start ≤ to) (fits 
   copies_length : length (times more source) ≡ more * (to - start)
   copies_length = length_times more source ∙ rw source_length
 
-  pub copying_none : Copying before start to more before start to
+  pub copying_none : Copying before start to more before to
   copying_none =
       let e : to - to ≡ 0 = omega arith in
-      record { begun = omega arith; ahead = omega arith; within = omega arith; list = rw e; kept = refl }
+      record { list = rw e; kept = refl }
 
-  module _ {now : List ℕ} {from i : ℕ} (z : Copying before start to more now from i) where
+  module _ {now : List ℕ} {i : ℕ} (z : Copying before start to more now i) where
     pub copying_all : to + more * (to - start) ≤ i → now ≡ sets before to (times more (drop start (take to before)))
     unfolding source
     copying_all e = z.list ∙ rw (take_all (i - to) (times more source) (omega (arith, copies_length)))
 
-    module _ (left : i < to + more * (to - start)) where
+    module _ (reached : to ≤ i) (left : i < to + more * (to - start)) where
       -- Where something is left to copy, a copy is not empty.
-      some : start < to
+      pub some : start < to
       some = by_order (dec_le to start)
         where
           by_order : Dec (to ≤ start) → start < to
@@ -102,6 +98,10 @@ module _ (before : List ℕ) (start to more : ℕ) (order : start ≤ to) (fits 
       written_length : length written ≡ i - to
       unfolding written
       written_length = length-take-le (i - to) (times more source) (omega (arith, copies_length))
+
+      -- What is read is one copy behind.
+      abbrev from : ℕ
+      from = i - (to - start)
 
       -- What is read at a turn is what has to be written: in the first copy it is the source's byte, and later the byte that
       -- was written one copy before.
@@ -121,14 +121,11 @@ module _ (before : List ℕ) (start to more : ℕ) (order : start ≤ to) (fits 
               (first_copy more source (i - to) (omega (arith, source_length)) (omega (arith, copies_length))
               ∙ rw (get_or-drop start (take to before) (i - to) 0, e) (get_or-take to before from 0 (omega arith)))
 
-      pub copying_more : Copying before start to more (set now i (get_or now from 0)) (from + 1) (i + 1)
+      pub copying_more : Copying before start to more (set now i (get_or now from 0)) (i + 1)
       unfolding source written
       copying_more =
-          let e : i + 1 - to ≡ suc (i - to) = omega (arith, some) in
+          let e : i + 1 - to ≡ suc (i - to) = omega arith in
           record {
-            begun = omega arith;
-            ahead = omega arith;
-            within = omega arith;
             list =
                 rw (reads_right, z.list, e, take-suc (times more source) (i - to) 0 (omega (arith, copies_length)))
                 (sym (sets_append written (get_or (times more source) (i - to) 0 ∷ []) before to i (omega (arith, written_length))));

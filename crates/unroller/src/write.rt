@@ -7,7 +7,7 @@ ghost use Rattle.format.specs.Forest.{Forest};
 ghost use Rattle.format.specs.Machine.{times};
 ghost use Rattle.unroller.specs.inner.Writing.{SequenceFrom, ItemFrom, PassedOver};
 
-use format::Format;
+use format::{Format, closes};
 use walk::operand;
 
 // How far the fold is read, and how far the output is written.
@@ -25,12 +25,8 @@ fn copy_on(out: &mut [u8], start: usize, to: usize, more: usize) -> usize
     ensures out_after { out.new ≡ sets out.old to (times more (drop start (take to out.old))) }
 {
     let end = to + more * (to - start);
-    let mut from = start;
-    let mut i = to;
-    while i < end {
-        out[i] = out[from];
-        from += 1;
-        i += 1;
+    for i in to..end {
+        out[i] = out[i - (to - start)];
     }
     end
 }
@@ -42,15 +38,8 @@ pub fn put_sequence(s: &[u8], out: &mut [u8], w: Place) -> Place
     ensures { (f : Forest) → SequenceFrom s.now (length out.old) w f → PassedOver out.old out.new w f result }
 {
     let mut p = w;
-    while p.at < s.len() {
-        let at = p.at;
-        let c = s[at];
-        if c == Format::GROUP_END {
-            return p;
-        }
-        if c == Format::REPEAT_END {
-            return p;
-        }
+    // Stays: each item says where the next one starts, which no range or iterator steps over.
+    while p.at < s.len() && !closes(s[p.at]) {
         p = put_item(s, out, p);
     }
     p

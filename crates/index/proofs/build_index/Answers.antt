@@ -1,47 +1,25 @@
 -- `build_index` meets its contract: a refusal leaves both slices as they were, and else they hold the index.
-use Rattle.std.proofs.Common.{false, arith}
-use Rattle.format.specs.Readings.{fold_alone}
-use Rattle.format.proofs.Alone.{alone_some}
-use Rattle.format.proofs.Answered.{answered_accepted}
-use Rattle.index.proofs.Accepted.{accepted_fold}
-use Rattle.index.proofs.Answers.{offsets_too_short, before_too_short, index_written}
+use Rattle.std.proofs.Common.{arith}
+use Rattle.std.proofs.lemmas.Result.{err_from_is_err_and}
+use Rattle.index.proofs.Answers.{index_refused, too_short_either, index_written}
 use Rattle.index.proofs.build_index.Goals as goal
 
-pub count_entries-entries-requires : goal.count_entries-entries-requires
-count_entries-entries-requires c =
+pub returns-in_err-read_alone : goal.returns-in_err-read_alone
+returns-in_err-read_alone c =
     let a = c.args in
-    let s = a.fold.now in
-    let y = answered_accepted (fold_alone s) c.read_alone-m.result c.read_alone-m.ensures (alone_some false s) c.if-m-ne0.false in
-    (accepted_fold s (λ i. (c.type_inv.fold i).fits) y.tally y.text y.reading).was_read
+    let p = err_from_is_err_and c.from_residual.result c.from_residual.ensures.1 in
+    let said = index_refused a.fold.now a.offsets.now a.before.now _ c.in_err-read_alone.ensures in
+    record { answered = rw (p.1, p.2) said.0; offsets_written = said.1.0; before_written = said.1.1 }
 
-pub returns-then-offsets-entries-clause-answered : goal.returns-then-offsets-entries-clause-answered
-returns-then-offsets-entries-clause-answered c =
+pub returns-then-offsets-entries : goal.returns-then-offsets-entries
+returns-then-offsets-entries c =
     let a = c.args in
-    let s = a.fold.now in
-    let y = answered_accepted (fold_alone s) c.read_alone-m.result c.read_alone-m.ensures (alone_some false s) c.if-m-ne0.false in
-    (offsets_too_short s a.offsets.now a.before.now y.tally y.text y.reading (omega (arith, c.if-offsets-entries.true, c.count_entries-entries.ensures))).0
-
-pub returns-then-before-entries : goal.returns-then-before-entries
-returns-then-before-entries c =
-    let a = c.args in
-    let s = a.fold.now in
-    let y = answered_accepted (fold_alone s) c.read_alone-m.result c.read_alone-m.ensures (alone_some false s) c.if-m-ne0.false in
-    let e = c.count_entries-entries.ensures in
-    let said = before_too_short s a.offsets.now a.before.now y.tally y.text y.reading (omega (arith, c.if-offsets-entries.false, e)) (omega (arith, c.if-before-entries.true, e)) in
-    record { answered = said.0; offsets_written = said.1.0; before_written = said.1.1 }
-
-pub write_entries-requires-clause-was_read : goal.write_entries-requires-clause-was_read
-write_entries-requires-clause-was_read c =
-    let a = c.args in
-    let s = a.fold.now in
-    let y = answered_accepted (fold_alone s) c.read_alone-m.result c.read_alone-m.ensures (alone_some false s) c.if-m-ne0.false in
-    (accepted_fold s (λ i. (c.type_inv.fold i).fits) y.tally y.text y.reading).was_read
+    let said = too_short_either a.fold.now a.offsets.now a.before.now _ c.in_ok-read_alone.ensures (rw c.count_entries-entries.ensures at c.then-offsets-entries.either) in
+    record { answered = rw c.at.ensures said.0; offsets_written = said.1.0; before_written = said.1.1 }
 
 pub returns : goal.returns
 returns c =
     let a = c.args in
-    let s = a.fold.now in
-    let y = answered_accepted (fold_alone s) c.read_alone-m.result c.read_alone-m.ensures (alone_some false s) c.if-m-ne0.false in
     let e = c.count_entries-entries.ensures in
-    let said = index_written s a.offsets.now a.before.now y.tally y.text y.reading (omega (arith, c.if-offsets-entries.false, e)) (omega (arith, c.if-before-entries.false, e)) c.write_entries.ensures.offsets_after c.write_entries.ensures.before_after in
+    let said = index_written a.fold.now a.offsets.now a.before.now _ c.in_ok-read_alone.ensures (omega (arith, c.if-offsets-entries.false, e)) (omega (arith, c.if-before-entries.false, e)) c.write_entries.ensures.offsets_after c.write_entries.ensures.before_after in
     record { answered = rw e said.0; offsets_written = said.1.0; before_written = said.1.1 }

@@ -1,14 +1,8 @@
 -- What the inner functions of the unroller promise: they walk over the byte form of a tree and write the bytes that it
 -- unrolls to.
-use Rattle.std.specs.Prelude.{◌≡◌, List, ℕ, ◌+◌, ◌≤◌, length, take}
+use Rattle.std.specs.Prelude.{◌≡◌, List, ℕ, ◌+◌, ◌≤◌, length}
 use Rattle.std.proofs.lemmas.List.Edits.{sets}
-use Rattle.format.specs.Forest.{Forest, bytes, unroll, at_most}
-use Rattle.format.specs.Readings.{as_fold_reading, measured_by}
-use Rattle.format.specs.Output.{written_answer, written_output}
-use Rattle.format.specs.Meaning.{MeansIn}
-use Rattle.format.specs.declared.Limits.{Limits}
-use Rattle.format.specs.declared.FoldReading.{FoldReading}
-use Rattle.format.specs.declared.Written.{Written}
+use Rattle.format.specs.Forest.{Forest, bytes, unroll}
 use Rattle.format.specs.inner.Standing.{SequenceAt, ItemAt}
 use Rattle.unroller.specs.declared.write.Place.{Place}
 
@@ -27,13 +21,3 @@ pub record PassedOver (before after : List ℕ) (w : Place) (f : Forest) (r : Pl
   pub passed : r.at ≡ w.at + length (bytes f)
   pub reached : r.to ≡ w.to + length (bytes (unroll f))
   pub output : after ≡ sets before w.to (bytes (unroll f))
-
--- What the reader answered about a fold at limits and a width limit, without costs.
-pub record ReadingOf (L : Limits) (s : List ℕ) (k : ℕ) (m : FoldReading) : Type 0 where
-  pub read : m ≡ as_fold_reading (measured_by L s k)
-
--- What the unroller answers and writes, by its contract.
-pub record Unrolled (L : Limits) (s : List ℕ) (k : ℕ) (before after : List ℕ) (r : Written) : Type 0 where
-  pub answered : r ≡ written_answer (measured_by L s k) (length before)
-  pub written : after ≡ written_output (measured_by L s k) before
-  pub meant : r.refusal ≡ 0 → MeansIn L (at_most k) s (take r.length after)

@@ -1,11 +1,7 @@
 -- The entries of the items passed are the first of both slices.
-use Prim.Native.Nat.{◌-◌}
 use lib.ListN.{length}
 use Rattle.index.proofs.Outermost.{Comparing}
 use Rattle.index.proofs.compare.is_index.Given as goal
 
-abbrev pub invariant-loop-p : goal.invariant-loop-p
-invariant-loop-p l = Comparing l.s l.p l.i l.offsets l.before
-
-abbrev pub decreases-loop-p : goal.decreases-loop-p
-decreases-loop-p l = length l.s - l.p.at
+abbrev pub invariant-loop-offset : goal.invariant-loop-offset
+invariant-loop-offset l = Comparing l.s l.p (length l.yielded) l.offsets l.before

@@ -1,5 +1,7 @@
 -- The walk that counts meets its contracts: what the laws of Passing.antt say of each item.
 use Rattle.std.proofs.Common.{◌≢◌, refl, get_or, arith}
+use Rattle.std.proofs.lemmas.Bool.Decides.{nat_tests}
+use Rattle.walk.specs.Walk.{NoClose}
 use Rattle.format.proofs.Standing.{more_before_close, item_there, item_node}
 use Rattle.index.proofs.Passing.{step_passed, node_few, group_inside, group_next, group_passed, its_repeat, repeat_inside, repeat_next, repeat_few, repeat_passed, walked_none, walked_ended, item, walked_item, walked_further, walked_more}
 use Rattle.index.proofs.pass.+pass.Goals as goal
@@ -52,41 +54,41 @@ pub pass_sequence-past_step-p-requires : goal.pass_sequence-past_step-p-requires
 pass_sequence-past_step-p-requires t c =
     let z = c.requires.1 in
     let a = c.loop-p.invariant c.requires.0 z in
-    let i = walked_item a (more_before_close a.along z.stands.ends c.loop-p-test.true (omega (arith, c.if-c-eq-STEP.true)) (omega (arith, c.if-c-eq-STEP.true))) in
-    let no_repeat : get_or c.args.s.now c.loop-p.p.at 0 ≢ 0x20 = omega (arith, c.if-c-eq-STEP.true) in
+    let i = walked_item a (more_before_close a.along z.stands.ends c.loop-p-test.true (omega (arith, c.if-s-p-eq-STEP.true)) (omega (arith, c.if-s-p-eq-STEP.true))) in
+    let no_repeat : get_or c.args.s.now c.loop-p.p.at 0 ≢ 0x20 = omega (arith, c.if-s-p-eq-STEP.true) in
     (omega (arith, item_node i.stands no_repeat), omega (arith, node_few i no_repeat))
 
-pub pass_sequence-loop-p-preserved-then-c-eq-STEP : goal.pass_sequence-loop-p-preserved-then-c-eq-STEP
-pass_sequence-loop-p-preserved-then-c-eq-STEP t c =
+pub pass_sequence-loop-p-preserved-then-s-p-eq-STEP : goal.pass_sequence-loop-p-preserved-then-s-p-eq-STEP
+pass_sequence-loop-p-preserved-then-s-p-eq-STEP t c =
     λ f z. let a = c.loop-p.invariant f z in
-    let m = more_before_close a.along z.stands.ends c.loop-p-test.true (omega (arith, c.if-c-eq-STEP.true)) (omega (arith, c.if-c-eq-STEP.true)) in
-    walked_more a m (rw c.past_step-p.ensures (step_passed (walked_item a m) c.if-c-eq-STEP.true))
-
-pub pass_sequence-returns-then-c-eq-GROUP_END : goal.pass_sequence-returns-then-c-eq-GROUP_END
-pass_sequence-returns-then-c-eq-GROUP_END t c = λ f z. walked_ended (c.loop-p.invariant f z) (λ _. omega (arith, c.if-c-eq-GROUP_END.true))
-
-pub pass_sequence-returns-then-c-eq-REPEAT_END : goal.pass_sequence-returns-then-c-eq-REPEAT_END
-pass_sequence-returns-then-c-eq-REPEAT_END t c = λ f z. walked_ended (c.loop-p.invariant f z) (λ _. omega (arith, c.if-c-eq-REPEAT_END.true))
+    let m = more_before_close a.along z.stands.ends c.loop-p-test.true (omega (arith, c.if-s-p-eq-STEP.true)) (omega (arith, c.if-s-p-eq-STEP.true)) in
+    walked_more a m (rw c.past_step-p.ensures (step_passed (walked_item a m) c.if-s-p-eq-STEP.true))
 
 pub pass_sequence-pass_holder-p-requires : goal.pass_sequence-pass_holder-p-requires
 pass_sequence-pass_holder-p-requires t c =
     let z = c.requires.1 in
     let a = c.loop-p.invariant c.requires.0 z in
-    let m = more_before_close a.along z.stands.ends c.loop-p-test.true c.if-c-eq-GROUP_END.false c.if-c-eq-REPEAT_END.false in
-    (omega (arith, a.along.passed), (_, record { item = walked_item a m; no_step = c.if-c-eq-STEP.false }))
+    let no_close : NoClose c.args.s.now c.loop-p.p.at = grind (arith, nat_tests) in
+    let m = more_before_close a.along z.stands.ends c.loop-p-test.true no_close.no_group_end no_close.no_repeat_end in
+    (omega (arith, a.along.passed), (item a m, record { item = walked_item a m; no_step = c.if-s-p-eq-STEP.false }))
 
 pub pass_sequence-loop-p-smaller : goal.pass_sequence-loop-p-smaller
 pass_sequence-loop-p-smaller t c =
     let z = c.requires.1 in
     let a = c.loop-p.invariant c.requires.0 z in
-    let m = more_before_close a.along z.stands.ends c.loop-p-test.true c.if-c-eq-GROUP_END.false c.if-c-eq-REPEAT_END.false in
-    omega (arith, walked_further a m (c.pass_holder-p.ensures (item a m) (record { item = walked_item a m; no_step = c.if-c-eq-STEP.false })))
+    let no_close : NoClose c.args.s.now c.loop-p.p.at = grind (arith, nat_tests) in
+    let m = more_before_close a.along z.stands.ends c.loop-p-test.true no_close.no_group_end no_close.no_repeat_end in
+    omega (arith, walked_further a m (c.pass_holder-p.ensures (item a m) (record { item = walked_item a m; no_step = c.if-s-p-eq-STEP.false })))
 
 pub pass_sequence-loop-p-preserved : goal.pass_sequence-loop-p-preserved
 pass_sequence-loop-p-preserved t c =
     λ f z. let a = c.loop-p.invariant f z in
-    let m = more_before_close a.along z.stands.ends c.loop-p-test.true c.if-c-eq-GROUP_END.false c.if-c-eq-REPEAT_END.false in
-    walked_more a m (c.pass_holder-p.ensures (item a m) (record { item = walked_item a m; no_step = c.if-c-eq-STEP.false }))
+    let no_close : NoClose c.args.s.now c.loop-p.p.at = grind (arith, nat_tests) in
+    let m = more_before_close a.along z.stands.ends c.loop-p-test.true no_close.no_group_end no_close.no_repeat_end in
+    walked_more a m (c.pass_holder-p.ensures (item a m) (record { item = walked_item a m; no_step = c.if-s-p-eq-STEP.false }))
 
-pub pass_sequence-returns : goal.pass_sequence-returns
-pass_sequence-returns t c = λ f z. walked_ended (c.loop-p.invariant f z) (λ there. absurd (omega (arith, c.loop-p-test.false, there)))
+pub pass_sequence-returns-else-not-closes : goal.pass_sequence-returns-else-not-closes
+pass_sequence-returns-else-not-closes t c = λ f z. walked_ended (c.loop-p.invariant f z) (λ _. grind (arith, nat_tests))
+
+pub pass_sequence-returns-after-loop-p : goal.pass_sequence-returns-after-loop-p
+pass_sequence-returns-after-loop-p t c = λ f z. walked_ended (c.loop-p.invariant f z) (λ there. absurd (omega (arith, c.loop-p-test.false, there)))

@@ -1,5 +1,7 @@
 -- The walk that writes meets its contracts: what the laws of Places.antt and Walks.antt say of each item.
-use Rattle.std.proofs.Common.{arith}
+use Rattle.std.proofs.Common.{arith, rules}
+use Rattle.std.proofs.lemmas.Bool.Decides.{nat_tests}
+use Rattle.walk.specs.Walk.{NoClose}
 use lib.ListN.{length-set}
 use Rattle.format.proofs.Standing.{item_there, item_node, more_before_close}
 use Rattle.unroller.proofs.Places.{node_fits, its_repeat, repeat_inside}
@@ -70,32 +72,32 @@ put_item-returns t c = λ f i. group_put c.args.out.now i c.if-c-eq-REPEAT.false
 pub put_sequence-loop-p-init : goal.put_sequence-loop-p-init
 put_sequence-loop-p-init t c = λ f z. writing_none c.args.out.now z
 
-pub put_sequence-returns-then-c-eq-GROUP_END : goal.put_sequence-returns-then-c-eq-GROUP_END
-put_sequence-returns-then-c-eq-GROUP_END t c = λ f i. writing_ends (c.loop-p.invariant f i) (λ _. omega (arith, c.if-c-eq-GROUP_END.true))
-
-pub put_sequence-returns-then-c-eq-REPEAT_END : goal.put_sequence-returns-then-c-eq-REPEAT_END
-put_sequence-returns-then-c-eq-REPEAT_END t c = λ f i. writing_ends (c.loop-p.invariant f i) (λ _. omega (arith, c.if-c-eq-REPEAT_END.true))
-
 -- Where no close stands there is a next item of whatever sequence stands at the beginning.
 pub put_sequence-put_item-p-requires : goal.put_sequence-put_item-p-requires
 put_sequence-put_item-p-requires t c =
     let z = c.requires.1 in
     let a = c.loop-p.invariant c.requires.0 z in
-    let m = more_before_close a.along z.stands.ends c.loop-p-test.true (λ e. omega arith) (λ e. omega arith) in
-    (omega (arith, a.put.passed), (_, writing_item a m))
+    let no_close : NoClose c.args.s.now c.loop-p.p.at = grind (arith, nat_tests) in
+    let m = more_before_close a.along z.stands.ends c.loop-p-test.true no_close.no_group_end no_close.no_repeat_end in
+    (omega (arith, a.put.passed), (item a m, writing_item a m))
 
 pub put_sequence-loop-p-smaller : goal.put_sequence-loop-p-smaller
 put_sequence-loop-p-smaller t c =
     let z = c.requires.1 in
     let a = c.loop-p.invariant c.requires.0 z in
-    let m = more_before_close a.along z.stands.ends c.loop-p-test.true (λ e. omega arith) (λ e. omega arith) in
+    let no_close : NoClose c.args.s.now c.loop-p.p.at = grind (arith, nat_tests) in
+    let m = more_before_close a.along z.stands.ends c.loop-p-test.true no_close.no_group_end no_close.no_repeat_end in
     omega (arith, writing_further a m (c.put_item-p.ensures (item a m) (writing_item a m)))
 
 pub put_sequence-loop-p-preserved : goal.put_sequence-loop-p-preserved
 put_sequence-loop-p-preserved t c =
     λ f z. let a = c.loop-p.invariant f z in
-    let m = more_before_close a.along z.stands.ends c.loop-p-test.true (λ e. omega arith) (λ e. omega arith) in
+    let no_close : NoClose c.args.s.now c.loop-p.p.at = search rules in
+    let m = more_before_close a.along z.stands.ends c.loop-p-test.true no_close.no_group_end no_close.no_repeat_end in
     writing_more a m (c.put_item-p.ensures (item a m) (writing_item a m))
 
-pub put_sequence-returns : goal.put_sequence-returns
-put_sequence-returns t c = λ f i. writing_ends (c.loop-p.invariant f i) (λ e. absurd (omega (arith, c.loop-p-test.false)))
+pub put_sequence-returns-else-not-closes : goal.put_sequence-returns-else-not-closes
+put_sequence-returns-else-not-closes t c = λ f i. writing_ends (c.loop-p.invariant f i) (λ _. grind (arith, nat_tests))
+
+pub put_sequence-returns-after-loop-p : goal.put_sequence-returns-after-loop-p
+put_sequence-returns-after-loop-p t c = λ f i. writing_ends (c.loop-p.invariant f i) (λ e. absurd (omega (arith, c.loop-p-test.false)))
