@@ -5,7 +5,7 @@
 ghost use Rattle.std.specs.Prelude.{◌≡◌, length};
 ghost use Rattle.prices.specs.Prices.{price_list};
 
-use format::{Format, wide_cost};
+use format::Format;
 
 // The list has an entry for each count from 0 up to the most nodes that a run can have.
 #[derive(Clone, Copy)]
@@ -15,19 +15,18 @@ impl PriceList {
     pub const LENGTH: usize = Format::NODES + 1;
 }
 
+// Stays: beside the list that the folder makes, whose promises do not cite this definition yet.
 // Puts the list of repeat prices into a lent one, whatever that held: entries 0 and 1 are 0, and from 2 on entry h is
 // first + each × (h − 2).
 pub fn prepare(first: u16, each: u16, prices: &mut [u64])
     requires { length prices.old ≡ 1025 }
     ensures { prices.new ≡ price_list first each }
 {
-    let two = wide_cost(first);
-    let more = wide_cost(each);
+    let two = u64::from(first);
+    let more = u64::from(each);
     prices[0] = 0;
     prices[1] = 0;
-    let mut h: usize = 2;
-    while h < PriceList::LENGTH {
+    for h in 2..PriceList::LENGTH {
         prices[h] = two + more * ((h - 2) as u64);
-        h += 1;
     }
 }

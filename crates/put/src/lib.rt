@@ -35,14 +35,16 @@ fn put_two(out: &mut [u8], at: usize, n: usize)
     requires { (at + 2 ≤ most_bytes) × (n < 65536) }
     ensures { out.new ≡ sets out.old at (two_bytes n []) }
 {
-    put_byte(out, at, (n / 256) as u8);
-    put_byte(out, at + 1, (n % 256) as u8);
+    let [high, low] = (n as u16).to_be_bytes();
+    put_byte(out, at, high);
+    put_byte(out, at + 1, low);
 }
 
 // Writes one byte where the output has that place, and nothing past its end.
 pub fn put_byte(out: &mut [u8], at: usize, b: u8)
     ensures { out.new ≡ set out.old at b }
 {
+    // Stays: with `get_mut` the proof does not close, since the clause says nothing of the slice after the write.
     if at < out.len() {
         out[at] = b;
     }

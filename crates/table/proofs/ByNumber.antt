@@ -1,7 +1,7 @@
 -- What a listing of a run's nodes says of each sibling of a sequence, and of what a group in it holds.
 use mathlib.Core.Path.{◌≡◌, refl, ap, ◌∙◌}
 use mathlib.Core.List.{List, ◌∷◌}
-use Prim.Native.Nat.{ℕ, ◌+◌, ◌-◌, ◌<◌, ◌≤◌}
+use Prim.Native.Nat.{ℕ, ◌+◌, ◌-◌, ◌<◌}
 use native.Mathlib.Omega.{arith}
 use lib.ListN.{length, get_or, length-append}
 use Rattle.format.specs.Forest.{Forest, end, step, group, repeat, Plain, join, siblings, nodes, form_in, bytes, Allowed}
@@ -112,8 +112,3 @@ span_inside places nexts A span t r h i k g f e q b inside u v w =
       numbered = omega arith;
       few = omega (arith, h.few, h.numbered, number_within span.behind i t);
     }
-
--- The span of a whole run of n nodes.
-pub span_whole : (places nexts : List ℕ) (t : Forest) (n : ℕ) → nodes t ≡ n → n ≤ 1024 → NodesListed places nexts 0 0 t
-    → SpanListed places nexts (record { start = 0; first = n; behind = 0 }) t
-span_whole places nexts t n e few h = record { listed = h; numbered = omega arith; few = few }

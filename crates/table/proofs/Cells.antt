@@ -48,7 +48,3 @@ cell_same p q p' q' h h' e = by_order (dec_lt q q') (dec_lt q' q)
         let z : q ≡ q' = omega arith in
         let f : cell p q ≡ cell p' q = rw z (rw z at e) in
         (omega arith, z)
-
--- At most 1,024 nodes.
-pub product_most : (m n : ℕ) → m ≤ 1024 → n ≤ 1025 → m * n ≤ 1049600
-product_most m n h l = mul-le-mul h l

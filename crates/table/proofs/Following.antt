@@ -11,7 +11,8 @@ use Rattle.optimum.specs.Cheapest.{Run}
 use Rattle.optimum.proofs.Cut.{front_whole, siblings_le_nodes}
 use Rattle.table.specs.Table.{number}
 use Rattle.table.specs.Listing.{Spelled, Placed, Numbered}
-use Rattle.table.specs.Nodes.{NodesListed, Reached}
+use Rattle.table.specs.Nodes.{NodesListed, SpanListed, Reached}
+use Rattle.table.specs.declared.nodes.Span.{Span}
 use Rattle.table.proofs.Listings.{entry_more, place}
 use Rattle.table.proofs.Tables.{number_within, number_first, number_last, number_fall}
 use Rattle.table.proofs.ByNumber.{listed_place, listed_next}
@@ -62,6 +63,11 @@ pub reached_end : (s : List ℕ) → Spelled s → (b i q : ℕ) → Reached b (
 reached_end s z b i q w h =
     let r = z.run (at_most 0) in
     ap length (sym z.form) ∙ rw (front_whole i (tree_of s) r.plain (sym (reached_all (at_most 0) b (tree_of s) r i q w h)))
+
+-- In a listed span the numbers are below those that a list of nodes has.
+pub span_few : {places nexts s : List ℕ} {span : Span} {q i : ℕ} → Spelled s → SpanListed places nexts span (tree_of s)
+    → Reached span.behind (tree_of s) i q → q ≤ 1024
+span_few z l w = omega (arith, reached_within (at_most 0) _ _ (z.run (at_most 0)) _ _ w, l)
 
 -- The first m siblings are listed, and the next one has the number q.
 pub record Followed (b : ℕ) (t : Forest) (offsets numbers : List ℕ) (m q : ℕ) : Type 0 where

@@ -14,7 +14,7 @@ use Rattle.format.proofs.Marks.{one}
 use Rattle.format.proofs.Tree.{bytes_injective}
 use Rattle.optimum.specs.Cheapest.{Run, front, back, node, FreeCopy}
 use Rattle.optimum.proofs.Cut.{join_cut, front_add, back_back, siblings_back, run_back}
-use Rattle.table.specs.Listing.{Spelled, FirstEqual, marked_from, ClassOf, free, alone, Classed}
+use Rattle.table.specs.Listing.{Spelled, FirstEqual, marked_from, ClassOf, free, alone}
 
 -- A list filled from the front: what holds of the first m entries, and of the one put next, holds of the first m + 1.
 pub entry_more : (P : ℕ → ℕ → Type 0) (xs : List ℕ) (m v : ℕ) → m < length xs → ((i : ℕ) → i < m → P i (get_or xs i 0)) → P m v
@@ -82,6 +82,10 @@ module _ (s : List ℕ) (z : Spelled s) where
       (take_at (bytes (node i (tree_of s))) (bytes (back (i + 1) (tree_of s))) (e - a) (omega (arith, place_next i (tree_of s))))
 
   module _ (i : ℕ) (h : i < siblings (tree_of s)) where
+    -- The bounds of its part are in order, and within the bytes.
+    pub part_bounds : (a e : ℕ) → a ≡ place i (tree_of s) → e ≡ place (i + 1) (tree_of s) → (a ≤ e) × (e ≤ length s)
+    part_bounds a e p q = (omega (arith, place_next i (tree_of s)), omega (arith, place_most (i + 1)))
+
     pub sibling_long : place i (tree_of s) + 2 ≤ place (i + 1) (tree_of s)
     sibling_long =
         let left : 0 < siblings (back i (tree_of s)) = omega (arith, siblings_back i (tree_of s) run_any.plain (omega arith)) in
@@ -135,22 +139,10 @@ marked_part m t s p e = rw (e, ← append-nil (bytes t)) (marked_bytes m t [] p 
 abbrev pub None : Forest → (i j : ℕ) → Type 0
 None t i j = (k : ℕ) → k < j → node k t ≡ node i t → ⊥
 
--- One whose class is an earlier one need not be compared.
-pub none_again : (m : ℕ → Bool) (t : Forest) (i j r : ℕ) → ClassOf m t j r → (r ≡ j → ⊥) → None t i j → node j t ≡ node i t → ⊥
-none_again m t i j r (free u f) z none e = none r (omega (arith, f.early)) (f.equal ∙ e)
-none_again m t i j r (alone u f) z none e = z f
-
 pub first_found : (t : Forest) (i j : ℕ) (x y : List ℕ) → j < i → x ≡ bytes (node j t) → y ≡ bytes (node i t) → x ≡ y → None t i j
     → FirstEqual t i j
 first_found t i j x y h p q e none =
     record { early = omega arith; equal = bytes_injective (node j t) (node i t) (sym p ∙ e ∙ q); first = none }
-
-pub first_itself : (t : Forest) (i : ℕ) → None t i i → FirstEqual t i i
-first_itself t i none = record { early = omega arith; equal = refl; first = none }
-
-pub class_early : (m : ℕ → Bool) (t : Forest) (i r : ℕ) → ClassOf m t i r → r ≤ i
-class_early m t i r (free u f) = f.early
-class_early m t i r (alone u e) = omega arith
 
 -- Two siblings have one class exactly where they are equal and free.
 module _ (m : ℕ → Bool) (t : Forest) (i j p q : ℕ) where
@@ -176,10 +168,3 @@ module _ (m : ℕ → Bool) (t : Forest) (i j p q : ℕ) where
   kinds_equal (free u f) (free v g) e = first_order f g e.same
   kinds_equal (free u f) (alone v g) e = absurd (true≢false (sym v ∙ rw (← e.same) e.unmarked))
   kinds_equal (alone u f) c e = absurd (true≢false (sym u ∙ e.unmarked))
-
-pub classed_none : (m : ℕ → Bool) (t : Forest) (kinds : List ℕ) → Classed m t 0 kinds
-classed_none m t kinds = record { class = λ i h. absurd (omega arith) }
-
-pub classed_more : (m : ℕ → Bool) (t : Forest) (i r : ℕ) (kinds : List ℕ) → i < length kinds → Classed m t i kinds → ClassOf m t i r
-    → Classed m t (i + 1) (set kinds i r)
-classed_more m t i r kinds h c f = record { class = entry_more (ClassOf m t) kinds i r h c.class f }

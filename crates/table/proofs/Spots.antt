@@ -48,24 +48,24 @@ module _ (run : List ℕ) (w : Spot) (t : Forest) (rest : List ℕ) (form : drop
   from_label : drop (w.at + 2) run ≡ drop 2 (bytes t ++ rest)
   from_label = sym (drop-drop 2 w.at run) ∙ rw form
 
-module _ (run : List ℕ) (w : Spot) (b : ℕ) where
-  -- Where bytes are left and none of them closes the sequence, a node is.
-  not_end : (rest : List ℕ) → Closed rest → drop w.at run ≡ bytes end ++ rest → w.at < length run → get_or run w.at 0 ≡ 0x12
-  unfolding form_in
-  not_end [] k form h = absurd (omega (arith, remain run w end [] form))
-  not_end (c ∷ s) k form h = first_byte run w end (c ∷ s) form ∙ k
+-- Where bytes are left and none of them closes the sequence, a node is.
+not_end : (run : List ℕ) (w : Spot) (rest : List ℕ) → Closed rest → drop w.at run ≡ bytes end ++ rest → w.at < length run → get_or run w.at 0 ≡ 0x12
+unfolding form_in
+not_end run w [] k form h = absurd (omega (arith, remain run w end [] form))
+not_end run w (c ∷ s) k form h = first_byte run w end (c ∷ s) form ∙ k
 
+module _ {run : List ℕ} {w : Spot} {b : ℕ} where
   pub node_there : (t : Forest) → SequenceAt run w b t → w.at < length run → get_or run w.at 0 ≢ 0x12
       → (w.at + 2 ≤ length run) × (1 ≤ w.number)
   unfolding form_in nodes
-  node_there end z h k = absurd (k (not_end z.rest z.closed z.form h))
+  node_there end z h k = absurd (k (not_end run w z.rest z.closed z.form h))
   node_there (step l f) z h k = (omega (arith, remain run w (step l f) z.rest z.form), omega (arith, z.numbered))
   node_there (group l g f) z h k = (omega (arith, remain run w (group l g f) z.rest z.form), omega (arith, z.numbered))
   node_there (repeat m v g f) z h k = absurd z.plain
 
   pub step_at : (t : Forest) → SequenceAt run w b t → w.at < length run → get_or run w.at 0 ≡ 0x10 → StepAt run w b t
   unfolding form_in nodes
-  step_at end z h k = absurd (omega (arith, not_end z.rest z.closed z.form h))
+  step_at end z h k = absurd (omega (arith, not_end run w z.rest z.closed z.form h))
   step_at (step l f) z h k =
       record {
         label = l;
@@ -85,7 +85,7 @@ module _ (run : List ℕ) (w : Spot) (b : ℕ) where
   pub group_at : (t : Forest) → SequenceAt run w b t → w.at < length run → get_or run w.at 0 ≢ 0x12 → get_or run w.at 0 ≢ 0x10
       → GroupAt run w b t
   unfolding form_in nodes
-  group_at end z h k e = absurd (k (not_end z.rest z.closed z.form h))
+  group_at end z h k e = absurd (k (not_end run w z.rest z.closed z.form h))
   group_at (step l f) z h k e = absurd (e (first_byte run w (step l f) z.rest z.form))
   group_at (group l g f) z h k e =
       let inner : drop (w.at + 2) run ≡ bytes g ++ (0x12 ∷ (bytes f ++ z.rest)) =
@@ -269,7 +269,7 @@ along_none run places nexts w b t z =
       ahead = z;
     }
 
-module _ (run places₀ nexts₀ places nexts : List ℕ) (w p : Spot) (b : ℕ) (t : Forest) (a : Along run places₀ nexts₀ places nexts w p b t) where
+module _ {run places₀ nexts₀ places nexts : List ℕ} {w p : Spot} {b : ℕ} {t : Forest} (a : Along run places₀ nexts₀ places nexts w p b t) where
   -- The numbers fall.
   along_within : p.number ≤ w.number
   along_within = omega (arith, a.total, a.over.reached, ap nodes a.split, nodes_join a.done a.left)
@@ -277,7 +277,7 @@ module _ (run places₀ nexts₀ places nexts : List ℕ) (w p : Spot) (b : ℕ)
   pub along_ends : (p.at < length run → get_or run p.at 0 ≡ 0x12) → ListedOver places₀ nexts₀ places nexts w b t p
   unfolding nodes
   along_ends h =
-      let e = ended_at run p b a.left a.ahead h in
+      let e = ended_at a.left a.ahead h in
       let m : a.done ≡ t = sym (join_end a.done) ∙ ap (join a.done) (sym e) ∙ a.split in
       let c : b + nodes a.left ≡ b = rw e (omega arith) in
       rw (m, c) at a.over
@@ -308,7 +308,7 @@ module _ (run places₀ nexts₀ places nexts : List ℕ) (w p : Spot) (b : ℕ)
         → Along run places₀ nexts₀ (set places p.number p.at) (set nexts p.number (p.number - 1)) w (behind_label p) b t
     unfolding join nodes
     along_step k =
-        let s = step_at run p b a.left a.ahead there k in
+        let s = step_at a.left a.ahead there k in
         along_node (set places p.number p.at) (set nexts p.number (p.number - 1)) (behind_label p) (step s.label end) s.rest tt
         (sym s.is)
         (over_step places nexts p s.label (b + nodes s.rest) (omega (arith, a.ahead.numbered, ap nodes s.is)) (omega (arith, along_room))
@@ -317,19 +317,20 @@ module _ (run places₀ nexts₀ places nexts : List ℕ) (w p : Spot) (b : ℕ)
 
     module _ (k : get_or run p.at 0 ≢ 0x12) (e : get_or run p.at 0 ≢ 0x10) where
       along_group_at : GroupAt run p b a.left
-      along_group_at = group_at run p b a.left a.ahead there k e
+      along_group_at = group_at a.left a.ahead there k e
 
-      module _ (places' nexts' : List ℕ) (r : Spot)
+      module _ {places' nexts' : List ℕ} {r : Spot}
           (o : (c : ℕ) (g : Forest) → SequenceAt run (behind_label p) c g
           → ListedOver (set places p.number p.at) nexts places' nexts' (behind_label p) c g r) where
         inner : ListedOver (set places p.number p.at) nexts places' nexts' (behind_label p) (b + nodes along_group_at.rest) along_group_at.held r
         inner = o (b + nodes along_group_at.rest) along_group_at.held along_group_at.inside
 
-        pub along_close : (r.at + 1 ≤ length run) × (p.at < r.at) × (length nexts' ≡ 1025)
+        pub along_close : (r.at + 1 ≤ length run) × (p.at < r.at) × (r.number ≤ 1024)
+        unfolding nodes
         along_close = (
           omega (arith, inner.passed, along_group_at.there),
           omega (arith, inner.passed),
-          omega (arith, along_room, inner.kept_nexts.same_length),
+          omega (arith, along_room, inner.reached, a.ahead.numbered, ap nodes along_group_at.is),
         )
 
         pub along_group : Along run places₀ nexts₀ places' (set nexts' p.number r.number) w (behind_close r) b t

@@ -44,11 +44,6 @@ pub falling_less : {numbers : List ℕ} {m room : ℕ} (k : ℕ) → k ≤ m →
 falling_less k h r =
     record { short = omega (arith, r.short); fall = λ i j l n. r.fall i j l (omega arith); first = r.first; fits = r.fits }
 
--- A row is stored entry by entry.
-pub stored_none : (numbers : List ℕ) (i : ℕ) (row : ℕ → ℕ) (before : List ℕ) → Stored numbers i 0 row before before
-stored_none numbers i row before =
-    record { same_length = refl; entered = λ d h l. absurd (omega arith); others = λ x h. refl }
-
 pub stored_more : (numbers : List ℕ) (i m d : ℕ) (row : ℕ → ℕ) (before after : List ℕ) (k : ℕ) → m + 1 ≡ d → i + d ≤ k
     → Falling numbers k (length before) → Stored numbers i m row before after
     → Stored numbers i d row before (set after (cell (get_or numbers (i + d) 0) (get_or numbers i 0)) (row d))

@@ -18,6 +18,13 @@ pub record Placed (s : List ℕ) (offsets : List ℕ) : Type 0 where
 pub record Numbered (b : ℕ) (t : Forest) (numbers : List ℕ) : Type 0 where
   pub numbered : (i : ℕ) → i ≤ siblings t → get_or numbers i 0 ≡ number b t i
 
+-- Sibling i of the sequence that the bytes spell, where the offsets are those of all its siblings.
+pub record SiblingPlaced (s : List ℕ) (offsets : List ℕ) (i : ℕ) : Type 0 where
+  pub spelled : Spelled s
+  pub placed : Placed s offsets
+  pub within : i < siblings (tree_of s)
+  pub few : siblings (tree_of s) ≤ 1024
+
 -- r is the first sibling that equals sibling i.
 pub record FirstEqual (t : Forest) (i r : ℕ) : Type 0 where
   pub early : r ≤ i

@@ -1,16 +1,11 @@
 // The triangular table: entries of intervals of node numbers, in lent slices.
+// Stays: costs and choices are two slices and not one of pairs, since `runfold_fold` is lent two slices of 32-bit numbers.
 ghost use Rattle.std.specs.Prelude.{◌≡◌, ◌++◌, ℕ, ◌+◌, ◌/◌, ◌<◌, ◌≤◌, length, get_or, set, drop, replicate};
 ghost use Rattle.table.specs.Keys.{cost_digit, choice_digits, entry_base, stored_key};
 ghost use Rattle.format.specs.Limits.{cells};
 ghost use Rattle.table.specs.Table.{cell, entry_from, Held, Falling, Stored};
 
 use crate::keys::{choice_digits, cost_digit};
-
-pub fn widen(x: u32) -> u64
-    ensures { (result ≡ x) × (result < entry_base) }
-{
-    x as u64
-}
 
 // The entries for n nodes.
 pub fn entries(n: usize) -> usize
@@ -33,7 +28,7 @@ pub fn read_entry(w: &[u32], numbers: &[usize], q: usize, j: usize) -> u64
     requires { Held numbers.now q j (length w.now) }
     ensures { (result ≡ entry_from w.now numbers.now q j) × (result < entry_base) }
 {
-    widen(w[entry(numbers[j], q)])
+    u64::from(w[entry(numbers[j], q)])
 }
 
 // Enters a row, costs and choices by the keys: the stretches of 1 to n siblings from sibling i on.
@@ -52,13 +47,11 @@ pub fn store_row(
     ensures choices { Stored numbers.now i n (λ d. choice_digits (get_or keys.now d 0)) choices.old choices.new }
 {
     let q = numbers[i];
-    let mut d = 1;
-    while d <= n {
+    for d in 1..=n {
         let at = entry(numbers[i + d], q);
         let key = keys[d];
         costs[at] = cost_digit(key) as u32;
         choices[at] = choice_digits(key) as u32;
-        d += 1;
     }
 }
 
@@ -86,9 +79,5 @@ pub fn clear(w: &mut [u32], n: usize)
     requires { n ≤ length w.old }
     ensures { w.new ≡ replicate n 0 ++ drop n w.old }
 {
-    let mut i = 0;
-    while i < n {
-        w[i] = 0;
-        i += 1;
-    }
+    w[..n].fill(0);
 }

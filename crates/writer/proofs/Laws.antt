@@ -1,9 +1,8 @@
 -- The nodes of a sequence that are listed by their numbers: those of its first siblings, and the number that following them reaches.
 use mathlib.Core.Path.{◌≡◌}
 use mathlib.Core.List.{List}
-use Prim.Native.Nat.{ℕ, zero, suc, ◌+◌, ◌<◌, ◌≤◌}
+use Prim.Native.Nat.{ℕ, zero, suc, ◌+◌, ◌≤◌}
 use native.Mathlib.Omega.{arith}
-use lib.ListN.{length}
 use Rattle.format.specs.Forest.{Forest, siblings, nodes, Allowed}
 use Rattle.optimum.specs.Cheapest.{Run, front, back}
 use Rattle.optimum.proofs.Cut.{join_cut, run_front}
@@ -25,6 +24,6 @@ module _ (places nexts : List ℕ) (A : Allowed) (at b : ℕ) (t : Forest) (r : 
       let e : i + 1 + k ≡ i + suc k = omega arith in
       rw (listed_next places nexts A at b t r l i (omega arith)) (rw e at (listed_follow k (i + 1) (omega arith)))
 
-  pub listed_follows : (k i : ℕ) → i + k ≤ siblings t → b + nodes t < length nexts → Follows nexts (number b t i) k
+  pub listed_follows : (k i : ℕ) → i + k ≤ siblings t → b + nodes t ≤ 1024 → Follows nexts (number b t i) k
   listed_follows k i h m =
       record { within = λ j n. omega (arith, listed_follow j i (omega arith), number_within b (i + j) t) }

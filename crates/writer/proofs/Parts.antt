@@ -19,6 +19,7 @@ use Rattle.table.proofs.Cells.{cells_mono}
 use Rattle.table.proofs.Listings.{bytes_cut}
 use Rattle.table.proofs.Tables.{number_last, number_within}
 use Rattle.table.proofs.Uses.{used_from}
+use Rattle.writer.specs.declared.Source.{Source}
 use Rattle.writer.specs.Writing.{WriteReady, fold_bytes}
 use Rattle.writer.proofs.Laws.{listed_front}
 
@@ -101,14 +102,14 @@ stands_part run rest place i d t e =
     sym (drop-drop (length x) place run) ∙ ap (drop (length x)) (e ∙ cut) ∙ drop_at x y (length x) refl
 
 -- The sequence u, a stretch of that of z, by its numbers.
-pub record Part {short : Bool} {run places nexts choices : List ℕ} {first behind : ℕ} (z : WriteReady short run places nexts choices first behind) (u : Forest) (from to : ℕ) : Type 0 where
-  pub ready : WriteReady short run places nexts choices from to
-  pub same : fold_bytes ready ≡ form_in short (cheapest z.allowed z.prices_are u)
+pub record Part {source : Source} {first behind : ℕ} (z : WriteReady source first behind) (u : Forest) (from to : ℕ) : Type 0 where
+  pub ready : WriteReady source from to
+  pub same : fold_bytes ready ≡ form_in source.short (cheapest z.allowed z.prices_are u)
 
-module _ {short : Bool} {run places nexts choices : List ℕ} {first behind : ℕ} (z : WriteReady short run places nexts choices first behind) where
+module _ {source : Source} {first behind : ℕ} (z : WriteReady source first behind) where
   module _ (i d from to : ℕ) (fits : i + d ≤ siblings z.tree) (u : Used z.allowed.marked z.tree i d)
       (e : from ≡ number behind z.tree i) (e' : to ≡ number behind z.tree (i + d)) where
-    part_ready : WriteReady short run places nexts choices from to
+    part_ready : WriteReady source from to
     part_ready =
         let t = z.tree in
         let r = z.is_run z.allowed in
@@ -119,13 +120,11 @@ module _ {short : Bool} {run places nexts choices : List ℕ} {first behind : �
           is_run = λ A. run_front d (run_back i (z.is_run A));
           place = z.place + length (bytes (front i t));
           rest = bytes (back d (back i t)) ++ z.rest;
-          stands = stands_part run z.rest z.place i d t z.stands;
-          long_places = z.long_places;
-          long_nexts = z.long_nexts;
+          stands = stands_part source.run.now z.rest z.place i d t z.stands;
           listed =
               rw to_part
-              (listed_front places nexts z.allowed (z.place + length (bytes (front i t))) behind (back i t) (run_back i r)
-              (listed_back places nexts z.allowed z.place behind t r z.listed i) d);
+              (listed_front source.nodes.now.places source.nodes.now.nexts z.allowed (z.place + length (bytes (front i t))) behind (back i t) (run_back i r)
+              (listed_back source.nodes.now.places source.nodes.now.nexts z.allowed z.place behind t r z.listed i) d);
           counted = omega (arith, nodes_cut d (back i t));
           total = omega (arith, z.total, z.counted);
           room = omega (arith, z.room, cells_mono from first (omega (arith, z.counted)));

@@ -1,6 +1,5 @@
 -- The cheapest fold of a sequence as bytes: by the table's choice, what stands first and what follows it; of a node alone, by its
 -- bytes in the run.
-use mathlib.Core.Bool.{Bool}
 use mathlib.Core.Path.{◌≡◌, refl, sym, ap, ◌∙◌}
 use mathlib.Core.List.{List, [], ◌∷◌, ◌++◌, append_assoc}
 use Prim.Native.Nat.{ℕ, zero, suc, ◌+◌, ◌-◌, ◌*◌, ◌<◌, ◌≤◌}
@@ -19,13 +18,24 @@ use Rattle.table.specs.Keys.{packed, rejoined, pair_digits, count_digit, width_d
 use Rattle.table.specs.Table.{BestKey, cell, number}
 use Rattle.table.specs.Used.{to_end, itself}
 use Rattle.table.proofs.Digits.{pair_is}
-use Rattle.table.proofs.Cells.{cell_in, cells_mono}
+use Rattle.table.proofs.Cells.{cells_mono}
 use Rattle.table.proofs.Tables.{number_last, number_fall}
 use Rattle.table.proofs.Uses.{used_body, used_group}
+use Rattle.writer.specs.declared.Source.{Source}
 use Rattle.writer.specs.Writing.{WriteReady, NodeReady, fold_bytes, node_bytes, Follows, follow}
 use Rattle.put.specs.Bounds.{most_bytes}
 use Rattle.writer.proofs.Laws.{listed_follow, listed_follows}
 use Rattle.writer.proofs.Parts.{body_part, rest_part}
+
+-- Command and label of the node of number q, as they stand in the run, and the number that comes next at its level.
+abbrev pub command : (source : Source) (q : ℕ) → ℕ
+command source q = get_or source.run.now (get_or source.nodes.now.places q 0) 0
+
+abbrev pub label : (source : Source) (q : ℕ) → ℕ
+label source q = get_or source.run.now (get_or source.nodes.now.places q 0 + 1) 0
+
+abbrev pub next_of : (source : Source) (q : ℕ) → ℕ
+next_of source q = get_or source.nodes.now.nexts q 0
 
 module _ (A : Allowed) (P : Prices) where
   cheapest_end : cheapest A P end ≡ end
@@ -92,10 +102,10 @@ no_nodes (step l f) p e = absurd (omega arith)
 no_nodes (group l g f) p e = absurd (omega arith)
 no_nodes (repeat k w g f) p e = absurd p
 
-module _ {short : Bool} {run places nexts choices : List ℕ} {first behind : ℕ} (z : WriteReady short run places nexts choices first behind) where
+module _ {source : Source} {first behind : ℕ} (z : WriteReady source first behind) where
   pub fold_small : length (fold_bytes z) ≤ most_bytes
   fold_small =
-      omega (arith, cheapest_short z.allowed z.prices_are short z.tree (z.is_run z.allowed), z.counted, z.total)
+      omega (arith, cheapest_short z.allowed z.prices_are source.short z.tree (z.is_run z.allowed), z.counted, z.total)
 
   pub fold_none : first ≤ behind → fold_bytes z ≡ []
   unfolding form_in
@@ -106,22 +116,22 @@ module _ {short : Bool} {run places nexts choices : List ℕ} {first behind : �
   few = omega (arith, siblings_le_nodes z.tree (z.is_run z.allowed).plain, z.counted, z.total)
 
 -- The plain node first, and what follows it.
-pub record Plainly {short : Bool} {run places nexts choices : List ℕ} {q : ℕ} (n : NodeReady short run places nexts choices q) : Type 0 where
-  pub rest : WriteReady short run places nexts choices (get_or nexts q 0) n.behind
-  pub falls : get_or nexts q 0 < q
+pub record Plainly {source : Source} {q : ℕ} (n : NodeReady source q) : Type 0 where
+  pub rest : WriteReady source (next_of source q) n.behind
+  pub falls : next_of source q < q
   pub spelled : fold_bytes n.ready ≡ node_bytes n ++ fold_bytes rest
 
 -- A repeat first: its body, which ends at the number `stop`, and what follows it.
-pub record Repeated {short : Bool} {run places nexts choices : List ℕ} {q : ℕ} (n : NodeReady short run places nexts choices q) (h w stop : ℕ) : Type 0 where
+pub record Repeated {source : Source} {q : ℕ} (n : NodeReady source q) (h w stop : ℕ) : Type 0 where
   pub wide : w ≤ h * w
-  pub body : WriteReady short run places nexts choices q stop
+  pub body : WriteReady source q stop
   pub ahead : n.behind < stop
-  pub to_rest : Follows nexts stop (h * w - w)
-  pub rest : WriteReady short run places nexts choices (follow nexts stop (h * w - w)) n.behind
-  pub falls : follow nexts stop (h * w - w) < q
-  pub spelled : fold_bytes n.ready ≡ opening short h w (fold_bytes body ++ 0x21 ∷ fold_bytes rest)
+  pub to_rest : Follows source.nodes.now.nexts stop (h * w - w)
+  pub rest : WriteReady source (follow source.nodes.now.nexts stop (h * w - w)) n.behind
+  pub falls : follow source.nodes.now.nexts stop (h * w - w) < q
+  pub spelled : fold_bytes n.ready ≡ opening source.short h w (fold_bytes body ++ 0x21 ∷ fold_bytes rest)
 
-module _ {short : Bool} {run places nexts choices : List ℕ} {q : ℕ} (n : NodeReady short run places nexts choices q) where
+module _ {source : Source} {q : ℕ} (n : NodeReady source q) where
   abbrev A : Allowed
   A = n.ready.allowed
 
@@ -140,16 +150,13 @@ module _ {short : Bool} {run places nexts choices : List ℕ} {q : ℕ} (n : Nod
   some : 0 < size
   some = some_siblings tree is_run.plain (omega (arith, n.ready.counted, n.some))
 
-  pub node_cell : cell n.behind q < length choices
-  node_cell = omega (arith, cell_in n.behind q q n.some (omega arith), n.ready.room)
-
   -- Sibling k as it is followed, and from there on.
   followed : (i k q' : ℕ) → i + k ≤ size → q' ≡ number n.behind tree i
-      → (follow nexts q' k ≡ number n.behind tree (i + k)) × Follows nexts q' k
+      → (follow source.nodes.now.nexts q' k ≡ number n.behind tree (i + k)) × Follows source.nodes.now.nexts q' k
   followed i k q' h e =
       let z = n.ready in (
-        rw e (listed_follow places nexts A z.place n.behind tree is_run z.listed k i h),
-        rw e (listed_follows places nexts A z.place n.behind tree is_run z.listed k i h (omega (arith, z.counted, z.total, z.long_nexts))),
+        rw e (listed_follow source.nodes.now.places source.nodes.now.nexts A z.place n.behind tree is_run z.listed k i h),
+        rw e (listed_follows source.nodes.now.places source.nodes.now.nexts A z.place n.behind tree is_run z.listed k i h (omega (arith, z.counted, z.total))),
       )
 
   first_number : q ≡ number n.behind tree 0
@@ -158,18 +165,18 @@ module _ {short : Bool} {run places nexts choices : List ℕ} {q : ℕ} (n : Nod
 
   -- A repeat that may stand first, and that does.
   module _ (h w : ℕ) (p : Power A tree h w) where
-    body_number : follow nexts q w ≡ number n.behind tree w
+    body_number : follow source.nodes.now.nexts q w ≡ number n.behind tree w
     body_number =
         let zero_w : 0 + w ≡ w = omega arith in
         rw zero_w at (followed 0 w q (omega (arith, reach p)) first_number).0
 
     spelled_power : Least A P usual (best_cost A P) tree h w
-        → (x y : List ℕ) → x ≡ form_in short (cheapest A P (front w tree)) → y ≡ form_in short (cheapest A P (back (h * w) tree))
-        → fold_bytes n.ready ≡ opening short h w (x ++ 0x21 ∷ y)
+        → (x y : List ℕ) → x ≡ form_in source.short (cheapest A P (front w tree)) → y ≡ form_in source.short (cheapest A P (back (h * w) tree))
+        → fold_bytes n.ready ≡ opening source.short h w (x ++ 0x21 ∷ y)
     unfolding form_in
-    spelled_power l x y e f = ap (form_in short) (cheapest_power A P tree h w is_run (few n.ready) p.repeats.twice l) ∙ rw (e, f)
+    spelled_power l x y e f = ap (form_in source.short) (cheapest_power A P tree h w is_run (few n.ready) p.repeats.twice l) ∙ rw (e, f)
 
-    powered : (stop : ℕ) → stop ≡ follow nexts q w → Least A P usual (best_cost A P) tree h w → Repeated n h w stop
+    powered : (stop : ℕ) → stop ≡ follow source.nodes.now.nexts q w → Least A P usual (best_cost A P) tree h w → Repeated n h w stop
     unfolding back
     powered stop e l =
         let x = reach p in
@@ -177,10 +184,10 @@ module _ {short : Bool} {run places nexts choices : List ℕ} {q : ℕ} (n : Nod
         let all : w + (h * w - w) ≡ h * w = omega arith in
         let to : stop ≡ number b tree w = e ∙ body_number in
         let g = followed w (h * w - w) stop (omega arith) to in
-        let from : follow nexts stop (h * w - w) ≡ number b tree (h * w) = rw all at g.0 in
+        let from : follow source.nodes.now.nexts stop (h * w - w) ≡ number b tree (h * w) = rw all at g.0 in
         let used = used_body 0 size h w is_run (omega arith) (rw (front_whole size tree is_run.plain refl) p) in
         let body = body_part n.ready w stop (omega arith) used to in
-        let rest = rest_part n.ready (h * w) (follow nexts stop (h * w - w)) x.covers from in
+        let rest = rest_part n.ready (h * w) (follow source.nodes.now.nexts stop (h * w - w)) x.covers from in
         record {
           wide = omega arith;
           body = body.ready;
@@ -192,8 +199,8 @@ module _ {short : Bool} {run places nexts choices : List ℕ} {q : ℕ} (n : Nod
         }
 
   -- The table's pair.
-  module _ (c : ℕ) (e : c ≡ pair_digits (get_or choices (cell n.behind q) 0)) where
-    entry : (cost : ℕ) × BestKey A P tree (rejoined cost (get_or choices (cell n.behind q) 0))
+  module _ (c : ℕ) (e : c ≡ pair_digits (get_or source.choices.now (cell n.behind q) 0)) where
+    entry : (cost : ℕ) × BestKey A P tree (rejoined cost (get_or source.choices.now (cell n.behind q) 0))
     unfolding back
     entry =
         let b = n.behind in
@@ -211,14 +218,14 @@ module _ {short : Bool} {run places nexts choices : List ℕ} {q : ℕ} (n : Nod
     node_plain h =
         let b = n.behind in
         let x = entry.1 in
-        let next : get_or nexts q 0 ≡ number b tree 1 = (followed 0 1 q (omega (arith, some)) first_number).0 in
-        let rest = rest_part n.ready 1 (get_or nexts q 0) (omega (arith, some)) next in
+        let next : next_of source q ≡ number b tree 1 = (followed 0 1 q (omega (arith, some)) first_number).0 in
+        let rest = rest_part n.ready 1 (next_of source q) (omega (arith, some)) next in
         record {
           rest = rest.ready;
           falls = omega (arith, number_fall A b 0 1 tree is_run (omega arith) (omega (arith, some)), first_number);
           spelled =
-              ap (form_in short) (cheapest_plain A P tree is_run (few n.ready) (least_plain A P tree x.count x.width (omega (arith, is_pair)) x.least))
-              ∙ form_join short (cheapest A P (front 1 tree)) (cheapest A P (back 1 tree))
+              ap (form_in source.short) (cheapest_plain A P tree is_run (few n.ready) (least_plain A P tree x.count x.width (omega (arith, is_pair)) x.least))
+              ∙ form_join source.short (cheapest A P (front 1 tree)) (cheapest A P (back 1 tree))
               ∙ rw rest.same;
         }
 
@@ -233,10 +240,10 @@ module _ {short : Bool} {run places nexts choices : List ℕ} {q : ℕ} (n : Nod
       is_width : width_digit c ≡ entry.1.width
       is_width = let r = reach chosen in omega (arith, is_pair, few n.ready)
 
-      pub node_body : (w : ℕ) → w ≡ width_digit c → Follows nexts q w
+      pub node_body : (w : ℕ) → w ≡ width_digit c → Follows source.nodes.now.nexts q w
       node_body w e = let r = reach chosen in rw (e, is_width) (followed 0 entry.1.width q (omega arith) first_number).1
 
-      pub node_power : (h w stop : ℕ) → h ≡ count_digit c → w ≡ width_digit c → stop ≡ follow nexts q w → Repeated n h w stop
+      pub node_power : (h w stop : ℕ) → h ≡ count_digit c → w ≡ width_digit c → stop ≡ follow source.nodes.now.nexts q w → Repeated n h w stop
       node_power h w stop d e f =
           rw (d, e, is_count, is_width)
           (powered entry.1.count entry.1.width chosen stop (rw (e, is_width) at f) entry.1.least)
@@ -271,25 +278,25 @@ form_of (group l g f) p h = a_group l g f refl
 form_of (repeat k w g f) p h = absurd p
 
 -- A group alone: what it holds is a sequence with the numbers between its own and the next one's.
-pub record Grouped {short : Bool} {run places nexts choices : List ℕ} {q : ℕ} (n : NodeReady short run places nexts choices q) : Type 0 where
-  pub inside : WriteReady short run places nexts choices (q - 1) (get_or nexts q 0)
-  pub spelled : node_bytes n ≡ get_or run (get_or places q 0) 0 ∷ get_or run (get_or places q 0 + 1) 0 ∷ fold_bytes inside ++ 0x12 ∷ []
-  pub falls : get_or nexts q 0 < q
+pub record Grouped {source : Source} {q : ℕ} (n : NodeReady source q) : Type 0 where
+  pub inside : WriteReady source (q - 1) (next_of source q)
+  pub spelled : node_bytes n ≡ command source q ∷ label source q ∷ fold_bytes inside ++ 0x12 ∷ []
+  pub falls : next_of source q < q
 
-module _ {short : Bool} {run places nexts choices : List ℕ} {q : ℕ} (n : NodeReady short run places nexts choices q) where
+module _ {source : Source} {q : ℕ} (n : NodeReady source q) where
   abbrev at : ℕ
-  at = get_or places q 0
+  at = get_or source.nodes.now.places q 0
 
   form : Form n.ready.tree
   form = form_of n.ready.tree (n.ready.is_run n.ready.allowed).plain (omega (arith, n.ready.counted, n.some))
 
   module _ (l : ℕ) (f : Forest) (e : n.ready.tree ≡ step l f) where
-    at_step : Two run at 0x10 l (bytes f ++ n.ready.rest)
+    at_step : Two source.run.now at 0x10 l (bytes f ++ n.ready.rest)
     unfolding form_in nodes
     at_step =
         let here : q ≡ n.behind + (1 + nodes f) = n.ready.counted ∙ ap (λ (t : Forest). n.behind + nodes t) e in
         let placed : at ≡ n.ready.place = rw (← here) at (rw e at n.ready.listed).0.0 in
-        two_at run at 0x10 l (bytes f ++ n.ready.rest) (rw placed (n.ready.stands ∙ rw e))
+        two_at source.run.now at 0x10 l (bytes f ++ n.ready.rest) (rw placed (n.ready.stands ∙ rw e))
 
     spelled_step : node_bytes n ≡ 0x10 ∷ l ∷ []
     unfolding front form_in
@@ -300,33 +307,31 @@ module _ {short : Bool} {run places nexts choices : List ℕ} {q : ℕ} (n : Nod
     unfolding nodes
     here = n.ready.counted ∙ ap (λ (t : Forest). n.behind + nodes t) e
 
-    next : get_or nexts q 0 ≡ n.behind + nodes f
+    next : next_of source q ≡ n.behind + nodes f
     next = rw (← here) at (rw e at n.ready.listed).0.1
 
     placed : at ≡ n.ready.place
     placed = rw (← here) at (rw e at n.ready.listed).0.0
 
-    at_group : Two run at 0x11 l ((bytes g ++ 0x12 ∷ bytes f) ++ n.ready.rest)
+    at_group : Two source.run.now at 0x11 l ((bytes g ++ 0x12 ∷ bytes f) ++ n.ready.rest)
     unfolding form_in
-    at_group = two_at run at 0x11 l ((bytes g ++ 0x12 ∷ bytes f) ++ n.ready.rest) (rw placed (n.ready.stands ∙ rw e))
+    at_group = two_at source.run.now at 0x11 l ((bytes g ++ 0x12 ∷ bytes f) ++ n.ready.rest) (rw placed (n.ready.stands ∙ rw e))
 
-    spelled_group : node_bytes n ≡ 0x11 ∷ l ∷ form_in short (cheapest n.ready.allowed n.ready.prices_are g) ++ 0x12 ∷ []
+    spelled_group : node_bytes n ≡ 0x11 ∷ l ∷ form_in source.short (cheapest n.ready.allowed n.ready.prices_are g) ++ 0x12 ∷ []
     unfolding front form_in
     spelled_group =
         rw (e, cheapest_group n.ready.allowed n.ready.prices_are l g (run_front 1 (rw e at (n.ready.is_run n.ready.allowed))))
 
-    inside_ready : WriteReady short run places nexts choices (q - 1) (get_or nexts q 0)
+    inside_ready : WriteReady source (q - 1) (next_of source q)
     unfolding back
     inside_ready =
-        let after : number n.behind n.ready.tree 1 ≡ get_or nexts q 0 = ap (λ (t : Forest). number n.behind t 1) e ∙ sym next in
+        let after : number n.behind n.ready.tree 1 ≡ next_of source q = ap (λ (t : Forest). number n.behind t 1) e ∙ sym next in
         record {
           tree = g;
           is_run = λ A. run_body (rw e at (n.ready.is_run A));
           place = at + 2;
           rest = 0x12 ∷ bytes f ++ n.ready.rest;
           stands = at_group.behind ∙ append_assoc (bytes g) (0x12 ∷ bytes f) n.ready.rest;
-          long_places = n.ready.long_places;
-          long_nexts = n.ready.long_nexts;
           listed = rw (next, placed) (rw e at n.ready.listed).1;
           counted = omega (arith, here, next);
           total = omega (arith, n.ready.total);
@@ -346,10 +351,10 @@ module _ {short : Bool} {run places nexts choices : List ℕ} {q : ℕ} (n : Nod
           falls = omega (arith, here, next);
         }
 
-  pub node_start : get_or places q 0 + 2 ≤ length run
+  pub node_start : get_or source.nodes.now.places q 0 + 2 ≤ length source.run.now
   node_start = by_form form
     where
-      by_form : Form n.ready.tree → at + 2 ≤ length run
+      by_form : Form n.ready.tree → at + 2 ≤ length source.run.now
       by_form (a_step l f e) = omega (arith, (at_step l f e).size)
       by_form (a_group l g f e) = omega (arith, (at_group l g f e).size)
 
@@ -360,14 +365,14 @@ module _ {short : Bool} {run places nexts choices : List ℕ} {q : ℕ} (n : Nod
       by_form (a_step l f e) = omega (arith, ap length (spelled_step l f e))
       by_form (a_group l g f e) = omega (arith, ap length (spelled_group l g f e))
 
-  pub node_step : get_or run (get_or places q 0) 0 ≡ 0x10 → node_bytes n ≡ get_or run (get_or places q 0) 0 ∷ get_or run (get_or places q 0 + 1) 0 ∷ []
+  pub node_step : command source q ≡ 0x10 → node_bytes n ≡ command source q ∷ label source q ∷ []
   node_step h = by_form form
     where
-      by_form : Form n.ready.tree → node_bytes n ≡ get_or run at 0 ∷ get_or run (at + 1) 0 ∷ []
+      by_form : Form n.ready.tree → node_bytes n ≡ get_or source.run.now at 0 ∷ get_or source.run.now (at + 1) 0 ∷ []
       by_form (a_step l f e) = spelled_step l f e ∙ rw ((at_step l f e).first, (at_step l f e).second)
       by_form (a_group l g f e) = absurd (omega (arith, (at_group l g f e).first))
 
-  pub node_group : (get_or run (get_or places q 0) 0 ≡ 0x10 → ⊥) → Grouped n
+  pub node_group : (command source q ≡ 0x10 → ⊥) → Grouped n
   node_group h = by_form form
     where
       by_form : Form n.ready.tree → Grouped n

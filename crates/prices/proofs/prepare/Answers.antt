@@ -9,10 +9,9 @@ loop-h-init c = upto_two c.args.first c.args.each c.args.prices.now c.requires
 pub loop-h-preserved : goal.loop-h-preserved
 loop-h-preserved c =
     let a = c.args in
-    upto_more a.first a.each c.loop-h.h c.loop-h.prices c.loop-h.invariant (omega (arith, c.loop-h-test.true))
-    _ _ c.wide_cost-two.ensures.0 c.wide_cost-more.ensures.0
+    upto_more a.first a.each c.loop-h.h c.loop-h.prices c.loop-h.invariant (omega arith) _ _ c.from-two.ensures c.from-more.ensures
 
 pub returns : goal.returns
 returns c =
     let a = c.args in
-    upto_all a.first a.each c.loop-h.h c.loop-h.prices c.loop-h.invariant (omega (arith, c.loop-h-test.false))
+    upto_all a.first a.each c.loop-h.h c.loop-h.prices c.loop-h.invariant (omega arith)

@@ -6,10 +6,6 @@ use Rattle.table.proofs.triangle.store_row.Given as goal
 
 abbrev pub invariant-loop-d : goal.invariant-loop-d
 invariant-loop-d l =
-    (1 ≤ l.d)
-    × (l.d ≤ l.n + 1)
+    (l.d ≤ l.n + 1)
     × Stored l.numbers l.i (l.d - 1) (λ e. cost_digit (get_or l.keys e 0)) l.initial.costs l.costs
     × Stored l.numbers l.i (l.d - 1) (λ e. choice_digits (get_or l.keys e 0)) l.initial.choices l.choices
-
-abbrev pub decreases-loop-d : goal.decreases-loop-d
-decreases-loop-d l = l.n + 1 - l.d
