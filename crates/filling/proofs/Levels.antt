@@ -3,19 +3,18 @@ use mathlib.Core.Path.{◌≡◌, refl, ◌∙◌}
 use mathlib.Core.List.{List}
 use Prim.Native.Nat.{ℕ, ◌+◌, ◌-◌, ◌<◌, ◌≤◌}
 use native.Mathlib.Omega.{arith}
-use lib.ListN.{length, get_or, set, replicate}
+use lib.ListN.{length, get_or, set}
 use lib.Seq.{get_or-set_same, get_or-set_other}
 use Rattle.format.specs.Forest.{siblings, nodes, at_most}
-use Rattle.format.proofs.Lists.{zeros}
 use Rattle.format.specs.Tree.{tree_of}
 use Rattle.optimum.specs.Cheapest.{Run, back}
 use Rattle.optimum.proofs.Cut.{siblings_le_nodes, siblings_back}
 use Rattle.format.specs.Limits.{cells, allowed}
-use Rattle.solver.specs.Rows.{Matches, Growing, Drawn, RowHeld, RowReady, RowEntered, KeysReady, TailsReady}
+use Rattle.solver.specs.Rows.{Matches, Growing, Drawn, RowHeld, RowReady, RowEntered}
 use Rattle.solver.proofs.Extents.{extending_more}
-use Rattle.filling.specs.Filling.{Below, Filled, counted_of, Single, LevelReady, Scratch}
+use Rattle.filling.specs.Filling.{Below, Filled, counted_of, Single, LevelReady}
 use Rattle.table.specs.Table.{Kept, KeptOthers, Falling, Stored}
-use Rattle.table.specs.Listing.{Spelled, Placed, Numbered, Classed}
+use Rattle.table.specs.Listing.{Numbered, Classed}
 use Rattle.solver.specs.declared.row.Row.{Row}
 use Rattle.solver.specs.declared.matches.Source.{Source}
 use Rattle.filling.proofs.Steps.{Known, known_none, tailing_more, stopping_more}
@@ -27,22 +26,6 @@ pub siblings_few : {s : List ℕ} {b limit : ℕ} {steps groups prices costs cho
     → siblings (tree_of s) ≤ 1024
 siblings_few {s} {limit = limit} ready =
     omega (arith, siblings_le_nodes (tree_of s) (ready.spelled.run (at_most limit)).plain, ready.total)
-
--- Arrays of zeros are ready to work in.
-pub scratch_none : Scratch (replicate 1025 0) (replicate 1025 0) (replicate 1025 0) (replicate 1025 0) (replicate 1025 0) (replicate 1025 0)
-    (replicate 1025 0) (replicate 1025 0) (replicate 1025 0)
-scratch_none =
-    record {
-      long_offsets = refl;
-      long_numbers = refl;
-      long_kinds = refl;
-      long_matches = refl;
-      long_extents = refl;
-      tails_ready = record { long = refl; low = λ j. omega (arith, zeros 1025 j) };
-      long_stops = refl;
-      long_seen = refl;
-      keys_ready = record { long = refl; low = λ c. omega (arith, zeros 1025 c) };
-    }
 
 -- The loop from the last sibling to the first: what is known of the rows from sibling i on, and the matches from there on.
 pub record Descended (s : List ℕ) (b limit : ℕ) (steps groups marks prices costs₀ choices₀ : List ℕ) (i : ℕ) (costs choices matches extents tails stops : List ℕ) : Type 0 where
@@ -92,21 +75,13 @@ module _ {s : List ℕ} {b limit : ℕ} {steps groups prices costs₀ choices₀
         stored_kept (allowed limit marks) b (tree_of s) numbers j (m - j) run (omega arith) numbered.numbered f before after
 
     -- What cost and repeats of that sibling by itself rest on.
-    pub own_asks : {offsets : List ℕ} → (length offsets ≡ 1025) × Placed s offsets
-        → Spelled s
-        × (((length offsets ≡ 1025) × Placed s offsets)
-        × (((j < siblings (tree_of s)) × (siblings (tree_of s) ≤ 1024))
-        × ((Falling numbers (siblings (tree_of s)) (length costs) × Falling numbers (siblings (tree_of s)) (length choices))
-        × Numbered (get_or numbers (siblings (tree_of s)) 0) (tree_of s) numbers)))
-    own_asks placed = (
-      ready.spelled,
-      (
-        placed,
-        (
-          (omega arith, siblings_few ready),
-          ((rw all (falling ready.cost_room d.kept_costs), rw all (falling ready.choice_room d.kept_choices)), rw last numbered),
-        ),
-      ),
+    pub own_asks : ((j < siblings (tree_of s)) × (siblings (tree_of s) ≤ 1024))
+        × (Falling numbers (siblings (tree_of s)) (length costs) × Falling numbers (siblings (tree_of s)) (length choices))
+        × Numbered (get_or numbers (siblings (tree_of s)) 0) (tree_of s) numbers
+    own_asks = (
+      (omega arith, siblings_few ready),
+      (rw all (falling ready.cost_room d.kept_costs), rw all (falling ready.choice_room d.kept_choices)),
+      rw last numbered,
     )
 
     module _ {own : ℕ} {kinds matches' : List ℕ} (g : Source) (single : Single s steps groups costs choices numbers j own)
@@ -148,14 +123,8 @@ module _ {s : List ℕ} {b limit : ℕ} {steps groups prices costs₀ choices₀
             drawn = drawn;
           }
 
-      pub row_asks : (seen : List ℕ) {keys : List ℕ} → KeysReady keys → TailsReady tails → length stops ≡ 1025 → length seen ≡ 1025
-          → RowHeld costs choices numbers row
-          × ((KeysReady keys × TailsReady tails × (length matches' ≡ 1025) × (length stops ≡ 1025) × (length seen ≡ 1025))
-          × RowReady costs choices numbers row prices matches' tails stops)
-      row_asks seen ready-keys ready-tails long_stops long_seen = (
-        (falling ready.cost_room d.kept_costs, falling ready.choice_room d.kept_choices),
-        ((ready-keys, ready-tails, grown.long, long_stops, long_seen), row_ready),
-      )
+      pub row_asks : RowHeld costs choices numbers row × RowReady costs choices numbers row prices matches' tails stops
+      row_asks = ((falling ready.cost_room d.kept_costs, falling ready.choice_room d.kept_choices), row_ready)
 
       -- The row entered: one more sibling is done, and nothing but stretches of this sequence has changed.
       pub descended_more : {costs' choices' tails' stops' : List ℕ} → length extents ≡ 1025 → length tails ≡ 1025 → length stops ≡ 1025

@@ -193,8 +193,6 @@ module _ {places nexts s : List â„•} {level : Level} {steps groups prices costsâ
                   prepared = l.prepared;
                 };
                 listed = record {
-                  long_places = z.long_places;
-                  long_nexts = z.long_nexts;
                   listed =
                       rw here_tree
                       (span_inside places nexts A level.span t run z.listed w.i h.label h.children h.rest h.stands q

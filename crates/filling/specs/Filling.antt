@@ -1,4 +1,4 @@
--- What filling the table rests on, the prices, one sequence and the lent arrays that it is worked in, and what is then entered.
+-- What filling the table rests on, the prices and one sequence, and what is then entered.
 use Rattle.std.specs.Prelude.{◌≡◌, List, ℕ, ◌+◌, ◌-◌, ◌*◌, ◌<◌, ◌≤◌, length, get_or}
 use Rattle.format.specs.Limits.{Prices, cells, allowed}
 use Rattle.format.specs.Forest.{Forest, end, step, group, repeat, Allowed, siblings, nodes}
@@ -10,7 +10,7 @@ use Rattle.table.specs.Table.{Kept}
 use Rattle.table.specs.Listing.{Spelled}
 use Rattle.table.specs.Nodes.{SpanListed}
 use Rattle.table.specs.Used.{UsedEntered}
-use Rattle.solver.specs.Rows.{Priced, KeysReady, TailsReady}
+use Rattle.solver.specs.Rows.{Priced}
 use Rattle.filling.specs.declared.level.Level.{Level}
 
 -- The prices that the two cost tables and a list of repeat prices give.
@@ -56,8 +56,6 @@ pub record LevelReady (s : List ℕ) (b limit : ℕ) (steps groups prices costs 
 
 -- The nodes of the run are listed, and among them the sequence, where the level says that it stands.
 pub record LevelListed (places nexts s : List ℕ) (level : Level) : Type 0 where
-  pub long_places : length places ≡ 1025
-  pub long_nexts : length nexts ≡ 1025
   pub listed : SpanListed places nexts level.span (tree_of s)
 
 -- Where what the group of number q holds stands, and the width limit: from the group's first node on, which the next lower number has.
@@ -79,15 +77,3 @@ LevelKept s level before after = Kept level.span.behind (nodes (tree_of s)) befo
 pub record Single (s steps groups costs choices numbers : List ℕ) (i r : ℕ) : Type 0 where
   pub costs_it : (A : Allowed) (P : Prices) → ((l : ℕ) → P.of_step l ≡ get_or steps l 0 * factor) → ((l : ℕ) → P.of_group l ≡ get_or groups l 0 * factor)
       → nodes (tree_of s) ≤ 1024 → Below A P (get_or numbers (siblings (tree_of s)) 0) (tree_of s) costs choices → r ≡ best_cost A P (node i (tree_of s))
-
--- The lent arrays that every sequence is worked in, one after the other.
-pub record Scratch (offsets numbers kinds matches extents tails stops seen keys : List ℕ) : Type 0 where
-  pub long_offsets : length offsets ≡ 1025
-  pub long_numbers : length numbers ≡ 1025
-  pub long_kinds : length kinds ≡ 1025
-  pub long_matches : length matches ≡ 1025
-  pub long_extents : length extents ≡ 1025
-  pub tails_ready : TailsReady tails
-  pub long_stops : length stops ≡ 1025
-  pub long_seen : length seen ≡ 1025
-  pub keys_ready : KeysReady keys

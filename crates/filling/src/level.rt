@@ -1,13 +1,15 @@
 // Filling the table: the stretches of one sequence, after the sequences inside its groups.
-ghost use Rattle.std.specs.Prelude.{◌<◌, length};
+ghost use Rattle.std.specs.Prelude.{◌<◌, ◌≤◌, get_or};
 ghost use Rattle.format.specs.Limits.{allowed};
 ghost use Rattle.format.specs.Tree.{tree_of};
-ghost use Rattle.filling.specs.Filling.{Below, counted_of, LevelReady, LevelListed, LevelInside, LevelFilled, LevelKept, Scratch};
+ghost use Rattle.filling.specs.Filling.{Below, counted_of, LevelReady, LevelListed, LevelInside, LevelFilled, LevelKept};
 
 use crate::own::own_combined;
+use crate::scratch::Scratch;
+use crate::tables::Tables;
 use format::Format;
 use solver::{Row, draw, enter_row, grow};
-use table::{Span, classify, list_siblings, part_of};
+use table::{Nodes, Span};
 
 // Where a sequence stands in its run, and how wide a repeat may be.
 #[derive(Clone, Copy)]
@@ -18,47 +20,31 @@ pub struct Level {
 
 // Enters the stretches of the sequence s that a fold can use, from the last sibling to the first. The sequences inside its groups are
 // entered already.
-pub fn enter_level(
-    places: &[usize],
-    nexts: &[usize],
+fn enter_level(
+    nodes: &Nodes,
     s: &[u8],
     level: Level,
-    steps: &[u16],
-    groups: &[u16],
-    marks: &[u8],
-    prices: &[u64],
-    offsets: &mut [usize],
-    numbers: &mut [usize],
-    kinds: &mut [u16],
-    matches: &mut [u16],
-    extents: &mut [usize],
-    tails: &mut [u64],
-    stops: &mut [usize],
-    seen: &mut [usize],
-    keys: &mut [u64],
+    tables: &Tables,
+    scratch: &mut Scratch,
     costs: &mut [u32],
     choices: &mut [u32],
 )
-    requires level_ready { LevelReady s.now level.span.behind level.limit steps.now groups.now prices.now costs.old choices.old }
-    requires below { Below (allowed level.limit marks.now) (counted_of steps.now groups.now prices.now) level.span.behind (tree_of s.now) costs.old choices.old }
-    requires scratch_2 { Scratch offsets.old numbers.old kinds.old matches.old extents.old tails.old stops.old seen.old keys.old }
-    requires level_listed { LevelListed places.now nexts.now s.now level }
-    ensures scratch { Scratch offsets.new numbers.new kinds.new matches.new extents.new tails.new stops.new seen.new keys.new }
-    ensures entered { LevelFilled s.now level steps.now groups.now marks.now prices.now costs.new choices.new }
+    requires level_ready { LevelReady s.now level.span.behind level.limit tables.now.steps.now tables.now.groups.now tables.now.repeats.now costs.old choices.old }
+    requires below { Below (allowed level.limit tables.now.marks.now) (counted_of tables.now.steps.now tables.now.groups.now tables.now.repeats.now) level.span.behind (tree_of s.now) costs.old choices.old }
+    requires level_listed { LevelListed nodes.now.places nodes.now.nexts s.now level }
+    ensures entered { LevelFilled s.now level tables.now.steps.now tables.now.groups.now tables.now.marks.now tables.now.repeats.now costs.new choices.new }
     ensures kept { LevelKept s.now level costs.old costs.new × LevelKept s.now level choices.old choices.new }
 {
-    let stands = level.span;
-    let m = list_siblings(places, nexts, s, stands, offsets, numbers);
-    classify(s, offsets, marks, m, kinds);
-    extents[m] = 0;
-    tails[m] = 0;
-    let mut i = m;
-    while i > 0 {
-        i -= 1;
-        grow(kinds, i, m, matches);
-        let g = draw(matches, extents, i, m);
-        let own = own_combined(s, steps, groups, costs, choices, offsets, numbers, i);
-        extents[i] = g.extent;
+    let m = nodes.list_siblings(s, level.span, &mut scratch.siblings);
+    scratch.siblings.classify(s, tables.marks, m);
+    scratch.rows.extents[m] = 0;
+    scratch.rows.tails[m] = 0;
+    for i in (0..m).rev() {
+        grow(&scratch.siblings.kinds, i, m, &mut scratch.rows.matches);
+        let rows = &scratch.rows;
+        let g = draw(&rows.matches, &rows.extents, i, m);
+        let own = own_combined(s, tables, costs, choices, &scratch.siblings, i);
+        scratch.rows.extents[i] = g.extent;
         let row = Row {
             at: i,
             end: m,
@@ -69,85 +55,60 @@ pub fn enter_level(
             extent: g.extent,
         };
         enter_row(
-            costs, choices, numbers, row, prices, matches, tails, stops, seen, keys,
+            costs,
+            choices,
+            &scratch.siblings.numbers,
+            row,
+            tables.repeats,
+            &mut scratch.rows,
         );
     }
 }
 
 // Where what the group of number q holds stands: it is never empty, so it starts at the node of the next lower number.
-fn inside(places: &[usize], q: usize, next: usize, limit: usize) -> Level
-    requires { (0 < q) × (q < length places.now) }
-    ensures { LevelInside places.now q next limit result }
+fn inside(nodes: &Nodes, q: usize, limit: usize) -> Level
+    requires { (0 < q) × (q ≤ 1024) }
+    ensures { LevelInside nodes.now.places q (get_or nodes.now.nexts q 0) limit result }
 {
     let span = Span {
-        start: places[q - 1],
+        start: nodes.places[q - 1],
         first: q - 1,
-        behind: next,
+        behind: nodes.nexts[q],
     };
     Level { span, limit }
 }
 
 // Enters the whole tree that s spells: the parts of its groups first, by a call for each, and then its own stretches.
 pub fn enter_tree(
-    places: &[usize],
-    nexts: &[usize],
+    nodes: &Nodes,
     s: &[u8],
     level: Level,
-    steps: &[u16],
-    groups: &[u16],
-    marks: &[u8],
-    prices: &[u64],
-    offsets: &mut [usize],
-    numbers: &mut [usize],
-    kinds: &mut [u16],
-    matches: &mut [u16],
-    extents: &mut [usize],
-    tails: &mut [u64],
-    stops: &mut [usize],
-    seen: &mut [usize],
-    keys: &mut [u64],
+    tables: &Tables,
+    scratch: &mut Scratch,
     costs: &mut [u32],
     choices: &mut [u32],
 )
-    requires level_ready { LevelReady s.now level.span.behind level.limit steps.now groups.now prices.now costs.old choices.old }
-    requires scratch_2 { Scratch offsets.old numbers.old kinds.old matches.old extents.old tails.old stops.old seen.old keys.old }
-    requires level_listed { LevelListed places.now nexts.now s.now level }
-    ensures scratch { Scratch offsets.new numbers.new kinds.new matches.new extents.new tails.new stops.new seen.new keys.new }
-    ensures entered { LevelFilled s.now level steps.now groups.now marks.now prices.now costs.new choices.new }
+    requires level_ready { LevelReady s.now level.span.behind level.limit tables.now.steps.now tables.now.groups.now tables.now.repeats.now costs.old choices.old }
+    requires level_listed { LevelListed nodes.now.places nodes.now.nexts s.now level }
+    ensures entered { LevelFilled s.now level tables.now.steps.now tables.now.groups.now tables.now.marks.now tables.now.repeats.now costs.new choices.new }
     ensures kept { LevelKept s.now level costs.old costs.new × LevelKept s.now level choices.old choices.new }
 {
-    let span = level.span;
-    let mut q = span.first;
-    while span.behind < q {
-        let next = nexts[q];
-        let part = part_of(places, nexts, s, span, q);
+    let mut q = level.span.first;
+    // Stays: a turn follows the link to the next sibling, so no range counts the turns.
+    while level.span.behind < q {
+        let part = nodes.part_of(s, level.span, q);
         if part[0] == Format::GROUP {
             enter_tree(
-                places,
-                nexts,
+                nodes,
                 &part[2..part.len() - 1],
-                inside(places, q, next, level.limit),
-                steps,
-                groups,
-                marks,
-                prices,
-                offsets,
-                numbers,
-                kinds,
-                matches,
-                extents,
-                tails,
-                stops,
-                seen,
-                keys,
+                inside(nodes, q, level.limit),
+                tables,
+                scratch,
                 costs,
                 choices,
             );
         }
-        q = next;
+        q = nodes.nexts[q];
     }
-    enter_level(
-        places, nexts, s, level, steps, groups, marks, prices, offsets, numbers, kinds, matches,
-        extents, tails, stops, seen, keys, costs, choices,
-    );
+    enter_level(nodes, s, level, tables, scratch, costs, choices);
 }

@@ -3,5 +3,9 @@
 
 mod level;
 mod own;
+mod scratch;
+mod tables;
 
 pub use level::{Level, enter_tree};
+pub use scratch::Scratch;
+pub use tables::Tables;

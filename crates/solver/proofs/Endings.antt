@@ -11,41 +11,36 @@ use Rattle.table.specs.Keys.{combined_digits, covered}
 use Rattle.solver.specs.declared.row.Row.{Row}
 use Rattle.solver.specs.Ends.{Beyond, EndCame, by_plain, by_cover, by_repeat, Ending, EndRepeat, EndOffered, plain_end, cover_end, repeat_end}
 
--- The repeats of one width, from the count `from` up to below h.
-pub record EndUpto (row : Row) (prices tails : List ℕ) (cost d span from before h k : ℕ) : Type 0 where
-  pub late : from ≤ h
-  pub few : h ≤ 1025
+-- The repeats of one width, of counts below h.
+pub record EndUpto (row : Row) (prices tails : List ℕ) (cost d span before h k : ℕ) : Type 0 where
   pub lower : k ≤ before
-  pub offered : (g : ℕ) → from ≤ g → g < h → k ≤ repeat_end row prices tails cost d g
+  pub offered : (g : ℕ) → Beyond row d span g → g < h → k ≤ repeat_end row prices tails cost d g
   pub came : (k ≡ before) ⊎ EndRepeat row prices tails cost d span k
 
-module _ (row : Row) (prices tails : List ℕ) (cost d span from before : ℕ) where
-  pub end_none : from ≤ 1025 → EndUpto row prices tails cost d span from before from before
-  end_none few = record { late = omega arith; few = few; lower = omega arith; offered = λ g l m. absurd (omega arith); came = inl refl }
+module _ (row : Row) (prices tails : List ℕ) (cost d span before : ℕ) where
+  -- Those below the first count that covers more than is solved are not wanted.
+  pub end_none : (from : ℕ) → ((g : ℕ) → 2 ≤ g → g < from → g * d ≤ row.extent) → EndUpto row prices tails cost d span before from before
+  end_none from least =
+      record { lower = omega arith; offered = λ g y m. absurd (omega (arith, least g y.twice m, y.far)); came = inl refl }
 
-  module _ (h k : ℕ) (u : EndUpto row prices tails cost d span from before h k) where
-    pub end_more : (r : ℕ) → h ≤ 1024 → Beyond row d span h → r ≤ repeat_end row prices tails cost d h → r ≤ k
-        → (r ≡ repeat_end row prices tails cost d h) ⊎ (r ≡ k) → EndUpto row prices tails cost d span from before (h + 1) r
-    end_more r few beyond low less one =
+  module _ (h k : ℕ) (u : EndUpto row prices tails cost d span before h k) where
+    pub end_more : (r : ℕ) → Beyond row d span h → r ≤ repeat_end row prices tails cost d h → r ≤ k
+        → (r ≡ repeat_end row prices tails cost d h) ⊎ (r ≡ k) → EndUpto row prices tails cost d span before (h + 1) r
+    end_more r beyond low less one =
         record {
-          late = omega (arith, u.late);
-          few = omega arith;
           lower = omega (arith, u.lower);
-          offered = λ g a b. elim (ℕ_discrete g h) [ yes e ↦ rw e low | no e ↦ omega (arith, u.offered g a (omega arith)) ];
+          offered = λ g y b. elim (ℕ_discrete g h) [ yes e ↦ rw e low | no e ↦ omega (arith, u.offered g y (omega arith)) ];
           came = ⊎_elim (λ e. inr (record { count = h; beyond = beyond; is_key = e })) (λ e. rw e u.came) one;
         }
 
     -- Once the next count is out of reach, all that cover more than is solved are offered.
-    pub end_all : span < (h - 1) * d → ((g : ℕ) → 2 ≤ g → g < from → g * d ≤ row.extent) → EndOffered row prices tails cost d span before k
-    end_all out least =
+    pub end_all : span < (h - 1) * d → EndOffered row prices tails cost d span before k
+    end_all out =
         record {
           lower = u.lower;
-          offered = λ g y. elim (dec_le from g) [
-            | yes a ↦ elim (dec_lt g h) [
-              | yes b ↦ u.offered g a b
-              | no b ↦ let i : h - 1 ≤ g - 1 = omega arith in absurd (omega (arith, mul-le-mul_right d i, y.near))
-            ]
-            | no a ↦ absurd (omega (arith, least g y.twice (omega arith), y.far))
+          offered = λ g y. elim (dec_lt g h) [
+            | yes b ↦ u.offered g y b
+            | no b ↦ let i : h - 1 ≤ g - 1 = omega arith in absurd (omega (arith, mul-le-mul_right d i, y.near))
           ];
           came = u.came;
         }

@@ -8,7 +8,7 @@ use native.Mathlib.Omega.{arith}
 use lib.ListN.{length, get_or, set, length-set}
 use lib.Seq.{get_or-set_same, get_or-set_other}
 use Rattle.solver.specs.declared.row.Row.{Row}
-use Rattle.table.specs.Keys.{top_key, stored_key, combined_base, key}
+use Rattle.table.specs.Keys.{top_key, stored_key, combined_base, key, covered}
 use Rattle.solver.specs.Rows.{behind_key, Copied, Plainly, Pushing, Started, KeysReady, TailsReady, Pushed, push, pass, skip, Widened, offer, too_wide, unlike}
 use Rattle.table.specs.Table.{key_at, rest_key}
 use Rattle.table.proofs.Listings.{entry_more, entry_all}
@@ -123,6 +123,12 @@ started costs choices numbers row from k start between keys e ready twice past f
 -- The keys stay as they may be worked on.
 ready_lower : {before after : List ℕ} → KeysReady before → length after ≡ length before → ((c : ℕ) → get_or after c 0 ≤ get_or before c 0) → KeysReady after
 ready_lower k e l = record { long = e ∙ k.long; low = λ c. omega (arith, l c, k.low c) }
+
+-- A stretch whose key is that of a repeat that covers it is pushed from the first size above both its own and those taken over.
+pub pushed_past : {costs choices numbers tails : List ℕ} {row : Row} {stops : List ℕ} {d k from : ℕ} {before after : List ℕ}
+    → Pushing costs choices numbers tails row d k from before after → covered k ≡ d → d < from → row.span < from
+    → ((c : ℕ) → d < c → row.span < c → from ≤ c) → Pushed costs choices numbers tails row stops d k before after
+pushed_past {from = from} x e a b f = push from a b f e x
 
 pub pushed_ready : {costs choices numbers tails : List ℕ} {row : Row} {stops : List ℕ} {d k : ℕ} {before after : List ℕ} → KeysReady before
     → Pushed costs choices numbers tails row stops d k before after → KeysReady after

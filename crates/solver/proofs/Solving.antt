@@ -21,7 +21,7 @@ use Rattle.optimum.proofs.Second.{Second, second}
 use Rattle.table.specs.Keys.{key, combined_digits, cost_digit, choice_digits, count_digit, width_digit, covered, combined_base, stored_key}
 use Rattle.table.specs.Table.{BestKey, Entry, stretch, entry_at, key_at, rest_key}
 use Rattle.solver.specs.declared.row.Row.{Row}
-use Rattle.solver.specs.Rows.{behind_key, RowReady, RowFits, RowLow, Rowed, KeysReady, top_cover, Advanced, Started, Settled, Pushed, push, pass, skip, Widened, offer, too_wide, unlike, NoneBehind, Keyed, Came, pair_key, offer_key}
+use Rattle.solver.specs.Rows.{behind_key, RowReady, RowFits, RowHeld, RowRead, RowLow, Rowed, KeysReady, top_cover, Advanced, Started, Settled, Pushed, push, pass, skip, Widened, offer, too_wide, unlike, NoneBehind, Keyed, Came, pair_key, offer_key}
 use Rattle.optimum.specs.Matches.{Matched}
 use Rattle.optimum.proofs.Matches.{copy_more, near_power, power_near}
 use Rattle.solver.proofs.Extents.{drawn_within, drawn_closed}
@@ -156,8 +156,12 @@ module _ {costs choices numbers : List ℕ} {row : Row} {prices same tails stops
         within = inside;
       }
 
+  -- The row's own place is in the lists.
+  pub at_low : row.at < 1025
+  at_low = omega (arith, z.some, few)
+
   -- What the row reads of the table is low.
-  pub row_low : RowLow costs choices numbers row
+  row_low : RowLow costs choices numbers row
   row_low =
       let d = z.drawn in
       record {
@@ -165,6 +169,9 @@ module _ {costs choices numbers : List ℕ} {row : Row} {prices same tails stops
         taken = λ c p l. best_low modest (i + row.shift) c _
             (entered (i + row.shift) c (omega (arith, d.some)) p (omega (arith, row_fits.taken)) (omega (arith, d.entered))).best;
       }
+
+  pub row_read : RowHeld costs choices numbers row → RowRead costs choices numbers row
+  row_read held = (held.0, held.1, row_low)
 
   -- What the row starts from: where its siblings are those `shift` further on, the key is that row's.
   module _ (keys : List ℕ) (s : Started costs choices numbers row keys) where

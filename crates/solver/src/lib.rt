@@ -6,6 +6,8 @@ mod keys;
 mod matches;
 mod pairs;
 mod row;
+mod rows;
 
 pub use matches::{Source, draw, grow};
 pub use row::{Row, enter_row};
+pub use rows::Rows;

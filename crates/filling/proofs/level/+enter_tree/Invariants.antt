@@ -1,7 +1,7 @@
 -- The bytes inside each group are fewer. The loop passes the siblings, with all below those passed entered.
 use Rattle.std.proofs.Common.{length}
 use Rattle.format.specs.Limits.{allowed}
-use Rattle.filling.specs.Filling.{counted_of, Scratch}
+use Rattle.filling.specs.Filling.{counted_of}
 use Rattle.filling.proofs.Recursion.{Through}
 use Rattle.filling.proofs.level.+enter_tree.Given as goal
 
@@ -10,8 +10,7 @@ decreases-enter_tree l = length l.s.now
 
 abbrev pub invariant-loop-q : goal.invariant-loop-q
 invariant-loop-q l =
-    Through (allowed l.level.limit l.marks) (counted_of l.steps l.groups l.prices) l.s l.level.span.behind l.initial.costs l.initial.choices l.costs l.choices l.q
-    × Scratch l.offsets l.numbers l.kinds l.matches l.extents l.tails l.stops l.seen l.keys
+    Through (allowed l.level.limit l.tables.marks.now) (counted_of l.tables.steps.now l.tables.groups.now l.tables.repeats.now) l.s l.level.span.behind l.initial.costs l.initial.choices l.costs l.choices l.q
 
 abbrev pub decreases-loop-q : goal.decreases-loop-q
 decreases-loop-q l = l.q

@@ -33,37 +33,34 @@ module _ (s numbers : List ℕ) (i at label : ℕ) (z : Spelled s) (some : i < s
       (omega (arith, f.short), further, omega arith, own_cell _ _ _ _ x _ z some n other room f)
 
 pub overflow_add-label : goal.overflow_add-label
-overflow_add-label c = let r = c.requires in omega (arith, long _ _ c.args.i r.spelled r.offsets_len.1 r.i_bound.0)
+overflow_add-label c = let r = c.requires in omega (arith, long _ _ c.args.i r.spelled r.placed r.there.0)
 
 pub bounds-s-at : goal.bounds-s-at
-bounds-s-at c = let r = c.requires in omega (arith, long _ _ c.args.i r.spelled r.offsets_len.1 r.i_bound.0)
+bounds-s-at c = let r = c.requires in omega (arith, long _ _ c.args.i r.spelled r.placed r.there.0)
 
 pub bounds-s-at-2 : goal.bounds-s-at-2
-bounds-s-at-2 c = let r = c.requires in omega (arith, long _ _ c.args.i r.spelled r.offsets_len.1 r.i_bound.0)
-
-pub combined_of-requires : goal.combined_of-requires
-combined_of-requires c = omega (arith, c.price.ensures)
+bounds-s-at-2 c = let r = c.requires in omega (arith, long _ _ c.args.i r.spelled r.placed r.there.0)
 
 pub returns-then-s-at-eq-STEP : goal.returns-then-s-at-eq-STEP
 returns-then-s-at-eq-STEP c =
     let r = c.requires in
-    own_step _ _ _ _ (first _ _ c.args.i r.spelled r.offsets_len.1 r.i_bound.0) _ _ _ _ _ c.if-s-at-eq-STEP.true _
+    own_step _ _ _ _ (first _ _ c.args.i r.spelled r.placed r.there.0) _ _ _ _ _ c.if-s-at-eq-STEP.true _
     (omega (arith, c.combined_of.ensures, c.price.ensures))
 
-pub key_at-inside-requires : goal.key_at-inside-requires
-key_at-inside-requires c =
+pub key_at-inside-requires-clause-held : goal.key_at-inside-requires-clause-held
+key_at-inside-requires-clause-held c =
     let r = c.requires in
-    let x = first _ _ c.args.i r.spelled r.offsets_len.1 r.i_bound.0 in
-    record {
-      held = held _ _ c.args.i _ _ r.spelled r.i_bound.0 x r.numbered c.if-s-at-eq-STEP.false _ r.falling.0;
-      held_2 = held _ _ c.args.i _ _ r.spelled r.i_bound.0 x r.numbered c.if-s-at-eq-STEP.false _ r.falling.1;
-    }
+    let x = first _ _ c.args.i r.spelled r.placed r.there.0 in
+    held _ _ c.args.i _ _ r.spelled r.there.0 x r.numbered c.if-s-at-eq-STEP.false _ r.falling.0
 
-pub combined_of-requires-2 : goal.combined_of-requires-2
-combined_of-requires-2 c = omega (arith, c.price-2.ensures)
+pub key_at-inside-requires-clause-held_2 : goal.key_at-inside-requires-clause-held_2
+key_at-inside-requires-clause-held_2 c =
+    let r = c.requires in
+    let x = first _ _ c.args.i r.spelled r.placed r.there.0 in
+    held _ _ c.args.i _ _ r.spelled r.there.0 x r.numbered c.if-s-at-eq-STEP.false _ r.falling.1
 
 pub returns : goal.returns
 returns c =
     let r = c.requires in
-    own_group _ _ _ _ (first _ _ c.args.i r.spelled r.offsets_len.1 r.i_bound.0) _ r.spelled r.i_bound.0 r.numbered c.if-s-at-eq-STEP.false _ _ _ _ _
+    own_group _ _ _ _ (first _ _ c.args.i r.spelled r.placed r.there.0) _ r.spelled r.there.0 r.numbered c.if-s-at-eq-STEP.false _ _ _ _ _
     (omega (arith, c.combined_digits.ensures, c.key_at-inside.ensures, c.combined_of-2.ensures, c.price-2.ensures))

@@ -1,9 +1,35 @@
--- `solver::ends::offer_end` meets its contract. The loop's invariant: the counts below h are offered. The measure is what is left of
--- the counts, which stay below 1,026.
-use Rattle.solver.proofs.Endings.{end_all}
+-- `solver::ends::offer_end` meets its contract. The loop's invariant: the counts below h are offered.
+use Prim.Native.Nat.{◌+◌, ◌≤◌}
+use native.Mathlib.Nat.{mul-le-mul_right}
+use native.Mathlib.Omega.{arith}
+use Rattle.solver.specs.Ends.{Beyond}
+use Rattle.solver.proofs.Offers.{count_near, count_far}
+use Rattle.solver.proofs.Endings.{EndUpto, end_more, end_all}
 use Rattle.solver.proofs.ends.offer_end.Goals as goal
+use Rattle.solver.proofs.ends.offer_end.Goals.{After-min-best}
+
+-- One count more is.
+one_more : (c : After-min-best)
+    → EndUpto c.args.row c.args.prices.now c.args.tails.now c.args.body c.args.d c.args.span c.args.last (c.loop-h.h + 1) c.min-best.result
+one_more c =
+    let h = c.loop-h.h in
+    let from : c.count_past-h.result ≤ h = omega arith in
+    let beyond : Beyond c.args.row c.args.d c.args.span h =
+    record {
+      twice = omega arith;
+      near = count_near c.args.d c.args.span h (omega arith) c.loop-h-test.true;
+      far = omega (arith, mul-le-mul_right c.args.d from);
+    } in
+    end_more _ _ _ _ _ _ _ h c.loop-h.best c.loop-h.invariant c.min-best.result beyond (omega arith) (omega arith) (grind arith)
+
+pub loop-h-preserved : goal.loop-h-preserved
+loop-h-preserved c = one_more (goal.at.loop-h-preserved c).After-min-best
+
+pub returns-2 : goal.returns-2
+returns-2 c =
+    end_all _ _ _ _ _ _ _ (c.loop-h.h + 1) c.min-best.result (one_more (goal.at.returns-2 c).After-min-best)
+    (count_far c.args.d c.args.span (c.loop-h.h + 1) (omega arith) (omega arith))
 
 pub returns : goal.returns
 returns c =
-    let L = c.loop-h in
-    end_all _ _ _ _ _ _ _ _ L.h L.best L.invariant c.loop-h-test.false c.requires.d_nonzero.5
+    end_all _ _ _ _ _ _ _ c.loop-h.h c.loop-h.best c.loop-h.invariant (count_far c.args.d c.args.span c.loop-h.h (omega arith) (omega arith))

@@ -1,25 +1,25 @@
--- `solver::keys::offer` meets its contract. The loop's invariant: the counts below h are offered. The measure is what is left of
--- the counts, which stay below 1,026.
-use Prim.Native.Nat.{◌-◌, ◌*◌, ◌<◌}
+-- `solver::keys::offer` meets its contract. The loop's invariant: the counts below h are offered.
+use Prim.Native.Nat.{◌+◌, ◌-◌, ◌*◌, ◌<◌}
 use native.Mathlib.Omega.{arith}
-use lib.ListN.{length}
-use Rattle.solver.proofs.Offers.{in_reach, upto_kept, upto_set, offering}
+use lib.ListN.{length, set}
+use Rattle.solver.proofs.Offers.{Upto, count_near, count_far, in_reach, upto_more, offering}
 use Rattle.solver.proofs.keys.offer.Goals as goal
-use Rattle.solver.proofs.keys.offer.Goals.{then-k-keys, else-k-keys}
+use Rattle.solver.proofs.keys.offer.Goals.{After-min}
 
-pub returns : goal.returns
-returns c = let L = c.loop-h in offering _ _ _ _ _ _ L.keys L.h L.invariant c.loop-h-test.false
+-- One count more is.
+one_more : (c : After-min)
+    → Upto c.args.prices.now c.args.body c.args.d c.args.span c.args.from c.args.keys.now (set c.loop-h.keys (c.loop-h.h * c.args.d) c.min.result) (c.loop-h.h + 1)
+one_more c =
+    let p = c.requires.body_bound in
+    let h = c.loop-h.h in
+    let near = count_near c.args.d c.args.span h (omega arith) c.loop-h-test.true in
+    let w = in_reach (h - 1) h c.args.d c.args.span (omega arith) p.1 p.2 near in
+    let fits : h * c.args.d < length c.loop-h.keys = omega (arith, w.0) in
+    upto_more _ _ _ _ _ _ _ h c.loop-h.invariant c.min.result near fits (omega arith)
 
 pub loop-h-preserved : goal.loop-h-preserved
-loop-h-preserved c =
-    let p = c.requires.body_bound in
-    let L = c.loop-h in
-    let near = c.loop-h-test.true in
-    let w = in_reach (L.h - 1) L.h c.args.d c.args.span (omega arith) p.1 p.2 near in
-    let u = L.invariant in
-    let fits : L.h * c.args.d < length L.keys = omega (arith, u.same_length) in
-    let k = c.offer_key-k.ensures in
-    elim c.if-k-keys.branch [
-      | then-k-keys y ↦ rw (y.keys-is, k) (upto_set _ _ _ _ _ _ L.keys L.h u w.1 near fits (omega (arith, y.if-k-keys.true, k)))
-      | else-k-keys y ↦ rw y.keys-is (upto_kept _ _ _ _ _ _ L.keys L.h u w.1 (omega (arith, y.if-k-keys.false, k)))
-    ]
+loop-h-preserved c = one_more (goal.at.loop-h-preserved c).After-min
+
+pub returns-2 : goal.returns-2
+returns-2 c =
+    offering _ _ _ _ _ _ _ (c.loop-h.h + 1) (one_more (goal.at.returns-2 c).After-min) (count_far c.args.d c.args.span (c.loop-h.h + 1) (omega arith) (omega arith))

@@ -3,40 +3,36 @@ use mathlib.Core.Path.{refl}
 use native.Mathlib.Omega.{arith}
 use Rattle.table.proofs.Tables.{falling_less}
 use Rattle.solver.proofs.Putting.{tails_ready}
-use Rattle.solver.proofs.Solving.{row_fits, row_low, match_low, started_rowed, solved_low}
+use Rattle.solver.proofs.Solving.{row_fits, at_low, row_read, match_low, started_rowed, solved_low}
 use Rattle.solver.proofs.Entering.{last_low, row_entered}
 use Rattle.solver.proofs.row.enter_row.Goals as goal
 
 pub start_row-requires : goal.start_row-requires
 start_row-requires c =
-    let p = c.requires in
-    let z = p.row_ready in
-    record { row_read = (p.row_held.0, p.row_held.1, row_low z); row_fits = (row_fits z, p.keys_ready.0) }
+    let z = c.requires.row_ready in
+    record { row_read = row_read z c.requires.row_held; row_fits = (row_fits z, c.args.rows.now.keys_ready) }
 
 pub mark-requires : goal.mark-requires
-mark-requires c = (row_fits c.requires.row_ready, c.start_row.ensures.ready, c.requires.keys_ready.4)
+mark-requires c = (row_fits c.requires.row_ready, c.start_row.ensures.ready)
 
 pub solve-longest-requires : goal.solve-longest-requires
 solve-longest-requires c =
-    let p = c.requires in
-    let z = p.row_ready in
-    let k = p.keys_ready in
+    let z = c.requires.row_ready in
     record {
-      row_read = (p.row_held.0, p.row_held.1, row_low z);
-      row_fits = (row_fits z, c.start_row.ensures.ready, z.priced.ready, k.2, k.3, c.mark.ensures, k.1);
+      row_read = row_read z c.requires.row_held;
+      row_fits = (row_fits z, c.start_row.ensures.ready, z.priced.ready, c.mark.ensures, c.args.rows.now.tails_ready);
     }
 
 pub end_key-last-requires : goal.end_key-last-requires
 end_key-last-requires c =
-    let p = c.requires in
-    let z = p.row_ready in
-    record { row_fits = (row_fits z, c.solve-longest.ensures.ready, z.priced.ready, p.keys_ready.1, p.keys_ready.2); by_index = match_low z }
+    let z = c.requires.row_ready in
+    record { row_fits = (row_fits z, z.priced.ready); by_index = match_low z }
 
-pub bounds-stops-at : goal.bounds-stops-at
-bounds-stops-at c = let f = row_fits c.requires.row_ready in omega (arith, f.some, f.few, c.requires.keys_ready.3)
+pub bounds-rows-at : goal.bounds-rows-at
+bounds-rows-at c = at_low c.requires.row_ready
 
-pub bounds-tails-at : goal.bounds-tails-at
-bounds-tails-at c = let f = row_fits c.requires.row_ready in omega (arith, f.some, f.few, c.requires.keys_ready.1.long)
+pub bounds-rows-at-2 : goal.bounds-rows-at-2
+bounds-rows-at-2 c = at_low c.requires.row_ready
 
 pub store_row-requires : goal.store_row-requires
 store_row-requires c =
@@ -62,6 +58,14 @@ store_entry-requires c =
       i_lt_j = (z.some, last_low c.start_row.ensures c.solve-longest.ensures e.whole e.ending z);
     }
 
+pub invariant_of-rows-2 : goal.invariant_of-rows-2
+invariant_of-rows-2 c =
+    let z = c.requires.row_ready in
+    let a = c.solve-longest.ensures in
+    let e = c.end_key-last.ensures in
+    let low = last_low c.start_row.ensures a e.whole e.ending z in
+    record { tails_ready = tails_ready _ _ (at_low z) (omega arith) c.args.rows.now.tails_ready; keys_ready = a.ready }
+
 pub returns : goal.returns
 returns c =
     let p = c.requires in
@@ -74,6 +78,6 @@ returns c =
     let t = c.store_row.ensures in
     let o = c.store_entry.ensures in
     record {
-      keys = (a.ready, tails_ready _ _ (omega (arith, f.few)) (omega (arith, last_low s a e.whole e.ending z)) p.keys_ready.1, c.mark.ensures.long);
+      kept = (refl, refl);
       entered = row_entered s a e.whole e.ending p.row_held z.some f.within t.costs t.choices o.costs o.choices r.0 refl refl;
     }
