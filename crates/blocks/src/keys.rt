@@ -1,15 +1,16 @@
 // Keys: cost and repeats of a fold, combined, and the pair of its first item; how they are compared, read and put.
 ghost use Rattle.std.specs.Prelude.{◌≡◌, ◌+◌, ◌<◌, length};
-ghost use Rattle.blocks.specs.Keys.{packed, pair_base, Lesser, slot, key_in, entry_base, both_base, read_base, Put};
+ghost use Rattle.blocks.specs.Keys.{packed, pair_base, slot, key_in, entry_base, both_base, read_base, Put};
 
 // Cost and repeats, combined, and the pair of count and width, 0 for the plain step.
-#[derive(Clone, Copy)]
+#[derive(Clone, Copy, PartialEq, Eq, PartialOrd, Ord)]
 pub struct Key {
     pub both: u64,
     pub pair: u64,
 }
 
 // How the lent slice is laid out, and the bases of a key's digits.
+// Stays: one lent slice, and slots by numbers in it, since C lends the work so (`runfold_fold_season`, clause `cleared`).
 #[derive(Clone, Copy)]
 pub struct Block {}
 
@@ -40,36 +41,14 @@ pub fn pair_of(count: usize, width: usize) -> u64
     (count as u64) * Block::WIDTHS + (width as u64)
 }
 
-// The earlier of two keys.
-pub fn lesser(a: Key, b: Key) -> Key
-    requires { (a.pair < pair_base) × (b.pair < pair_base) }
-    ensures { Lesser a b result }
-{
-    if b.both < a.both {
-        return b;
-    }
-    if b.both == a.both {
-        if b.pair < a.pair {
-            return b;
-        }
-    }
-    a
-}
-
-fn widen(x: u32) -> u64
-    ensures { (result ≡ x) × (result < entry_base) }
-{
-    x as u64
-}
-
 // The key that begins at an entry.
 pub fn key_at(work: &[u32], at: usize) -> Key
     requires { at + 2 < length work.now }
     ensures { (result ≡ key_in work.now at) × (result.both < read_base) × (result.pair < entry_base) }
 {
     Key {
-        both: widen(work[at]) * Block::REPEATS + widen(work[at + 1]),
-        pair: widen(work[at + 2]),
+        both: u64::from(work[at]) * Block::REPEATS + u64::from(work[at + 1]),
+        pair: u64::from(work[at + 2]),
     }
 }
 

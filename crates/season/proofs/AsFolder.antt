@@ -14,9 +14,9 @@ use Rattle.format.specs.Machine.{Outcome, refused, accepted, read}
 use Rattle.format.specs.Head.{full_head}
 use Rattle.format.specs.Readings.{run_rules_in, as_run_reading, run_outcome_in}
 use Rattle.format.specs.Tree.{tree_of}
-use Rattle.format.specs.declared.Limits.{Limits}
-use Rattle.format.specs.declared.Tally.{Tally}
-use Rattle.format.specs.declared.RunReading.{RunReading}
+use Rattle.format.specs.declared.kind.Limits.{Limits}
+use Rattle.format.specs.declared.tally.Tally.{Tally}
+use Rattle.format.specs.Numbers.{RunReading}
 use Rattle.format.proofs.Heads.{headed_accepted, headed_narrow, headed_under}
 use Rattle.format.proofs.SeasonRuns.{season_run_is_run, run_is_season_run}
 use Rattle.optimum.specs.Fewest.{preferred}

@@ -11,7 +11,7 @@ use borrow.Author.Tests.{lt-ltb, le-ltb}
 use Rattle.format.specs.Limits.{Prices, allowed}
 use Rattle.format.specs.Forest.{Forest, nodes, cost, bytes, Allowed}
 use Rattle.format.specs.Tree.{tree_of}
-use Rattle.format.specs.declared.Folded.{Folded}
+use Rattle.format.specs.Numbers.{Folded}
 use Rattle.optimum.specs.Cheapest.{Run, front, back}
 use Rattle.optimum.specs.Fewest.{counting, preferred}
 use Rattle.optimum.specs.Verdict.{room_answer, room_output}

@@ -1,5 +1,5 @@
 -- The season folder's answer as a whole: what fold_run rests on, what the slices then hold, and demand 3 of what is written.
-use mathlib.Core.Path.{◌≡◌, refl, sym, ◌∙◌}
+use mathlib.Core.Path.{◌≡◌, refl, sym, ap, ◌∙◌}
 use mathlib.Core.Bool.{false}
 use mathlib.Core.List.{List}
 use Prim.Native.Nat.{ℕ, ◌<◌, ◌≤◌}
@@ -12,8 +12,13 @@ use Rattle.format.specs.Forest.{Forest, end, step, group, repeat, cost, bytes, g
 use Rattle.format.specs.Head.{full_head}
 use Rattle.format.specs.Readings.{season_rules, as_run_reading, run_outcome_in}
 use Rattle.format.specs.Tree.{tree_of}
-use Rattle.format.specs.declared.RunReading.{RunReading}
-use Rattle.format.specs.declared.Folded.{Folded}
+use Rattle.std.specs.Prelude.{Result, Ok, Err, IfOk, IfErr}
+use Rattle.format.specs.Answers.{number, folded_said}
+use Rattle.format.specs.declared.answers.PricedFold.{PricedFold}
+use Rattle.format.specs.declared.answers.Refusal.{Refusal}
+use Rattle.format.specs.declared.answers.Reason.TheVariants.{ShortOutput}
+use Rattle.format.specs.Numbers.{RunReading}
+use Rattle.format.specs.Numbers.{Folded}
 use Rattle.optimum.specs.Fewest.{counting, preferred}
 use Rattle.optimum.specs.Verdict.{Verdict, refuses, folds}
 use Rattle.optimum.specs.Demands.{CheapestWithin, CheapestOver, MinimumTreeIn}
@@ -23,7 +28,7 @@ use Rattle.blocks.specs.Keys.{factor}
 use Rattle.blocks.specs.Solved.{Flat}
 use Rattle.blocks.proofs.Flats.{flat_nodes}
 use Rattle.tails.specs.declared.rates.Rates.{Rates}
-use Rattle.tails.specs.Solving.{RatesOf, RatesLow, FlatRun, FillReady, PricesAre}
+use Rattle.tails.specs.Solving.{RatesOf, FlatRun, FillReady, PricesAre}
 use Rattle.season.specs.Folding.{season_folding, work_entries, too_short, season_answer, season_output, season_work}
 use Rattle.season.specs.inner.Run.{RunFolded}
 
@@ -54,13 +59,12 @@ module _ (s : List ℕ) (k : ℕ) (T : Tariff) (r : RunReading) (admitted : r �
   pub run_few : r.nodes < 65536
   run_few = flat_run_of.few
 
-  pub fill_ready : (R : Rates) (work : List ℕ) → RatesLow R → ((l : ℕ) → get_or T.steps l 0 < 65536)
+  pub fill_ready : (R : Rates) (work : List ℕ) → ((l : ℕ) → get_or T.steps l 0 < 65536)
       → work_entries r.nodes ≤ length work → FillReady s T.steps R k r.nodes work
-  fill_ready R work q low room =
+  fill_ready R work low room =
       record {
         flat = flat_run_of;
         narrow = narrow season s k T r admitted a;
-        low = q;
         low_steps = low;
         room = room;
       }
@@ -93,16 +97,34 @@ module _ (v : Verdict) (work out : List ℕ) where
       (f.answered (priced T) p ∙ rw (e, x), (f.written (priced T) p ∙ rw (e, x), f.cleared ∙ rw (e, x)))
 
 -- DEMAND 3 AND THE REPORT'S PROBLEM, of what the season folder writes.
-module _ (s : List ℕ) (small : Bytes s) (k : ℕ) (T : Tariff) (work : ℕ) (out out' : List ℕ) (r : Folded) where
-  pub season_held : r ≡ season_answer (season_folding s k T) work (length out) → out' ≡ season_output (season_folding s k T) work out
-      → (r.refusal ≡ 0 → CheapestWithin s k (season_rules T) (take r.length out') r.cost)
-      × ((r.refusal ≡ 0 → MinimumTreeIn season s k T (take r.length out')) × (r.refusal ≡ 14 → CheapestOver (length out) s k (season_rules T)))
-  season_held e f = by_told (told season season_bars_none (too_short work) false s small k T out out' r e f)
+module _ (s : List ℕ) (small : Bytes s) (k : ℕ) (T : Tariff) (work : ℕ) (out out' : List ℕ) (r : Result PricedFold Refusal) where
+  abbrev said : Folded
+  said = folded_said r
+
+  -- What success and 14 are to say, of the answer as it is in numbers and as it is.
+  abbrev Held : Type 0
+  Held =
+      IfOk r (λ f. CheapestWithin s k (season_rules T) (take f.length out') f.cost)
+      × IfOk r (λ f. MinimumTreeIn season s k T (take f.length out'))
+      × IfErr r (λ e. e.reason ≡ ShortOutput → CheapestOver (length out) s k (season_rules T))
+
+  held : (said.refusal ≡ 0 → CheapestWithin s k (season_rules T) (take said.length out') said.cost × MinimumTreeIn season s k T (take said.length out'))
+      → (said.refusal ≡ 14 → CheapestOver (length out) s k (season_rules T)) → Held
+  held w o = by_answer r w o
     where
-      by_told : Told season season_bars_none (too_short work) false s small k T out out' r e f
-          → (r.refusal ≡ 0 → CheapestWithin s k (season_rules T) (take r.length out') r.cost)
-          × ((r.refusal ≡ 0 → MinimumTreeIn season s k T (take r.length out')) × (r.refusal ≡ 14 → CheapestOver (length out) s k (season_rules T)))
-      by_told (other x y) = (λ z. absurd (x z), (λ z. absurd (x z), λ z. absurd (y z)))
-      by_told (wrote n d g) = (λ z. rw g d.0, (λ z. rw g d.1, λ z. absurd (omega arith)))
-      by_told (over n c d l) =
-          (λ z. absurd (omega arith), (λ z. absurd (omega arith), λ z. record { fold = _; cost = c; cheapest = d.0; longer = l }))
+      by_answer : (q : Result PricedFold Refusal)
+          → ((folded_said q).refusal ≡ 0 → CheapestWithin s k (season_rules T) (take (folded_said q).length out') (folded_said q).cost × MinimumTreeIn season s k T (take (folded_said q).length out'))
+          → ((folded_said q).refusal ≡ 14 → CheapestOver (length out) s k (season_rules T))
+          → IfOk q (λ f. CheapestWithin s k (season_rules T) (take f.length out') f.cost)
+          × IfOk q (λ f. MinimumTreeIn season s k T (take f.length out'))
+          × IfErr q (λ e. e.reason ≡ ShortOutput → CheapestOver (length out) s k (season_rules T))
+      by_answer (Ok f) w o = ((w refl).0, (w refl).1, tt)
+      by_answer (Err e) w o = (tt, tt, λ z. o (ap number z))
+
+  pub season_held : said ≡ season_answer (season_folding s k T) work (length out) → out' ≡ season_output (season_folding s k T) work out → Held
+  season_held e f = by_told (told season season_bars_none (too_short work) false s small k T out out' said e f)
+    where
+      by_told : Told season season_bars_none (too_short work) false s small k T out out' said e f → Held
+      by_told (other x y) = held (λ z. absurd (x z)) (λ z. absurd (y z))
+      by_told (wrote n d g) = held (λ z. (rw g d.0, rw g d.1)) (λ z. absurd (omega arith))
+      by_told (over n c d l) = held (λ z. absurd (omega arith)) (λ z. record { fold = _; cost = c; cheapest = d.0; longer = l })

@@ -15,10 +15,12 @@ use Rattle.optimum.specs.Cheapest.{Run, front, back, Power, Candidate, plain, po
 use Rattle.optimum.proofs.Cut.{front_add, front_front, front_whole, back_back, back_piece, siblings_back, siblings_piece, run_back, run_front}
 use Rattle.optimum.proofs.Powers.{reach}
 use Rattle.optimum.proofs.Cheapest.{least_builds, is_cheapest, optimal_end}
-use Rattle.blocks.specs.Keys.{bases, slot, tail_slot, both_in, pair_in}
+use Rattle.blocks.specs.declared.keys.Key.{Key}
+use Rattle.blocks.specs.Keys.{bases, slot, tail_slot, both_in, pair_in, key_in}
 use Rattle.blocks.specs.Solved.{Best}
 use Rattle.blocks.proofs.Flats.{flat_run, flat_node, flat_size}
 use Rattle.blocks.proofs.Bests.{spanned}
+use Rattle.tails.proofs.Offers.{read_pair}
 use Rattle.put.proofs.Along.{Along, along_none, along_end, along_more, along_byte, all_written}
 use Rattle.season.specs.Writing.{left_slot, count_of, width_of, covers, StepsReady, steps_of, fold_bytes, ItemReady, item_bytes, StepsFit, ItemFits, StepsWritten, ItemWritten}
 
@@ -224,8 +226,14 @@ module _ {run work : List ℕ} {tail : Bool} {from stop to : ℕ} (before : List
               omega (arith, z.room, z.within, z.short e, z.modest.narrow),
             )
 
-    -- The item of the next step, by its pair.
-    module _ (more : i < stop) (pair : ℕ) (looked : pair ≡ pair_in work (slot i (left_slot tail (stop - i)))) where
+    -- The item of the next step, by the pair of the key that is read in its slot.
+    module _ (more : i < stop) {k : Key} {e s : ℕ} (read : k ≡ key_in work e) (at_slot : e ≡ slot i s) (of_left : s ≡ left_slot tail (stop - i)) where
+      abbrev pair : ℕ
+      pair = k.pair
+
+      looked : pair ≡ pair_in work (slot i (left_slot tail (stop - i)))
+      looked = read_pair work (slot i (left_slot tail (stop - i))) read (at_slot ∙ ap (slot i) of_left)
+
       pub next : Split (x.left m.ready).rest pair
       next = split (x.left m.ready).rest more pair looked
 

@@ -1,7 +1,7 @@
 -- What the season folder answers, writes and leaves in its work, for every run, limit, prices and lent slices.
 use Rattle.std.specs.Prelude.{Bool, false, List, ℕ, ◌+◌, ◌*◌, ltb}
 use Rattle.format.specs.Limits.{season, Tariff}
-use Rattle.format.specs.declared.Folded.{Folded}
+use Rattle.format.specs.Numbers.{Folded}
 use Rattle.optimum.specs.Verdict.{Verdict, folding_by, answer_by, output_by, work_by}
 
 -- The checks of tables, limit and marks, then the run's own refusals, all by the limits of season runs; or the cheapest fold.

@@ -46,6 +46,7 @@ pub fn put_steps(
 {
     let mut i = from;
     let mut p = to;
+    // Stays: each turn goes on by what its item covers, as the pair says, so no range and no fixed step gives the turns.
     while i < end {
         let pair = key_at(work, slot(i, left_slot(tail, end - i))).pair;
         p = put_item(run, work, i, pair, out, p);

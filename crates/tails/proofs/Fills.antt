@@ -31,7 +31,6 @@ prices_some steps R = record { first = refl; each = refl; of_step = λ l. refl }
 pub none_match : (limit n : ℕ) (marks : List ℕ) (t : Forest) → siblings t ≡ n → Matching (allowed limit marks) t (replicate 33 0) n
 none_match limit n marks t e =
     record {
-      words = record { long = refl; low = λ w. rw (zeros 33 w) (omega arith) };
       matched = λ w a b c. absurd (omega arith);
       none = λ w a b c. zeros 33 w;
     }
@@ -48,7 +47,6 @@ ready_past k z =
     record {
       flat = z.flat;
       narrow = z.narrow;
-      low = z.low;
       low_steps = z.low_steps;
       room = omega (arith, z.room, k.same_length);
     }
@@ -99,7 +97,6 @@ module _ (run steps marks : List ℕ) (R : Rates) (limit n : ℕ) where
           here = here;
           first = p.first;
           each = p.each;
-          low = z.low;
           matching = m;
           solved = f.solved P p;
           room = omega (arith, z.room, z.flat.all);

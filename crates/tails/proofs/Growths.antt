@@ -5,7 +5,7 @@ use mathlib.Core.List.{List}
 use Prim.Native.Nat.{ℕ, ◌+◌, ◌≤◌, ◌<◌}
 use native.Mathlib.Decide.{dec_lt, ℕ_discrete}
 use native.Mathlib.Omega.{arith}
-use lib.ListN.{length, get_or, set, length-set}
+use lib.ListN.{length, get_or, set}
 use lib.Seq.{get_or-set_same, get_or-set_other}
 use Rattle.format.specs.Limits.{marked_in, allowed}
 use Rattle.format.specs.Forest.{Forest, end, step, group, repeat, holds, Allowed}
@@ -15,7 +15,7 @@ use Rattle.optimum.specs.Matches.{Matched}
 use Rattle.optimum.proofs.Cut.{siblings_back}
 use Rattle.optimum.proofs.Matches.{matched_more, matched_none}
 use Rattle.blocks.proofs.Flats.{flat_run, flat_node}
-use Rattle.tails.specs.Solving.{FlatRun, label_at, MatchAt, ends, differs, is_marked, matches, MatchesLow, Matching}
+use Rattle.tails.specs.Solving.{FlatRun, label_at, MatchAt, ends, differs, is_marked, matches, Matching}
 
 -- Two steps alone are the same where their labels are.
 label_of : Forest → ℕ
@@ -86,35 +86,29 @@ module _ (run marks : List ℕ) (limit n : ℕ) (f : FlatRun run n) where
         none = λ b. absurd (omega arith);
       }
 
-  pub here_low : (i w k : ℕ) → i < n → MatchesHere i w k → k < 65536
-  here_low i w k l h = by_place (dec_lt n (i + w))
-    where
-      by_place : Dec (n < i + w) → k < 65536
-      by_place (yes b) = omega (arith, h.none b)
-      by_place (no b) = omega (arith, (h.matched (omega arith)).bound, siblings_back i t r.plain (omega (arith, f.all)), f.few, f.all)
-
   -- The widths below w are grown, the others as they were.
   pub record Grown (i w : ℕ) (before after : List ℕ) : Type 0 where
-    pub words : MatchesLow after
     pub here : (v : ℕ) → 0 < v → v < w → MatchesHere i v (get_or after v 0)
     pub later : (v : ℕ) → w ≤ v → get_or after v 0 ≡ get_or before v 0
 
-  pub grown_none : (i : ℕ) (before : List ℕ) → MatchesLow before → Grown i 1 before before
-  grown_none i before m = record { words = m; here = λ v a b. absurd (omega arith); later = λ v a. refl }
+  -- One more than the matches of the next step is a number of 16 bits.
+  pub next_low : {i w : ℕ} {before after : List ℕ} → Grown i w before after → i < n → 0 < w → w ≤ limit → Matching A t before (i + 1)
+      → get_or after w 0 < 65535
+  next_low {i} {w} {before} {after} g l pos within m = omega (arith, g.later w (omega arith), by_place (dec_lt n (i + 1 + w)))
+    where
+      by_place : Dec (n < i + 1 + w) → get_or before w 0 < 65535
+      by_place (yes b) = omega (arith, m.none w pos within (omega (arith, f.all)))
+      by_place (no b) =
+          omega (arith, (m.matched w pos within (omega (arith, f.all))).bound, siblings_back (i + 1) t r.plain (omega (arith, f.all)), f.few, f.all)
 
-  pub grown_more : {i w : ℕ} {before after : List ℕ} → Grown i w before after → i < n → 0 < w → w ≤ limit → limit ≤ 32
+  pub grown_none : (i : ℕ) (before : List ℕ) → Grown i 1 before before
+  grown_none i before = record { here = λ v a b. absurd (omega arith); later = λ v a. refl }
+
+  pub grown_more : {i w : ℕ} {before after : List ℕ} → Grown i w before after → i < n → 0 < w → w ≤ limit → w < length after
       → Matching A t before (i + 1) → (x : ℕ) → MatchAt run marks n i w (get_or after w 0) x → Grown i (w + 1) before (set after w x)
-  grown_more {i} {w} {before} {after} g l pos within narrow m x a =
+  grown_more {i} {w} {before} {after} g l pos within room m x a =
       let h = match_here i w (get_or after w 0) x l pos (λ b. rw (g.later w (omega arith)) (m.matched w pos within (omega (arith, f.all)))) a in
-      let room : w < length after = omega (arith, g.words.long) in
       record {
-        words = record {
-          long = length-set after w x ∙ g.words.long;
-          low = λ v. elim (ℕ_discrete v w) [
-            | yes e ↦ rw (e, get_or-set_same after w x 0 room) (here_low i w x l h)
-            | no e ↦ rw (get_or-set_other after w v x 0 e) (g.words.low v)
-          ];
-        };
         here = λ v b c. elim (ℕ_discrete v w) [
           | yes e ↦ rw (e, get_or-set_same after w x 0 room) h
           | no e ↦ rw (get_or-set_other after w v x 0 e) (g.here v b (omega arith))
@@ -125,7 +119,6 @@ module _ (run marks : List ℕ) (limit n : ℕ) (f : FlatRun run n) where
   pub grown_all : {i w : ℕ} {before after : List ℕ} → Grown i w before after → limit < w → Matching A t after i
   grown_all {i} {w} g l =
       record {
-        words = g.words;
         matched = λ v a b c. (g.here v a (omega arith)).matched (omega (arith, f.all));
         none = λ v a b c. (g.here v a (omega arith)).none (omega (arith, f.all));
       }

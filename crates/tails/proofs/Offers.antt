@@ -2,19 +2,19 @@
 use mathlib.Core.Path.{◌≡◌, refl, ap, ◌∙◌}
 use mathlib.Core.Logic.{◌⊎◌, inl, inr}
 use mathlib.Core.List.{List}
-use Prim.Native.Nat.{ℕ, suc, ◌+◌, ◌-◌, ◌*◌, ◌≤◌, ◌<◌}
-use native.Mathlib.Nat.{mul-suc, mul-le-mul_right, le-mul_of_pos_right}
+use Prim.Native.Nat.{ℕ, suc, ◌+◌, ◌*◌, ◌/◌, ◌≤◌, ◌<◌}
+use native.Mathlib.Nat.{mul-le-mul_right}
 use native.Mathlib.Decide.{dec_le, dec_lt, ℕ_discrete}
 use native.Mathlib.Omega.{arith}
+use Rattle.std.proofs.Math.Nat.{div-mul-le_self, lt-div-mul-add}
 use lib.ListN.{get_or}
-use Rattle.optimum.proofs.Matches.{copy_more}
 use Rattle.blocks.specs.declared.keys.Key.{Key}
-use Rattle.blocks.specs.Keys.{packed, pair_base, order, Lesser, slot, count_slot, both_in, pair_in, key_in}
+use Rattle.blocks.specs.Keys.{pair_base, order, Lesser, slot, count_slot, both_in, pair_in, key_in}
 use Rattle.tails.specs.declared.rates.Rates.{Rates}
-use Rattle.tails.specs.Solving.{top_price, RatesLow, plain_key, repeat_key, Within, OfferCame, kept, taken, Offered, WidthCame, WidthOffered, StretchCame, by_plain, by_repeat, Stretched, plain_tail, repeat_tail, Twice, TailOffered, TailCame, by_width, Tailed}
+use Rattle.tails.specs.Solving.{plain_key, repeat_key, Within, OfferCame, kept, taken, Offered, WidthCame, WidthOffered, StretchCame, by_plain, by_repeat, Stretched, plain_tail, repeat_tail, Twice, TailOffered, TailCame, by_width, Tailed}
 
 -- Keys of the same numbers are the same.
-abbrev made : (both pair : ℕ) → Key
+abbrev pub made : (both pair : ℕ) → Key
 made x y = record { both = x; pair = y }
 
 pub same_key : (a b : Key) → a.both ≡ b.both → a.pair ≡ b.pair → a ≡ b
@@ -40,80 +40,58 @@ pub lesser_as : {a b r : Key} (x y : Key) → Lesser a b r → a.both ≡ x.both
     → Lesser x y r
 lesser_as {a} {b} {r} x y l p q u v = rw (same_key a x p q, same_key b y u v) at l
 
--- The counts below `count` are offered; `price` is what this count costs without its body, and `cover` what it covers.
-pub record Offering (W : List ℕ) (R : Rates) (i d w reach : ℕ) (best least : Key) (price count cover : ℕ) : Type 0 where
+-- The counts below `count` are offered.
+pub record Offering (W : List ℕ) (R : Rates) (i d w reach : ℕ) (best least : Key) (count : ℕ) : Type 0 where
   pub twice : 2 ≤ count
-  pub covers : cover ≡ count * w
-  pub near : cover ≤ d + w
-  pub costs : price ≡ R.first + R.each * (count - 2)
   pub came : OfferCame W R i d w reach best least
   pub lower : order least ≤ order best
   pub each : (h : ℕ) → h < count → Within reach w h → order least ≤ order (repeat_key W R i d w h)
   pub small : least.pair < pair_base
 
+-- What the counts that are offered cover.
+covers : (count w reach : ℕ) → count ≤ reach / w → count * w ≤ reach
+covers count w reach l = omega (arith, mul-le-mul_right w l, div-mul-le_self reach w)
+
 module _ (W : List ℕ) (R : Rates) (i d w reach : ℕ) (best : Key) where
-  pub offering_none : 2 * w ≤ d → best.pair < pair_base → (price cover : ℕ) → price ≡ R.first → cover ≡ w + w
-      → Offering W R i d w reach best best price 2 cover
-  offering_none l s price cover e f =
+  pub offering_none : best.pair < pair_base → Offering W R i d w reach best best 2
+  offering_none s =
       record {
         twice = omega arith;
-        covers = omega arith;
-        near = omega arith;
-        costs = omega arith;
         came = kept refl;
         lower = omega arith;
         each = λ h b q. absurd (omega (arith, q.twice));
         small = s;
       }
 
-  module _ (least : Key) (price count cover : ℕ) (o : Offering W R i d w reach best least price count cover) (low : RatesLow R) (pos : 0 < w) (short : d ≤ 32)
-      (half : 2 * w ≤ d) (within : reach ≤ d) where
-    -- The numbers are small.
-    pub count_low : count ≤ 48
-    count_low = omega (arith, o.covers, o.near, le-mul_of_pos_right count pos)
-
-    pub price_low : price ≤ top_price
-    price_low = omega (arith, o.costs, low.first, mul-le-mul_right (count - 2) low.each, count_low)
-
+  module _ (least : Key) (count : ℕ) (o : Offering W R i d w reach best least count) where
     -- One count more.
-    pub offering_more : cover ≤ reach → (x r : Key) → x.both ≡ price + both_in W (slot i w) + both_in W (slot (i + cover) (d - cover)) → x.pair ≡ packed count w
-        → Lesser least x r → (price' count' cover' : ℕ) → price' ≡ price + R.each → count' ≡ count + 1 → cover' ≡ cover + w
-        → Offering W R i d w reach best r price' count' cover'
-    offering_more l x r xb xp z price' count' cover' ep ec ek =
-        let e = o.covers in
-        let next = copy_more count (count + 1) w (omega arith) in
-        let f : count + 1 - 2 ≡ suc (count - 2) = omega (arith, o.twice) in
-        let g : R.each * (count + 1 - 2) ≡ R.each + R.each * (count - 2) = rw f (omega (arith, mul-suc R.each (count - 2))) in
-        let place : slot (i + cover) (d - cover) ≡ slot (i + count * w) (d - count * w) = rw e in
-        let here : x ≡ repeat_key W R i d w count = same_key x (repeat_key W R i d w count) (omega (arith, xb, o.costs, ap (both_in W) place)) xp in
+    pub offering_more : count ≤ reach / w → (x r : Key) → x ≡ repeat_key W R i d w count → x.pair < pair_base
+        → Lesser least x r → Offering W R i d w reach best r (count + 1)
+    offering_more l x r here low z =
         record {
           twice = omega (arith, o.twice);
-          covers = rw ec (omega arith);
-          near = omega arith;
-          costs = rw ec (omega (arith, o.costs));
-          came = by_one here z.one;
+          came = by_one z.one;
           lower = omega (arith, o.lower, z.left);
           each = λ h b q. elim (ℕ_discrete h count) [
             | yes c ↦ rw c (omega (arith, z.right, ap order here))
             | no c ↦ omega (arith, z.left, o.each h (omega arith) q)
           ];
-          small = lesser_small z o.small (omega (arith, xp, count_low));
+          small = lesser_small z o.small low;
         }
       where
-        by_one : x ≡ repeat_key W R i d w count → (r ≡ least) ⊎ (r ≡ x) → OfferCame W R i d w reach best r
-        by_one here (inl a) = rw a o.came
-        by_one here (inr a) = taken count (record { twice = o.twice; fits = omega (arith, o.covers) }) (a ∙ here)
+        by_one : (r ≡ least) ⊎ (r ≡ x) → OfferCame W R i d w reach best r
+        by_one (inl a) = rw a o.came
+        by_one (inr a) = taken count (record { twice = o.twice; fits = covers count w reach l }) (a ∙ here)
 
-    pub offering_all : reach < cover → Offered W R i d w reach best least
-    offering_all l =
+    pub offering_all : 0 < w → reach / w < count → Offered W R i d w reach best least
+    offering_all pos l =
         record {
           came = o.came;
           lower = o.lower;
           each = λ h q. elim (dec_lt h count) [
             | yes b ↦ o.each h b q
             | no b ↦
-                let m : count * w ≤ h * w = mul-le-mul_right w (omega arith) in
-                absurd (omega (arith, q.fits, o.covers))
+                absurd (omega (arith, q.fits, lt-div-mul-add {a = reach} pos, mul-le-mul_right {m = suc (reach / w)} {n = h} w (omega arith)))
           ];
           small = o.small;
         }
@@ -224,3 +202,7 @@ module _ (W M : List ℕ) (R : Rates) (own i limit : ℕ) where
       by_one : Twice M v → (r ≡ k) ⊎ (r ≡ repeat_tail W R i v) → TailCame W M R own i limit r
       by_one two (inl q) = rw q s.came
       by_one two (inr q) = by_width v within two q
+
+  pub tailed_all : (v : ℕ) (k : Key) → limit < v → Tailed W M R own i limit v k → Tailed W M R own i limit (limit + 1) k
+  tailed_all v k l s =
+      record { came = s.came; plainly = s.plainly; widths = λ w b f. s.widths w (omega arith) f; small = s.small }

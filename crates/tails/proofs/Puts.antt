@@ -17,7 +17,8 @@ use Rattle.blocks.proofs.Slots.{put_touched, put_other, touched_none, touched_mo
 use Rattle.blocks.proofs.Flats.{run, flat_node, stretch_low, tail_low}
 use Rattle.blocks.proofs.Bests.{two_later}
 use Rattle.tails.specs.declared.rates.Rates.{Rates}
-use Rattle.tails.specs.Solving.{top_rate, Stretched, Counted, Twice, Tailed, RowReady, OwnCost, StretchesBelow, CountsBelow, StretchesPut, CountPut, CountsPut, RowSolved, EndPut}
+use Rattle.tails.specs.Tops.{top_rate}
+use Rattle.tails.specs.Solving.{Stretched, Counted, Twice, Tailed, RowReady, OwnCost, StretchesBelow, CountsBelow, StretchesPut, CountPut, CountsPut, RowSolved, EndPut}
 use Rattle.tails.proofs.Rows.{best_end, best_same, count_same, ready_kept, match_inside, near_here, here_near, stretch_best, count_best, tail_best, wide_small}
 
 -- A key that was put stands there.
@@ -137,9 +138,9 @@ module _ {W M : List ℕ} {R : Rates} {limit n i : ℕ} where
         counts = λ z w l p. absurd (omega (arith, (reach p).some));
       }
 
-  pub counts_more : {X Y : List ℕ} (v : ℕ) → 0 < v → CountsPut W M R limit n i v X → CountPut X M R limit n i v Y → CountsPut W M R limit n i (v + 1) Y
+  pub counts_more : {X Y : List ℕ} (v u : ℕ) → u ≡ v + 1 → 0 < v → CountsPut W M R limit n i v X → CountPut X M R limit n i v Y → CountsPut W M R limit n i u Y
   unfolding ready_kept
-  counts_more {X} {Y} v pos s p =
+  counts_more {X} {Y} v u e pos s p =
       record {
         touched = touched_more s.touched p.touched;
         kept = λ c l. same_more (s.kept c l) (p.kept c (λ q. omega arith));

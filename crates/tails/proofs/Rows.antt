@@ -78,7 +78,6 @@ module _ {W M : List ℕ} {R : Rates} {limit n i : ℕ} where
         here = z.here;
         first = z.first;
         each = z.each;
-        low = z.low;
         matching = z.matching;
         solved = λ j l n. solved_kept i j z.modest p (omega arith) (z.solved j l n);
         room = omega (arith, z.room, p.same_length);

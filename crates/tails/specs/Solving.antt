@@ -11,21 +11,10 @@ use Rattle.blocks.specs.Keys.{factor, packed, pair_base, order, Lesser, block, s
 use Rattle.blocks.specs.Solved.{Flat, Best, BestCount, SolvedFrom, Solved, Modest}
 use Rattle.tails.specs.declared.rates.Rates.{Rates}
 
--- Prices of 16 bits that count repeats.
-abbrev pub top_rate : ℕ
-top_rate = 4294901760
-
--- No count that is offered step by step costs more: at most 48 copies are.
-abbrev pub top_price : ℕ
-top_price = 50 * top_rate
-
+-- The rates of two prices.
 pub record RatesOf (first_price each_price : ℕ) (r : Rates) : Type 0 where
   pub first : r.first ≡ first_price * factor + 1
   pub each : r.each ≡ each_price * factor
-
-pub record RatesLow (r : Rates) : Type 0 where
-  pub first : r.first ≤ top_rate + 1
-  pub each : r.each ≤ top_rate
 
 -- The keys of what may stand first in the stretch of d steps from step i on: the plain step, and h copies of width w.
 abbrev pub plain_key : List ℕ → (own i d : ℕ) → Key
@@ -128,14 +117,8 @@ pub record Tailed (W M : List ℕ) (R : Rates) (own i limit v : ℕ) (r : Key) :
   pub widths : (w : ℕ) → w < v → Twice M w → order r ≤ order (repeat_tail W R i w)
   pub small : r.pair < pair_base
 
--- Matches that machine words hold.
-pub record MatchesLow (M : List ℕ) : Type 0 where
-  pub long : length M ≡ 33
-  pub low : (w : ℕ) → get_or M w 0 < 65536
-
 -- The matches at step i, for each width within the limit; none where no step is that far on.
 pub record Matching (A : Allowed) (t : Forest) (M : List ℕ) (i : ℕ) : Type 0 where
-  pub words : MatchesLow M
   pub matched : (w : ℕ) → 0 < w → w ≤ A.widest → i + w ≤ siblings t → Matched A.marked (back i t) w (get_or M w 0)
   pub none : (w : ℕ) → 0 < w → w ≤ A.widest → siblings t < i + w → get_or M w 0 ≡ 0
 
@@ -150,7 +133,6 @@ pub record RowReady (W M : List ℕ) (R : Rates) (limit n i : ℕ) : Type 0 wher
   pub here : i < n
   pub first : R.first ≡ prices.first
   pub each : R.each ≡ prices.each
-  pub low : RatesLow R
   pub matching : Matching allowed tree M i
   pub solved : SolvedFrom allowed prices tree W (i + 1)
   pub room : block * (siblings tree + 1) ≤ length W
@@ -220,7 +202,6 @@ pub record EndPut (W : List ℕ) (n : ℕ) (X : List ℕ) : Type 0 where
 pub record FillReady (run steps : List ℕ) (R : Rates) (limit n : ℕ) (W : List ℕ) : Type 0 where
   pub flat : FlatRun run n
   pub narrow : limit ≤ 32
-  pub low : RatesLow R
   pub low_steps : (l : ℕ) → get_or steps l 0 < 65536
   pub room : block * (n + 1) ≤ length W
 

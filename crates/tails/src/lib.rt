@@ -9,5 +9,5 @@ mod row;
 mod run;
 mod stretches;
 
-pub use rates::{Rates, rates_of};
-pub use run::fill;
+pub use rates::Rates;
+pub use run::{FlatSeason, fill};

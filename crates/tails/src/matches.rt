@@ -5,37 +5,41 @@ ghost use Rattle.format.specs.Limits.{allowed};
 ghost use Rattle.format.specs.Tree.{tree_of};
 ghost use Rattle.tails.specs.Solving.{FlatRun, MatchAt, Matching};
 
+use blocks::Block;
 use format::is_marked;
 
 // The matches of step i at width w, by the k of the next step: one more where the step equals the one w further and is free, else
 // none.
-fn match_at(run: &[u8], marks: &[u8], n: usize, i: usize, w: usize, k: usize) -> usize
-    requires { (2 * n ≤ length run.now) × (n < 65536) × (i < n) × (w ≤ 32) × (k < 65536) }
+fn match_at(run: &[u8], marks: &[u8], n: usize, i: usize, w: usize, k: u16) -> u16
+    requires { (2 * n ≤ length run.now) × (n < 65536) × (i < n) × (w ≤ 32) × (k < 65535) }
     ensures { MatchAt run.now marks.now n i w k result }
 {
     if n <= i + w {
         return 0;
     }
     let label = run[2 * i + 1];
-    if run[2 * (i + w) + 1] != label {
-        return 0;
-    }
-    if is_marked(marks, label) {
+    if run[2 * (i + w) + 1] != label || is_marked(marks, label) {
         return 0;
     }
     k + 1
 }
 
 // Makes the matches of step i of those of the next step.
-pub fn grow(run: &[u8], marks: &[u8], limit: usize, n: usize, i: usize, matches: &mut [usize])
+// Stays: the parts of a season by themselves, since this asks nothing of its rates.
+pub fn grow(
+    run: &[u8],
+    marks: &[u8],
+    limit: usize,
+    n: usize,
+    i: usize,
+    matches: &mut [u16; Block::TAIL],
+)
     requires i_lt_n { (i < n) × (limit ≤ 32) }
     requires flat_run { FlatRun run.now n }
-    requires cases { Matching (allowed limit marks.now) (tree_of run.now) matches.old (i + 1) }
+    requires matching { Matching (allowed limit marks.now) (tree_of run.now) matches.old (i + 1) }
     ensures { Matching (allowed limit marks.now) (tree_of run.now) matches.new i }
 {
-    let mut w = 1;
-    while w <= limit {
+    for w in 1..=limit {
         matches[w] = match_at(run, marks, n, i, w, matches[w]);
-        w += 1;
     }
 }

@@ -1,26 +1,30 @@
 // The prices that a season is solved at: they count repeats, so that cost and repeats are one number.
 ghost use Rattle.std.specs.Prelude.{◌≡◌, ◌+◌, ◌<◌, ◌≤◌};
 ghost use Rattle.blocks.specs.Keys.{read_base};
-ghost use Rattle.tails.specs.Solving.{RatesOf, RatesLow, top_price};
+ghost use Rattle.tails.specs.Tops.{top_rate, top_price};
 
 use blocks::Block;
-use format::wide_cost;
 
 // The price of two copies, and that of each copy more.
 #[derive(Clone, Copy)]
 pub struct Rates {
     pub first: u64,
     pub each: u64,
+    ghost first_low: { first ≤ top_rate + 1 },
+    ghost each_low: { each ≤ top_rate },
 }
 
-// A repeat is one repeat more.
-pub fn rates_of(first: u16, each: u16) -> Rates
-    ensures rates_of { RatesOf first each result }
-    ensures rates_low { RatesLow result }
-{
-    Rates {
-        first: wide_cost(first) * Block::REPEATS + 1,
-        each: wide_cost(each) * Block::REPEATS,
+impl Rates {
+    ghost use Rattle.tails.specs.Solving.{RatesOf};
+
+    // The rates of two prices: a repeat is one repeat more.
+    pub fn new(first: u16, each: u16) -> Rates
+        ensures { RatesOf first each result }
+    {
+        Rates {
+            first: u64::from(first) * Block::REPEATS + 1,
+            each: u64::from(each) * Block::REPEATS,
+        }
     }
 }
 

@@ -1,27 +1,32 @@
 // One block: the stretches from a step on, the best counts, and the tail.
-ghost use Rattle.tails.specs.Solving.{RowReady, OwnCost, RowSolved};
+ghost use Rattle.tails.specs.Solving.{OwnCost};
+ghost use Rattle.tails.specs.Given.{Ready, Done};
 
 use crate::counts::{put_counts, tail_key};
 use crate::rates::Rates;
 use crate::stretches::put_stretches;
 use blocks::{Block, Key, put_key, slot};
 
-// Solves the block of step i; `own` is the step's cost by itself. The blocks behind it are solved.
-pub fn solve(
-    work: &mut [u32],
-    rates: Rates,
-    matches: &[usize],
-    own: u64,
-    limit: usize,
-    n: usize,
-    i: usize,
-)
-    requires { (z : RowReady work.old matches.now rates limit n i) × OwnCost z own }
-    ensures { RowSolved work.old matches.now rates limit n own i work.new }
+// What the block of step i is solved by: the prices, how many steps match at each width within the limit, the steps of the run,
+// and what the step costs by itself.
+#[derive(Clone, Copy)]
+pub struct Row<'a> {
+    pub rates: Rates,
+    pub matches: &'a [u16; Block::TAIL],
+    pub limit: usize,
+    pub n: usize,
+    pub i: usize,
+    pub own: u64,
+}
+
+// Solves the block of a step. The blocks behind it are solved.
+pub fn solve(work: &mut [u32], row: &Row)
+    requires { (z : Ready row.now work.old) × OwnCost z row.now.own }
+    ensures { Done row.now work.old work.new }
 {
-    put_key(work, slot(i, 0), Key { both: 0, pair: 0 });
-    put_stretches(work, rates, matches, own, limit, n, i);
-    put_counts(work, rates, matches, limit, n, i);
-    let tail = tail_key(work, rates, matches, own, limit, i);
-    put_key(work, slot(i, Block::TAIL), tail);
+    put_key(work, slot(row.i, 0), Key { both: 0, pair: 0 });
+    put_stretches(work, row);
+    put_counts(work, row);
+    let tail = tail_key(work, row);
+    put_key(work, slot(row.i, Block::TAIL), tail);
 }

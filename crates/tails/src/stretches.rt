@@ -2,100 +2,73 @@
 // stand first.
 ghost use Rattle.std.specs.Prelude.{◌≡◌, ◌+◌, ◌*◌, ◌≤◌, ◌<◌, length};
 ghost use Rattle.blocks.specs.Keys.{block, pair_base, slot, both_in, pair_in};
-ghost use Rattle.tails.specs.Solving.{top_rate, RatesLow, MatchesLow, Offered, WidthOffered, Stretched, RowReady, OwnCost, StretchesPut};
+ghost use Rattle.tails.specs.Tops.{top_rate};
+ghost use Rattle.tails.specs.Solving.{Offered, WidthOffered, OwnCost};
+ghost use Rattle.tails.specs.Given.{Ready, StretchKey, StretchesDone};
 
-use crate::rates::{Rates, repeat_cost};
-use blocks::{Key, key_at, lesser, pair_of, put_key, slot};
-use table::smaller;
+use crate::rates::repeat_cost;
+use crate::row::Row;
+use blocks::{Key, key_at, pair_of, put_key, slot};
 
-// The least of a key and of those of the repeats of width w that stand first in the stretch of d steps from step i on and cover
-// no more than `reach` of them.
-fn offer(work: &[u32], rates: Rates, i: usize, d: usize, w: usize, reach: usize, best: Key) -> Key
-    requires d_in_bounds { (block * (i + d + 1) ≤ length work.now) × (i + d < 65536) × (d ≤ 32) }
+// The least of a key and of those of the repeats of width w that stand first in the stretch of d steps and cover no more than
+// `reach` of them.
+fn offer(work: &[u32], row: &Row, d: usize, w: usize, reach: usize, best: Key) -> Key
+    requires d_in_bounds { (block * (row.now.i + d + 1) ≤ length work.now) × (row.now.i + d < 65536) × (d ≤ 32) }
     requires w_nonzero { (0 < w) × (2 * w ≤ d) × (reach ≤ d) × (best.pair < pair_base) }
-    requires rates_low { RatesLow rates }
-    ensures { Offered work.now rates i d w reach best result }
+    ensures { Offered work.now row.now.rates row.now.i d w reach best result }
 {
-    let body = key_at(work, slot(i, w)).both;
+    let body = key_at(work, slot(row.i, w)).both;
     let mut least = best;
-    let mut price = rates.first;
-    let mut count = 2;
-    let mut cover = w + w;
-    while cover <= reach {
-        let rest = key_at(work, slot(i + cover, d - cover));
+    for count in 2..=reach / w {
+        let cover = count * w;
+        let price = row.rates.first + row.rates.each * ((count - 2) as u64);
+        let rest = key_at(work, slot(row.i + cover, d - cover));
         let both = repeat_cost(price, body, rest.both);
         let pair = pair_of(count, w);
-        least = lesser(least, Key { both, pair });
-        price += rates.each;
-        count += 1;
-        cover += w;
+        least = least.min(Key { both, pair });
     }
     least
 }
 
 // The same for all counts of width w that the matches allow.
-fn offer_width(
-    work: &[u32],
-    rates: Rates,
-    matches: &[usize],
-    i: usize,
-    d: usize,
-    w: usize,
-    best: Key,
-) -> Key
-    requires d_in_bounds { (block * (i + d + 1) ≤ length work.now) × (i + d < 65536) × (d ≤ 32) }
+fn offer_width(work: &[u32], row: &Row, d: usize, w: usize, best: Key) -> Key
+    requires d_in_bounds { (block * (row.now.i + d + 1) ≤ length work.now) × (row.now.i + d < 65536) × (d ≤ 32) }
     requires w_nonzero { (0 < w) × (2 * w ≤ d) × (best.pair < pair_base) }
-    requires rates_low { RatesLow rates }
-    requires cases { MatchesLow matches.now }
-    ensures { WidthOffered work.now matches.now rates i d w best result }
+    ensures { WidthOffered work.now row.now.matches.now row.now.rates row.now.i d w best result }
 {
-    let span = matches[w];
+    let span = row.matches[w] as usize;
     if span < w {
         return best;
     }
-    offer(work, rates, i, d, w, smaller(d, span + w), best)
+    offer(work, row, d, w, d.min(span + w), best)
 }
 
-// The key of the stretch of d steps from step i on; `own` is the step's cost by itself.
-fn stretch_key(work: &[u32], rates: Rates, matches: &[usize], own: u64, i: usize, d: usize) -> Key
-    requires d_in_bounds { (block * (i + d + 1) ≤ length work.now) × (i + d < 65536) × (0 < d) × (d ≤ 32) × (own ≤ top_rate) }
-    requires rates_low { RatesLow rates }
-    requires cases { MatchesLow matches.now }
-    ensures { Stretched work.now matches.now rates own i d 33 result }
+// The key of the stretch of d steps.
+#[tactic(auto, using(crate::proofs::Offers::stretched_all))]
+fn stretch_key(work: &[u32], row: &Row, d: usize) -> Key
+    requires d_in_bounds { (block * (row.now.i + d + 1) ≤ length work.now) × (row.now.i + d < 65536) × (0 < d) × (d ≤ 32) × (row.now.own ≤ top_rate) }
+    ensures { StretchKey row.now work.now d 33 result }
 {
-    let next = key_at(work, slot(i + 1, d - 1));
+    let next = key_at(work, slot(row.i + 1, d - 1));
     let mut best = Key {
-        both: own + next.both,
+        both: row.own + next.both,
         pair: 0,
     };
-    let mut w = 1;
-    while w + w <= d {
-        best = offer_width(work, rates, matches, i, d, w, best);
-        w += 1;
+    for w in 1..=d / 2 {
+        best = offer_width(work, row, d, w, best);
     }
     best
 }
 
-// Puts the keys of the stretches from step i on, of as many steps as the limit allows and the run of n steps has. That of no steps
-// stands already.
-pub fn put_stretches(
-    work: &mut [u32],
-    rates: Rates,
-    matches: &[usize],
-    own: u64,
-    limit: usize,
-    n: usize,
-    i: usize,
-)
-    requires own_cost { (z : RowReady work.old matches.now rates limit n i) × OwnCost z own }
-    requires i_value { (both_in work.old (slot i 0) ≡ 0) × (pair_in work.old (slot i 0) ≡ 0) }
-    ensures { StretchesPut work.old matches.now rates limit n own i 33 work.new }
+// Puts the keys of the stretches, of as many steps as the limit allows and the run has. That of no steps stands already.
+pub fn put_stretches(work: &mut [u32], row: &Row)
+    requires own_cost { (z : Ready row.now work.old) × OwnCost z row.now.own }
+    requires i_value { (both_in work.old (slot row.now.i 0) ≡ 0) × (pair_in work.old (slot row.now.i 0) ≡ 0) }
+    ensures { StretchesDone row.now 33 work.old work.new }
 {
-    let m = smaller(limit, n - i);
-    let mut d = 1;
-    while d <= m {
-        let key = stretch_key(work, rates, matches, own, i, d);
-        put_key(work, slot(i, d), key);
-        d += 1;
+    let m = row.limit.min(row.n - row.i);
+    for d in 1..=m {
+        let key = stretch_key(work, row, d);
+        put_key(work, slot(row.i, d), key);
     }
 }

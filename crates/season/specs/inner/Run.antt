@@ -4,7 +4,7 @@ use Rattle.std.specs.Prelude.{◌≡◌, List, ◌++◌, ℕ, ◌≤◌, length,
 use Rattle.format.specs.Limits.{Prices, allowed}
 use Rattle.format.specs.Forest.{cost, bytes, Allowed}
 use Rattle.format.specs.Tree.{tree_of}
-use Rattle.format.specs.declared.Folded.{Folded}
+use Rattle.format.specs.Numbers.{Folded}
 use Rattle.optimum.specs.Fewest.{counting, preferred}
 use Rattle.optimum.specs.Verdict.{room_answer, room_output}
 use Rattle.blocks.specs.Keys.{factor}

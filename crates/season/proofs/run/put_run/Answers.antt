@@ -10,7 +10,7 @@ fold_length-length-requires c = write_fits c.requires.1.1
 
 pub returns-then-out-length : goal.returns-then-out-length
 returns-then-out-length c =
-    written_short c.fold_length-length.result c.fold_length-length.ensures c.args.out.now (omega (arith, c.if-out-length.true)) _ c.refuse.ensures
+    written_short c.fold_length-length.result c.fold_length-length.ensures c.args.out.now (omega (arith, c.if-out-length.true)) _ (rw c.at.ensures)
 
 pub put_steps-requires : goal.put_steps-requires
 put_steps-requires c = write_fits c.requires.1.1

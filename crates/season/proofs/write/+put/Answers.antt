@@ -1,8 +1,5 @@
 -- The bytes of the cheapest fold, by the blocks' pairs.
-use Rattle.std.proofs.Common.{◌≡◌, ap, ◌∙◌, ◌-◌, arith}
-use Rattle.blocks.specs.declared.keys.Key.{Key}
-use Rattle.blocks.specs.Keys.{pair_in, slot}
-use Rattle.season.specs.Writing.{left_slot}
+use Rattle.std.proofs.Common.{arith}
 use Rattle.season.proofs.Writings.{putting_none, putting_all, next, next_fits, putting_more, item_label, item_body, repeat_size, repeat_written}
 use Rattle.season.proofs.write.+put.Goals as goal
 
@@ -37,33 +34,26 @@ put_steps-loop-i-init t c = putting_none c.args.out.now c.requires
 
 pub put_steps-put_item-p-requires : goal.put_steps-put_item-p-requires
 put_steps-put_item-p-requires t c =
-    let s = c.requires in
-    let more = c.loop-i-test.true in
-    let looked : c.key_at-pair.result.pair ≡ pair_in c.args.work.now (slot c.loop-i.i (left_slot c.args.tail (c.args.end - c.loop-i.i))) =
-    ap (λ (k : Key). k.pair) c.key_at-pair.ensures.0 ∙ ap (pair_in c.args.work.now) (c.slot.ensures ∙ ap (slot c.loop-i.i) c.left_slot.ensures) in
-    let n = next c.args.out.now s c.loop-i.invariant more _ looked in (
-      omega (arith, n.half, n.covered.1, c.loop-i.invariant.ahead),
-      next_fits c.args.out.now s c.loop-i.invariant more _ looked,
+    let x = c.loop-i.invariant in
+    let n = next c.args.out.now c.requires x c.loop-i-test.true c.key_at-pair.ensures.0 c.slot.ensures c.left_slot.ensures in (
+      omega (arith, n.half, n.covered.1, x.ahead),
+      next_fits c.args.out.now c.requires x c.loop-i-test.true c.key_at-pair.ensures.0 c.slot.ensures c.left_slot.ensures,
     )
 
 pub put_steps-covers-i-requires : goal.put_steps-covers-i-requires
 put_steps-covers-i-requires t c =
-    let looked : c.key_at-pair.result.pair ≡ pair_in c.args.work.now (slot c.loop-i.i (left_slot c.args.tail (c.args.end - c.loop-i.i))) =
-    ap (λ (k : Key). k.pair) c.key_at-pair.ensures.0 ∙ ap (pair_in c.args.work.now) (c.slot.ensures ∙ ap (slot c.loop-i.i) c.left_slot.ensures) in
-    (next c.args.out.now c.requires c.loop-i.invariant c.loop-i-test.true _ looked).small
+    (next c.args.out.now c.requires c.loop-i.invariant c.loop-i-test.true c.key_at-pair.ensures.0 c.slot.ensures c.left_slot.ensures).small
 
 pub put_steps-loop-i-smaller : goal.put_steps-loop-i-smaller
 put_steps-loop-i-smaller t c =
-    let looked : c.key_at-pair.result.pair ≡ pair_in c.args.work.now (slot c.loop-i.i (left_slot c.args.tail (c.args.end - c.loop-i.i))) =
-    ap (λ (k : Key). k.pair) c.key_at-pair.ensures.0 ∙ ap (pair_in c.args.work.now) (c.slot.ensures ∙ ap (slot c.loop-i.i) c.left_slot.ensures) in
-    let n = next c.args.out.now c.requires c.loop-i.invariant c.loop-i-test.true _ looked in
+    let n = next c.args.out.now c.requires c.loop-i.invariant c.loop-i-test.true c.key_at-pair.ensures.0 c.slot.ensures c.left_slot.ensures in
     omega (arith, c.covers-i.ensures, n.covered.0, n.covered.1)
 
 pub put_steps-loop-i-preserved : goal.put_steps-loop-i-preserved
 put_steps-loop-i-preserved t c =
-    let looked : c.key_at-pair.result.pair ≡ pair_in c.args.work.now (slot c.loop-i.i (left_slot c.args.tail (c.args.end - c.loop-i.i))) =
-    ap (λ (k : Key). k.pair) c.key_at-pair.ensures.0 ∙ ap (pair_in c.args.work.now) (c.slot.ensures ∙ ap (slot c.loop-i.i) c.left_slot.ensures) in
-    rw c.covers-i.ensures (putting_more c.args.out.now c.requires c.loop-i.invariant c.loop-i-test.true _ looked c.put_item-p.result c.put_item-p.new.out c.put_item-p.ensures)
+    rw c.covers-i.ensures
+    (putting_more c.args.out.now c.requires c.loop-i.invariant c.loop-i-test.true c.key_at-pair.ensures.0 c.slot.ensures c.left_slot.ensures
+    c.put_item-p.result c.put_item-p.new.out c.put_item-p.ensures)
 
 pub put_steps-returns : goal.put_steps-returns
 put_steps-returns t c = putting_all c.args.out.now c.requires c.loop-i.invariant c.loop-i-test.false

@@ -6,5 +6,5 @@ use Rattle.tails.proofs.stretches.offer_width.Goals as goal
 pub returns : goal.returns
 returns c =
     let a = c.args in
-    let z = c.smaller.ensures in
-    width_some a.work.now a.matches.now a.rates a.i a.d a.w a.best _ (omega arith) z.0 z.1 z.2 _ c.offer.ensures
+    width_some a.work.now a.row.now.matches.now a.row.now.rates a.row.now.i a.d a.w a.best _ (omega arith) (omega (arith, c.min.ensures)) (omega (arith, c.min.ensures))
+    (λ n l m. omega (arith, c.min.ensures)) _ c.offer.ensures

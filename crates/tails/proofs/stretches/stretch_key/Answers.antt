@@ -5,13 +5,10 @@ use Rattle.tails.proofs.Offers.{stretched_more, stretched_all}
 use Rattle.tails.proofs.stretches.stretch_key.Goals as goal
 
 pub loop-w-preserved : goal.loop-w-preserved
-loop-w-preserved c =
-    let a = c.args in
-    let v = c.loop-w.invariant in
-    (omega arith, omega arith, stretched_more a.work.now a.matches.now a.rates a.own a.i a.d _ _ _ _ refl v.2 c.offer_width-best.ensures)
+loop-w-preserved c = stretched_more _ _ _ _ _ _ _ _ _ _ refl c.loop-w.invariant c.offer_width-best.ensures
 
-pub returns : goal.returns
-returns c =
+pub returns-2 : goal.returns-2
+returns-2 c =
     let a = c.args in
-    let v = c.loop-w.invariant in
-    stretched_all a.work.now a.matches.now a.rates a.own a.i a.d _ _ (omega arith) v.2
+    stretched_all a.work.now a.row.now.matches.now a.row.now.rates a.row.now.own a.row.now.i a.d _ _ (omega arith)
+    (stretched_more _ _ _ _ _ _ _ _ _ _ refl c.loop-w.invariant c.offer_width-best.ensures)
