@@ -12,7 +12,7 @@ use Rattle.format.specs.Forest.{form_in}
 use Rattle.format.specs.Head.{full_head}
 use Rattle.format.specs.Readings.{as_run_reading, run_outcome}
 use Rattle.format.specs.Tree.{tree_of}
-use Rattle.format.specs.declared.RunReading.{RunReading}
+use Rattle.format.specs.Numbers.{RunReading}
 use Rattle.optimum.specs.Fewest.{preferred}
 use Rattle.optimum.proofs.Demands.{cheapest_room}
 use Rattle.folder.specs.Folding.{folding_in, folding, shortened, fold_answer}

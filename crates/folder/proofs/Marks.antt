@@ -14,7 +14,7 @@ use Rattle.format.specs.Readings.{run_rules, run_outcome_in, run_outcome}
 use Rattle.format.specs.Tree.{tree_of}
 use Rattle.format.specs.Marks.{free_marks, all_marks}
 use Rattle.format.specs.FreeMarks.{unmarked_headed}
-use Rattle.format.specs.declared.Tally.{Tally}
+use Rattle.format.specs.declared.tally.Tally.{Tally}
 use Rattle.format.proofs.Heads.{headed_accepted}
 use Rattle.format.proofs.FreeMarks.{free_allowed, free_headed}
 use Rattle.optimum.specs.Verdict.{folds, verdict, folding_by}

@@ -1,24 +1,26 @@
 -- The folder's answer as a whole: what the run and the prices decide, what fold_run rests on, and what the slices then hold.
 use mathlib.Core.Path.{◌≡◌, refl, sym, ap, ◌∙◌}
 use mathlib.Core.Bool.{Bool, true, false, true≢false}
-use mathlib.Core.List.{List, []}
-use Prim.Native.Nat.{ℕ, zero, suc, ◌-◌, ◌*◌, ◌<◌, ◌≤◌}
-use native.Mathlib.Nat.{mul-le-mul, zero-add}
-use native.Mathlib.Decide.{dec_le}
+use mathlib.Core.List.{List}
+use Prim.Native.Nat.{ℕ, ◌≤◌}
 use native.Mathlib.Omega.{arith}
 use lib.Dec.{ltb}
-use lib.ListN.{length, get_or, take, get_or-eq_default}
+use lib.ListN.{length, take}
 use borrow.Author.Tests.{ltb-false}
-use Rattle.format.specs.Limits.{limits, Prices, Tariff, tariff, priced, of_repeat, allowed, cells}
+use Rattle.std.specs.Prelude.{Result, Ok, Err, IfOk, IfErr}
+use Rattle.format.specs.Limits.{limits, Prices, Tariff, priced, allowed, cells}
 use Rattle.format.specs.Order.{Bytes}
-use Rattle.format.specs.Forest.{Forest, nodes, cost, form_in, bytes, at_most, Allowed}
+use Rattle.format.specs.Forest.{Forest, cost, form_in, bytes, at_most, Allowed}
 use Rattle.format.specs.Machine.{Outcome, refused, accepted}
 use Rattle.format.specs.Head.{full_head}
 use Rattle.format.specs.Readings.{format_rules, as_run_reading, run_outcome}
 use Rattle.format.specs.Tree.{tree_of}
 use Rattle.format.specs.Family.{long_form}
-use Rattle.format.specs.declared.RunReading.{RunReading}
-use Rattle.format.specs.declared.Folded.{Folded}
+use Rattle.format.specs.Numbers.{RunReading, Folded}
+use Rattle.format.specs.Answers.{number, folded_said}
+use Rattle.format.specs.declared.answers.Refusal.{Refusal}
+use Rattle.format.specs.declared.answers.PricedFold.{PricedFold}
+use Rattle.format.specs.declared.answers.Reason.TheVariants.{ShortOutput}
 use Rattle.format.proofs.Marks.{sound_plain}
 use Rattle.format.proofs.Family.{converted_form}
 use Rattle.optimum.specs.Fewest.{preferred}
@@ -26,56 +28,9 @@ use Rattle.optimum.specs.Verdict.{Verdict, refuses, folds, verdict_in, verdict, 
 use Rattle.optimum.specs.Demands.{CheapestWithin, CheapestOver, ShortOver, MinimumTree}
 use Rattle.optimum.proofs.Demands.{format_bars_none, run_form, run_shape}
 use Rattle.optimum.proofs.Verdicts.{Accepted, accepts, node_count_is, few, refused_as, Told, other, wrote, over, told}
-use Rattle.optimum.proofs.Fewest.{counted_repeat}
 use Rattle.table.specs.Listing.{Spelled}
-use Rattle.table.specs.Keys.{factor, top_price}
-use Rattle.filling.specs.Filling.{Prepared, prices_of, LevelReady}
 use Rattle.folder.specs.Folding.{folding_in, folding, shortened, short_work, fold_answer, fold_output, fold_work}
-use Rattle.folder.specs.inner.Prices.{PriceList}
-use Rattle.folder.specs.inner.Run.{RunFolded}
-
--- The list of repeat prices is that of the two lent ones.
-module _ (steps groups prices : List ℕ) (first each : ℕ) (p : PriceList first each prices) where
-  first_is : get_or prices 2 0 ≡ first
-  first_is = omega (arith, p.price_of 2 (omega arith) (omega arith))
-
-  each_is : get_or prices 3 0 - get_or prices 2 0 ≡ each
-  each_is = omega (arith, first_is, p.price_of 3 (omega arith) (omega arith))
-
-  prices_same : (marks : List ℕ) → prices_of steps groups prices ≡ priced (tariff steps groups marks first each)
-  prices_same marks = rw (each_is, first_is)
-
-  pub prepared : first < 65536 → each < 65536 → ((l : ℕ) → get_or steps l 0 < 65536) → ((l : ℕ) → get_or groups l 0 < 65536) → Prepared steps groups prices
-  prepared f e low_steps low_groups =
-      record {
-        priced = record {
-          ready = record { long = p.long; low = small };
-          price_of = λ h a b.
-              let e : get_or prices h 0 ≡ of_repeat (prices_of steps groups prices) h = p.price_of h a b ∙ ap (λ (q : Prices). of_repeat q h) (sym (prices_same [])) in
-              rw e (sym (counted_repeat factor (prices_of steps groups prices) h));
-        };
-        low_steps = low_steps;
-        low_groups = low_groups;
-      }
-    where
-      counted : (h : ℕ) → 2 ≤ h → h ≤ 1024 → get_or prices h 0 ≤ top_price
-      counted h a b =
-          let m : each * (h - 2) ≤ 65535 * 1022 = mul-le-mul {n₁ = each} {m₁ = h - 2} {n₂ = 65535} {m₂ = 1022} (omega arith) (omega arith) in
-          omega (arith, p.price_of h a b)
-
-      small : (h : ℕ) → get_or prices h 0 ≤ top_price
-      small zero = omega (arith, p.none)
-      small (suc zero) = omega (arith, p.one)
-      small (suc (suc h)) = elim (dec_le (suc (suc h)) 1024) [
-        | yes b ↦ counted (suc (suc h)) (omega arith) b
-        | no b ↦ omega (arith, get_or-eq_default prices 0 {n = suc (suc h)} (omega (arith, p.long)))
-      ]
-
--- The two lent ones are widened first.
-pub prices_priced : (steps groups marks prices : List ℕ) (first each wide_first wide_each : ℕ) → wide_first ≡ first → wide_each ≡ each → PriceList wide_first wide_each prices
-    → prices_of steps groups prices ≡ priced (tariff steps groups marks first each)
-prices_priced steps groups marks prices first each wide_first wide_each a b p =
-    prices_same steps groups prices wide_first wide_each p marks ∙ rw (a, b)
+use Rattle.folder.specs.inner.Run.{RunReady, RunFolded}
 
 -- What an accepted run gives the table to rest on.
 module _ (s : List ℕ) (k : ℕ) (T : Tariff) (r : RunReading) (admitted : r ≡ as_run_reading (run_outcome (full_head T k) s))
@@ -92,16 +47,14 @@ module _ (s : List ℕ) (k : ℕ) (T : Tariff) (r : RunReading) (admitted : r �
         };
       }
 
-  pub level_ready : (prices costs choices : List ℕ) → cells r.nodes ≤ length costs → cells r.nodes ≤ length choices
-      → Prepared T.steps T.groups prices → LevelReady s 0 k T.steps T.groups prices costs choices
-  level_ready prices costs choices x y p =
-      let all = node_count_is limits s k T r admitted a small in
+  pub run_ready : (costs choices : List ℕ) → cells r.nodes ≤ length costs → cells r.nodes ≤ length choices → RunReady s r.nodes costs choices
+  run_ready costs choices x y =
       record {
         spelled = spelled;
-        total = omega (arith, all, few limits s k T r admitted a small);
-        cost_room = rw (zero-add (nodes (tree_of s)), all) x;
-        choice_room = rw (zero-add (nodes (tree_of s)), all) y;
-        prepared = p;
+        all = node_count_is limits s k T r admitted a small;
+        few = few limits s k T r admitted a small;
+        cost_room = x;
+        choice_room = y;
       }
 
 -- Work that is not too short has its entries.
@@ -148,37 +101,62 @@ short_folding s k T = by_outcome (run_outcome (full_head T k) s)
     by_outcome (refused n p) = refl
     by_outcome (accepted t x) = rw (converted_form true false (preferred (allowed k T.marks) (priced T) (tree_of s)))
 
+-- What holds of each fold that is answered, and of an answer that the output is too short.
+if_folded : (r : Result PricedFold Refusal) (Q : ℕ → ℕ → Type 0) → ((folded_said r).refusal ≡ 0 → Q (folded_said r).length (folded_said r).cost)
+    → IfOk r (λ f. Q f.length f.cost)
+if_folded (Ok f) Q h = h refl
+if_folded (Err e) Q h = tt
+
+if_short : (r : Result PricedFold Refusal) (Q : Type 0) → ((folded_said r).refusal ≡ 14 → Q) → IfErr r (λ e. e.reason ≡ ShortOutput → Q)
+if_short (Ok f) Q h = tt
+if_short (Err e) Q h = λ z. h (ap number z)
+
 -- DEMAND 3 AND THE REPORT'S PROBLEM, of what the folder writes; and of the long form of what the short folder writes.
-module _ (s : List ℕ) (small : Bytes s) (k : ℕ) (T : Tariff) (costs choices : ℕ) (out out' : List ℕ) (r : Folded) where
-  abbrev Held : (List ℕ → List ℕ) → Type 0
-  Held form =
-      (r.refusal ≡ 0 → CheapestWithin s k (format_rules T) (form (take r.length out')) r.cost)
-      × (r.refusal ≡ 0 → MinimumTree s k T (form (take r.length out')))
+module _ (s : List ℕ) (small : Bytes s) (k : ℕ) (T : Tariff) (costs choices : ℕ) (out out' : List ℕ) (r : Result PricedFold Refusal) where
+  abbrev said : Folded
+  said = folded_said r
 
-  pub fold_held : r ≡ fold_answer (folding s k T) costs choices (length out) → out' ≡ fold_output (folding s k T) costs choices out
-      → Held (λ g. g) × (r.refusal ≡ 14 → CheapestOver (length out) s k (format_rules T))
-  fold_held e f = by_told (told limits format_bars_none (λ n. short_work n costs choices) false s small k T out out' r e f)
+  -- The fold that a form gives of what is written, and what 14 says.
+  abbrev Held : (List ℕ → List ℕ) → Type 0 → Type 0
+  Held form Over =
+      IfOk r (λ f. CheapestWithin s k (format_rules T) (form (take f.length out')) f.cost)
+      × (IfOk r (λ f. MinimumTree s k T (form (take f.length out'))) × IfErr r (λ e. e.reason ≡ ShortOutput → Over))
+
+  held : (form : List ℕ → List ℕ) (Over : Type 0)
+      → (said.refusal ≡ 0 → CheapestWithin s k (format_rules T) (form (take said.length out')) said.cost × MinimumTree s k T (form (take said.length out')))
+      → (said.refusal ≡ 14 → Over) → Held form Over
+  held form Over a b = (
+    if_folded r (λ n c. CheapestWithin s k (format_rules T) (form (take n out')) c) (λ z. (a z).0),
+    (
+      if_folded r (λ n c. MinimumTree s k T (form (take n out'))) (λ z. (a z).1),
+      if_short r Over b,
+    ),
+  )
+
+  pub fold_held : said ≡ fold_answer (folding s k T) costs choices (length out) → out' ≡ fold_output (folding s k T) costs choices out
+      → Held (λ g. g) (CheapestOver (length out) s k (format_rules T))
+  fold_held e f = by_told (told limits format_bars_none (λ n. short_work n costs choices) false s small k T out out' said e f)
     where
-      by_told : Told limits format_bars_none (λ n. short_work n costs choices) false s small k T out out' r e f
-          → Held (λ g. g) × (r.refusal ≡ 14 → CheapestOver (length out) s k (format_rules T))
-      by_told (other x y) = ((λ z. absurd (x z), λ z. absurd (x z)), λ z. absurd (y z))
-      by_told (wrote n d g) = ((λ z. rw g d.0, λ z. rw g d.1), λ z. absurd (omega arith))
+      by_told : Told limits format_bars_none (λ n. short_work n costs choices) false s small k T out out' said e f
+          → Held (λ g. g) (CheapestOver (length out) s k (format_rules T))
+      by_told (other x y) = held (λ g. g) _ (λ z. absurd (x z)) (λ z. absurd (y z))
+      by_told (wrote n d g) = held (λ g. g) _ (λ z. (rw g d.0, rw g d.1)) (λ z. absurd (omega arith))
       by_told (over n c d l) =
-          ((λ z. absurd (omega arith), λ z. absurd (omega arith)), λ z. record { fold = _; cost = c; cheapest = d.0; longer = l })
+          held (λ g. g) _ (λ z. absurd (omega arith)) (λ z. record { fold = _; cost = c; cheapest = d.0; longer = l })
 
-  pub short_held : r ≡ fold_answer (folding_in true s k T) costs choices (length out) → out' ≡ fold_output (folding_in true s k T) costs choices out
-      → Held long_form × (r.refusal ≡ 14 → ShortOver (length out) s k (format_rules T))
-  short_held e f = by_told (told limits format_bars_none (λ n. short_work n costs choices) true s small k T out out' r e f)
+  pub short_held : said ≡ fold_answer (folding_in true s k T) costs choices (length out) → out' ≡ fold_output (folding_in true s k T) costs choices out
+      → Held long_form (ShortOver (length out) s k (format_rules T))
+  short_held e f = by_told (told limits format_bars_none (λ n. short_work n costs choices) true s small k T out out' said e f)
     where
       fold : Forest
       fold = preferred (allowed k T.marks) (priced T) (tree_of s)
 
-      by_told : Told limits format_bars_none (λ n. short_work n costs choices) true s small k T out out' r e f
-          → Held long_form × (r.refusal ≡ 14 → ShortOver (length out) s k (format_rules T))
-      by_told (other x y) = ((λ z. absurd (x z), λ z. absurd (x z)), λ z. absurd (y z))
+      by_told : Told limits format_bars_none (λ n. short_work n costs choices) true s small k T out out' said e f
+          → Held long_form (ShortOver (length out) s k (format_rules T))
+      by_told (other x y) = held long_form _ (λ z. absurd (x z)) (λ z. absurd (y z))
       by_told (wrote n d g) =
           let back = converted_form false true fold in
-          ((λ z. rw (g, back) d.0, λ z. rw (g, back) d.1), λ z. absurd (omega arith))
+          held long_form _ (λ z. (rw (g, back) d.0, rw (g, back) d.1)) (λ z. absurd (omega arith))
       by_told (over n c d l) =
           let short = converted_form true false fold in
-          ((λ z. absurd (omega arith), λ z. absurd (omega arith)), λ z. record { fold = bytes fold; cost = c; cheapest = d.0; longer = rw short l })
+          held long_form _ (λ z. absurd (omega arith)) (λ z. record { fold = bytes fold; cost = c; cheapest = d.0; longer = rw short l })

@@ -2,7 +2,7 @@
 use Rattle.std.specs.Prelude.{Bool, false, ◌||◌, List, ℕ, ltb}
 use Rattle.format.specs.Limits.{limits, Tariff, cells}
 use Rattle.format.specs.Family.{short_form}
-use Rattle.format.specs.declared.Folded.{Folded}
+use Rattle.format.specs.Numbers.{Folded}
 use Rattle.optimum.specs.Verdict.{Verdict, refuses, folds, folding_by, answer_by, output_by, work_by}
 
 -- The checks of tables, limit and marks, then the run's own refusals; or the cheapest fold, in a family.

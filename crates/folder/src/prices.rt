@@ -1,18 +1,35 @@
-// The price of each count, once, ahead of all folding.
-ghost use Rattle.std.specs.Prelude.{◌≡◌, ◌<◌, length, get_or};
-ghost use Rattle.folder.specs.inner.Prices.{PriceList};
+// The price of each count, once, ahead of all folding; and all that the sequences are priced by.
+ghost use Rattle.std.specs.Prelude.{◌≡◌, get_or};
+ghost use Rattle.folder.specs.inner.Prices.{PriceList, LowPrices};
 
+use filling::Tables;
 use table::Lists;
 
-// Entry h is first + each × (h − 2) from h = 2 on.
-pub fn prepare(first: u64, each: u64, prices: &mut [u64])
-    requires first_bound { (first < 65536) × (each < 65536) × (length prices.old ≡ 1025) }
-    requires prices_value { (get_or prices.old 0 0 ≡ 0) × (get_or prices.old 1 0 ≡ 0) }
+// Entry h is first + each × (h − 2) from h = 2 on, written in place: a list that is answered would stand on the stack twice.
+pub fn prepare(first: u16, each: u16, prices: &mut [u64; Lists::LENGTH])
+    requires { (get_or prices.old 0 0 ≡ 0) × (get_or prices.old 1 0 ≡ 0) }
     ensures { PriceList first each prices.new }
 {
-    let mut h: usize = 2;
-    while h < Lists::LENGTH {
-        prices[h] = first + each * ((h - 2) as u64);
-        h += 1;
+    for h in 2..Lists::LENGTH {
+        prices[h] = u64::from(first) + u64::from(each) * ((h - 2) as u64);
+    }
+}
+
+// The tables that the sequences are priced by: the lent ones have low prices, since they are of 16 bits.
+pub fn tables_of<'a>(
+    steps: &'a [u16],
+    groups: &'a [u16],
+    marks: &'a [u8],
+    repeats: &'a [u64],
+) -> Tables<'a>
+    ensures lent { (result.steps.now ≡ steps.now) × (result.groups.now ≡ groups.now) × (result.marks.now ≡ marks.now) }
+    ensures priced { result.repeats.now ≡ repeats.now }
+    ensures low { LowPrices steps.now × LowPrices groups.now }
+{
+    Tables {
+        steps,
+        groups,
+        marks,
+        repeats,
     }
 }

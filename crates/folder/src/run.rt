@@ -1,19 +1,27 @@
 // An accepted run: its nodes are listed, its table is filled, the fold is measured and written by both, and the table is cleared.
 ghost use Rattle.std.specs.Prelude.{◌≡◌, ◌<◌, ◌≤◌, length, get_or};
-ghost use Rattle.format.specs.Limits.{Prices, Allowed, allowed, cells};
-ghost use Rattle.format.specs.Forest.{nodes};
+ghost use Rattle.format.specs.Answers.{folded_said, tariff_of};
+ghost use Rattle.format.specs.Limits.{Prices, Allowed, allowed, priced, cells};
 ghost use Rattle.format.specs.Tree.{tree_of};
-ghost use Rattle.table.specs.Table.{cell};
-ghost use Rattle.table.specs.Used.{UsedFilled};
-ghost use Rattle.filling.specs.Filling.{prices_of, counted_of, LevelReady, LevelListed, LevelKept};
-ghost use Rattle.writer.specs.Writing.{WriteReady, FoldWritten};
+ghost use Rattle.table.specs.Table.{Kept, cell};
+ghost use Rattle.table.specs.Nodes.{NodesListed};
 ghost use Rattle.folder.specs.Folding.{short_work};
-ghost use Rattle.folder.specs.inner.Run.{RunFilled, RunListed, RunWritten, RunFolded};
+ghost use Rattle.folder.specs.inner.Run.{RunReady, RunFilled, RunWritten, RunFolded};
 
-use filling::{Level, enter_tree};
-use format::{Folded, refuse};
-use table::{Lists, Span, clear, entries, entry, list_nodes, widen};
-use writer::{fold_length, put_fold};
+use crate::prices::{prepare, tables_of};
+use filling::{Level, Scratch, enter_tree};
+use format::{Costs, PricedFold, Reason, Refusal};
+use solver::Rows;
+use table::{Lists, Nodes, Siblings, Span, entries, entry};
+use writer::Source;
+
+// How a run is to be folded: the width limit, the lent prices and marks, and the family in which the fold is written.
+#[derive(Clone, Copy)]
+pub struct How<'a> {
+    pub limit: usize,
+    pub tariff: &'a Costs<'a>,
+    pub short: bool,
+}
 
 // Whether a work slice is too short for n nodes.
 pub fn short_of(n: usize, costs: usize, choices: usize) -> bool
@@ -21,58 +29,54 @@ pub fn short_of(n: usize, costs: usize, choices: usize) -> bool
     ensures { result ≡ short_work n costs choices }
 {
     let needed = entries(n);
-    if costs < needed {
-        return true;
-    }
-    choices < needed
+    costs < needed || choices < needed
 }
 
-// Fills the table of the run, whose nodes are listed, with all stretches that a fold can use. The lists that each sequence is worked
-// in are lent to all of them in turn.
+// Fills the table of the run, whose nodes are listed, with all stretches that a fold can use. What one sequence is worked in is lent
+// to all of them in turn.
 fn fill(
     run: &[u8],
-    level: Level,
-    places: &[usize],
-    nexts: &[usize],
-    steps: &[u16],
-    groups: &[u16],
-    marks: &[u8],
-    prices: &[u64],
+    n: usize,
+    limit: usize,
+    nodes: &Nodes,
+    tariff: &Costs,
     costs: &mut [u32],
     choices: &mut [u32],
 )
-    requires level_ready { LevelReady run.now level.span.behind level.limit steps.now groups.now prices.now costs.old choices.old }
-    requires level_listed { LevelListed places.now nexts.now run.now level }
-    ensures filled { UsedFilled (allowed level.limit marks.now) (counted_of steps.now groups.now prices.now) level.span.behind (tree_of run.now) costs.new choices.new }
-    ensures kept { LevelKept run.now level costs.old costs.new × LevelKept run.now level choices.old choices.new }
+    requires run_ready { RunReady run.now n costs.old choices.old }
+    requires run_listed { NodesListed nodes.now.places nodes.now.nexts 0 0 (tree_of run.now) }
+    ensures filled { RunFilled run.now n (allowed limit tariff.now.marks.now) (priced (tariff_of tariff.now)) costs.new choices.new }
+    ensures kept { Kept 0 n costs.old costs.new × Kept 0 n choices.old choices.new }
 {
-    let mut offsets = [0usize; Lists::LENGTH];
-    let mut numbers = [0usize; Lists::LENGTH];
-    let mut kinds = [0u16; Lists::LENGTH];
-    let mut matches = [0u16; Lists::LENGTH];
-    let mut extents = [0usize; Lists::LENGTH];
-    let mut tails = [0u64; Lists::LENGTH];
-    let mut stops = [0usize; Lists::LENGTH];
-    let mut seen = [0usize; Lists::LENGTH];
-    let mut keys = [0u64; Lists::LENGTH];
+    let mut prices = [0; Lists::LENGTH];
+    prepare(tariff.first, tariff.each, &mut prices);
+    let tables = tables_of(tariff.steps, tariff.groups, tariff.marks, &prices);
+    let span = Span {
+        start: 0,
+        first: n,
+        behind: 0,
+    };
+    let mut scratch = Scratch {
+        siblings: Siblings {
+            offsets: [0; Lists::LENGTH],
+            numbers: [0; Lists::LENGTH],
+            kinds: [0; Lists::LENGTH],
+        },
+        rows: Rows {
+            matches: [0; Lists::LENGTH],
+            extents: [0; Lists::LENGTH],
+            tails: [0; Lists::LENGTH],
+            stops: [0; Lists::LENGTH],
+            seen: [0; Lists::LENGTH],
+            keys: [0; Lists::LENGTH],
+        },
+    };
     enter_tree(
-        places,
-        nexts,
+        nodes,
         run,
-        level,
-        steps,
-        groups,
-        marks,
-        prices,
-        &mut offsets,
-        &mut numbers,
-        &mut kinds,
-        &mut matches,
-        &mut extents,
-        &mut tails,
-        &mut stops,
-        &mut seen,
-        &mut keys,
+        Level { span, limit },
+        &tables,
+        &mut scratch,
         costs,
         choices,
     );
@@ -86,95 +90,53 @@ fn whole_cost(costs: &[u32], n: usize) -> u64
     if n == 0 {
         return 0;
     }
-    widen(costs[entry(0, n)])
-}
-
-// Writes the fold of the whole run of n nodes, in a family, behind which nothing follows, and answers its length.
-fn write_run(
-    run: &[u8],
-    n: usize,
-    places: &[usize],
-    nexts: &[usize],
-    choices: &[u32],
-    short: bool,
-    out: &mut [u8],
-) -> usize
-    requires { WriteReady short run.now places.now nexts.now choices.now n 0 }
-    ensures { FoldWritten short run.now places.now nexts.now choices.now n 0 out.old out.new result }
-{
-    put_fold(run, places, nexts, choices, short, n, 0, out)
+    u64::from(costs[entry(0, n)])
 }
 
 // The fold of a run whose n nodes are listed and entered, written where it fits: its length is known before a byte is written.
-fn put_run(
-    run: &[u8],
-    n: usize,
-    places: &[usize],
-    nexts: &[usize],
-    costs: &[u32],
-    choices: &[u32],
-    short: bool,
-    out: &mut [u8],
-) -> Folded
-    requires run_listed { RunListed run.now places.now nexts.now }
-    requires run_filled { (A : Allowed) × ((P : Prices) × RunFilled run.now n A P costs.now choices.now) }
-    ensures { RunWritten short run.now n costs.now choices.now out.old out.new result }
+fn put_run(source: &Source, n: usize, costs: &[u32], out: &mut [u8]) -> Result<PricedFold, Refusal>
+    requires run_listed { NodesListed source.now.nodes.now.places source.now.nodes.now.nexts 0 0 (tree_of source.now.run.now) }
+    requires run_filled { (A : Allowed) × ((P : Prices) × RunFilled source.now.run.now n A P costs.now source.now.choices.now) }
+    ensures { RunWritten source.now.short source.now.run.now n costs.now source.now.choices.now out.old out.new (folded_said result) }
 {
-    let length = fold_length(run, places, nexts, choices, short, n, 0);
+    let length = source.fold_length(n, 0);
     if out.len() < length {
-        return refuse(14, 0);
+        return Err(Reason::ShortOutput.at(0));
     }
-    write_run(run, n, places, nexts, choices, short, out);
-    let cost = whole_cost(costs, n);
-    Folded {
-        refusal: 0,
-        place: 0,
+    source.put_fold(n, 0, out);
+    Ok(PricedFold {
         length,
-        cost,
-    }
+        cost: whole_cost(costs, n),
+    })
 }
 
-// Folds an accepted run of n nodes, the fold in a family, and clears the table.
+// Folds an accepted run of n nodes, and clears the table.
 pub fn fold_run(
     run: &[u8],
     n: usize,
-    limit: usize,
-    steps: &[u16],
-    groups: &[u16],
-    marks: &[u8],
-    prices: &[u64],
-    short: bool,
+    how: &How,
     costs: &mut [u32],
     choices: &mut [u32],
     out: &mut [u8],
-) -> Folded
-    requires level_ready { LevelReady run.now 0 limit steps.now groups.now prices.now costs.old choices.old }
-    requires run_value { nodes (tree_of run.now) ≡ n }
-    ensures { RunFolded short run.now n (allowed limit marks.now) (prices_of steps.now groups.now prices.now) costs.old costs.new choices.old choices.new out.old out.new result }
+) -> Result<PricedFold, Refusal>
+    requires { RunReady run.now n costs.old choices.old }
+    ensures { RunFolded how.now.short run.now n (allowed how.now.limit how.now.tariff.now.marks.now) (priced (tariff_of how.now.tariff.now)) costs.old costs.new choices.old choices.new out.old out.new (folded_said result) }
 {
-    let mut places = [0usize; Lists::LENGTH];
-    let mut nexts = [0usize; Lists::LENGTH];
-    list_nodes(run, n, &mut places, &mut nexts);
-    let span = Span {
-        start: 0,
-        first: n,
-        behind: 0,
+    let mut nodes = Nodes {
+        places: [0; Lists::LENGTH],
+        nexts: [0; Lists::LENGTH],
     };
-    fill(
+    nodes.list(run, n);
+    fill(run, n, how.limit, &nodes, how.tariff, costs, choices);
+    let source = Source {
         run,
-        Level { span, limit },
-        &places,
-        &nexts,
-        steps,
-        groups,
-        marks,
-        prices,
-        costs,
+        nodes: &nodes,
         choices,
-    );
-    let r = put_run(run, n, &places, &nexts, costs, choices, short, out);
+        short: how.short,
+    };
+    let r = put_run(&source, n, costs, out);
     let used = entries(n);
-    clear(costs, used);
-    clear(choices, used);
+    costs[..used].fill(0);
+    choices[..used].fill(0);
     r
 }

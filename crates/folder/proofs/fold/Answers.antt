@@ -1,5 +1,5 @@
 -- `fold` meets its contract: either folder's answer in the long family, and what that says of the fold.
-use Rattle.format.specs.Limits.{tariff}
+use Rattle.format.specs.Answers.{tariff_of}
 use Rattle.folder.proofs.Verdicts.{fold_held}
 use Rattle.folder.proofs.fold.Goals as goal
 
@@ -7,13 +7,13 @@ pub returns : goal.returns
 returns c =
     let a = c.args in
     let e = c.fold_in.ensures in
-    let held = fold_held a.run.now (λ i. (c.type_inv.run i).fits) a.limit (tariff a.steps.now a.groups.now a.marks.now a.first a.each) _ _ a.out.now _ c.fold_in.result e.answered e.written in
+    let held = fold_held a.run.now (λ i. (c.type_inv.run i).fits) a.limit (tariff_of a.tariff.now) _ _ a.out.now _ c.fold_in.result e.answered e.written in
     record {
       answered = e.answered;
       written = e.written;
       costs_cleared = e.costs_cleared;
       choices_cleared = e.choices_cleared;
-      cheapest = held.0.0;
-      minimum = held.0.1;
-      too_long = held.1;
+      cheapest = held.0;
+      minimum = held.1.0;
+      too_long = held.1.1;
     }

@@ -3,28 +3,25 @@ use Rattle.std.specs.Prelude.{◌≡◌, Bool, List, ◌++◌, ℕ, ◌≤◌, l
 use Rattle.format.specs.Limits.{Prices, cells}
 use Rattle.format.specs.Forest.{nodes, cost, form_in, Allowed}
 use Rattle.format.specs.Tree.{tree_of}
-use Rattle.format.specs.declared.Folded.{Folded}
+use Rattle.format.specs.Numbers.{Folded}
 use Rattle.optimum.specs.Verdict.{room_answer, room_output}
 use Rattle.optimum.specs.Fewest.{counting, preferred}
 use Rattle.table.specs.Keys.{factor}
 use Rattle.table.specs.Listing.{Spelled}
-use Rattle.table.specs.Nodes.{NodesListed}
 use Rattle.table.specs.Used.{UsedFilled}
 
--- The table of an accepted run of n nodes is filled: it has the stretches that a fold can use, at prices that count repeats.
-pub record RunFilled (run : List ℕ) (n : ℕ) (A : Allowed) (P : Prices) (costs choices : List ℕ) : Type 0 where
+-- An accepted run of n nodes, and work that has room for all its stretches.
+pub record RunReady (run : List ℕ) (n : ℕ) (costs choices : List ℕ) : Type 0 where
   pub spelled : Spelled run
   pub all : nodes (tree_of run) ≡ n
   pub few : n ≤ 1024
   pub cost_room : cells n ≤ length costs
   pub choice_room : cells n ≤ length choices
-  pub filled : UsedFilled A (counting factor P) 0 (tree_of run) costs choices
 
--- Its nodes are listed by their numbers.
-pub record RunListed (run places nexts : List ℕ) : Type 0 where
-  pub long_places : length places ≡ 1025
-  pub long_nexts : length nexts ≡ 1025
-  pub listed : NodesListed places nexts 0 0 (tree_of run)
+-- Its table is filled: it has the stretches that a fold can use, at prices that count repeats.
+pub record RunFilled (run : List ℕ) (n : ℕ) (A : Allowed) (P : Prices) (costs choices : List ℕ) : Type 0 where
+  pub ready : RunReady run n costs choices
+  pub filled : UsedFilled A (counting factor P) 0 (tree_of run) costs choices
 
 -- The preferred fold is written, in a family, where there is room, for whatever repeats and prices the table was filled.
 pub record RunWritten (short : Bool) (run : List ℕ) (n : ℕ) (costs choices out out' : List ℕ) (r : Folded) : Type 0 where
