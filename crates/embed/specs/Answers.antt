@@ -1,13 +1,13 @@
 -- The answers of the library as seven numbers in a lent slice: refusal, place and five values, which are those of the answers
 -- inside; where the lent slice is shorter, nothing is written anywhere and the status says so.
 use Rattle.std.specs.Prelude.{cond, List, [], ◌∷◌, ◌++◌, ℕ, ltb, length, drop, get_or}
-use Rattle.format.specs.declared.RunReading.{RunReading}
-use Rattle.format.specs.declared.FoldReading.{FoldReading}
-use Rattle.format.specs.declared.Written.{Written}
-use Rattle.format.specs.declared.Folded.{Folded}
-use Rattle.index.specs.declared.Indexed.{Indexed}
-use Rattle.index.specs.declared.Found.{Found}
-pub use Rattle.embed.specs.declared.Answer.{Answer}
+use Rattle.format.specs.Numbers.{RunReading}
+use Rattle.format.specs.Numbers.{FoldReading}
+use Rattle.format.specs.Numbers.{Written}
+use Rattle.format.specs.Numbers.{Folded}
+use Rattle.index.specs.Numbers.{Indexed}
+use Rattle.index.specs.Numbers.{Found}
+pub use Rattle.embed.specs.declared.answer.Answer.{Answer}
 
 -- The entries of an answer.
 abbrev pub entry_count : ℕ

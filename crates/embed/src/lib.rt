@@ -4,10 +4,11 @@
 // gives no such value.
 #![tactic(auto, using(crate::proofs::Entries::lent))]
 
+mod answer;
 mod seasons;
 mod short;
 
-ghost use Rattle.std.specs.Prelude.{◌≡◌, ◌++◌, ◌≤◌, length, get_or, take, drop};
+ghost use Rattle.std.specs.Prelude.{◌≡◌, length, get_or, take, drop};
 ghost use Rattle.format.specs.Limits.{tariff, at_most};
 ghost use Rattle.format.specs.Readings.{format_rules, run_reading, measured, fold_alone, fold_reading};
 ghost use Rattle.format.specs.Meaning.{Means, MeansAtCost};
@@ -17,121 +18,16 @@ ghost use Rattle.format.specs.Output.{written_answer, written_output};
 ghost use Rattle.index.specs.Index.{index_of, index_answer, index_output};
 ghost use Rattle.index.specs.Finding.{find_answer, AtPosition};
 ghost use Rattle.folder.specs.Folding.{folding, fold_answer, fold_output, fold_work};
-ghost use Rattle.embed.specs.Answers.{entry_count, status, kept, numbers, entries, of_run, of_fold, of_written, of_folded, of_indexed, of_found, found_in};
+ghost use Rattle.embed.specs.Answers.{status, kept, entries, of_run, of_fold, of_written, of_folded, of_indexed, of_found, found_in};
 
+use answer::{Answer, ENTRIES, SHORT, lent};
 use folder::fold;
-use format::{FoldReading, Folded, RunReading, Written, wide};
+use format::Format;
 use index::{build_index, find};
 use reader::{part, read_fold, read_run};
 use unroller::unroll;
 
-// The entries of an answer.
-const ENTRIES: usize = 7;
-// The status where the lent answer is shorter: nothing was read or written. No refusal has this number.
-const SHORT: u8 = 255;
-
-// The numbers of an answer. What the values are, each function says.
-#[derive(Clone, Copy)]
-struct Answer {
-    refusal: u8,
-    place: usize,
-    one: u64,
-    two: u64,
-    three: u64,
-    four: u64,
-    five: u64,
-}
-
-// Puts an answer into the first entries.
-fn store(answer: &mut [u64], a: Answer)
-    requires { entry_count ≤ length answer.old }
-    ensures { answer.new ≡ numbers a ++ drop entry_count answer.old }
-{
-    answer[0] = wide(a.refusal) as u64;
-    answer[1] = a.place as u64;
-    answer[2] = a.one;
-    answer[3] = a.two;
-    answer[4] = a.three;
-    answer[5] = a.four;
-    answer[6] = a.five;
-}
-
-// A run reader's answer.
-fn store_run_reading(answer: &mut [u64], read: RunReading)
-    requires { entry_count ≤ length answer.old }
-    ensures { answer.new ≡ numbers (of_run read) ++ drop entry_count answer.old }
-{
-    store(
-        answer,
-        Answer {
-            refusal: read.refusal,
-            place: read.place,
-            one: read.nodes as u64,
-            two: 0,
-            three: 0,
-            four: read.steps as u64,
-            five: read.depth as u64,
-        },
-    );
-}
-
-// A fold reader's answer.
-fn store_reading(answer: &mut [u64], fold: FoldReading)
-    requires { entry_count ≤ length answer.old }
-    ensures { answer.new ≡ numbers (of_fold fold) ++ drop entry_count answer.old }
-{
-    store(
-        answer,
-        Answer {
-            refusal: fold.refusal,
-            place: fold.place,
-            one: fold.nodes as u64,
-            two: fold.length as u64,
-            three: fold.cost,
-            four: fold.steps as u64,
-            five: fold.depth as u64,
-        },
-    );
-}
-
-// A folder's answer.
-fn store_folded(answer: &mut [u64], folded: Folded)
-    requires { entry_count ≤ length answer.old }
-    ensures { answer.new ≡ numbers (of_folded folded) ++ drop entry_count answer.old }
-{
-    store(
-        answer,
-        Answer {
-            refusal: folded.refusal,
-            place: folded.place,
-            one: 0,
-            two: folded.length as u64,
-            three: folded.cost,
-            four: 0,
-            five: 0,
-        },
-    );
-}
-
-// The answer where one text is written.
-fn store_written(answer: &mut [u64], written: Written)
-    requires { entry_count ≤ length answer.old }
-    ensures { answer.new ≡ numbers (of_written written) ++ drop entry_count answer.old }
-{
-    store(
-        answer,
-        Answer {
-            refusal: written.refusal,
-            place: written.place,
-            one: 0,
-            two: written.length as u64,
-            three: 0,
-            four: 0,
-            five: 0,
-        },
-    );
-}
-
+// Stays: parameters one by one and answers as numbers, in all functions of this crate, since C calls them.
 // The run reader: the number of nodes, how many of them are steps, and the most groups open together.
 #[unsafe(no_mangle)]
 pub extern "C" fn runfold_read_run(run: &[u8], answer: &mut [u64]) -> u8
@@ -141,9 +37,7 @@ pub extern "C" fn runfold_read_run(run: &[u8], answer: &mut [u64]) -> u8
     if answer.len() < ENTRIES {
         return SHORT;
     }
-    let read = read_run(run);
-    store_run_reading(answer, read);
-    read.refusal
+    Answer::from(read_run::<Format>(run)).store(answer)
 }
 
 // The part of a node: how many bytes from the offset on are the step or group that starts there, with all it holds; 0 where
@@ -176,9 +70,8 @@ pub extern "C" fn runfold_read_fold(
     if answer.len() < ENTRIES {
         return SHORT;
     }
-    let read = read_fold(fold, limit, steps, groups, marks, first, each);
-    store_reading(answer, read);
-    read.refusal
+    let costs = lent(steps, groups, marks, first, each);
+    Answer::from(read_fold::<Format>(fold, limit, &costs)).store(answer)
 }
 
 // The unroller at a width limit: the length written.
@@ -197,9 +90,7 @@ pub extern "C" fn runfold_unroll(
     if answer.len() < ENTRIES {
         return SHORT;
     }
-    let unrolled = unroll(fold, limit, out);
-    store_written(answer, unrolled);
-    unrolled.refusal
+    Answer::of_text(unroll::<Format>(fold, limit, out)).store(answer)
 }
 
 // The folder at a width limit and the same costs, over two lent work slices: the length written and the fold's cost.
@@ -229,11 +120,8 @@ pub extern "C" fn runfold_fold(
     if answer.len() < ENTRIES {
         return SHORT;
     }
-    let folded = fold(
-        run, limit, steps, groups, marks, first, each, costs, choices, out,
-    );
-    store_folded(answer, folded);
-    folded.refusal
+    let tariff = lent(steps, groups, marks, first, each);
+    Answer::from(fold(run, limit, &tariff, costs, choices, out)).store(answer)
 }
 
 // The builder of a fold's index, into two lent slices: the number of entries.
@@ -252,20 +140,7 @@ pub extern "C" fn runfold_index(
     if answer.len() < ENTRIES {
         return SHORT;
     }
-    let indexed = build_index(fold, offsets, before);
-    store(
-        answer,
-        Answer {
-            refusal: indexed.refusal,
-            place: indexed.place,
-            one: indexed.entries as u64,
-            two: 0,
-            three: 0,
-            four: 0,
-            five: 0,
-        },
-    );
-    indexed.refusal
+    Answer::of_index(build_index(fold, offsets, before)).store(answer)
 }
 
 // The finder, with the fold's index and a position in its run: the node's label and command, and that command's offset in the
@@ -285,18 +160,5 @@ pub extern "C" fn runfold_find(
     if answer.len() < ENTRIES {
         return SHORT;
     }
-    let found = find(fold, offsets, before, position);
-    store(
-        answer,
-        Answer {
-            refusal: found.refusal,
-            place: found.place,
-            one: wide(found.label) as u64,
-            two: wide(found.command) as u64,
-            three: found.offset as u64,
-            four: 0,
-            five: 0,
-        },
-    );
-    found.refusal
+    Answer::from(find(fold, offsets, before, position)).store(answer)
 }

@@ -8,10 +8,11 @@ ghost use Rattle.optimum.specs.Demands.{CheapestWithin, CheapestOver, MinimumTre
 ghost use Rattle.season.specs.Folding.{season_folding, season_answer, season_output, season_work};
 ghost use Rattle.embed.specs.Answers.{status, kept, entries, of_run, of_fold, of_written, of_folded};
 
-use crate::{ENTRIES, SHORT, store_folded, store_reading, store_run_reading, store_written};
-use reader::{read_season, read_season_run};
+use crate::answer::{Answer, ENTRIES, SHORT, lent};
+use format::Season;
+use reader::{read_fold, read_run};
 use season::fold_season;
-use unroller::unroll_season;
+use unroller::unroll;
 
 // The season run reader: the number of nodes, all of them steps, at depth 0.
 #[unsafe(no_mangle)]
@@ -22,9 +23,7 @@ pub extern "C" fn runfold_read_season_run(run: &[u8], answer: &mut [u64]) -> u8
     if answer.len() < ENTRIES {
         return SHORT;
     }
-    let flat = read_season_run(run);
-    store_run_reading(answer, flat);
-    flat.refusal
+    Answer::from(read_run::<Season>(run)).store(answer)
 }
 
 // The season reader: the fold reader of season folds, at the same arguments and with the same values.
@@ -46,9 +45,8 @@ pub extern "C" fn runfold_read_season(
     if answer.len() < ENTRIES {
         return SHORT;
     }
-    let read = read_season(fold, limit, steps, groups, marks, first, each);
-    store_reading(answer, read);
-    read.refusal
+    let costs = lent(steps, groups, marks, first, each);
+    Answer::from(read_fold::<Season>(fold, limit, &costs)).store(answer)
 }
 
 // The season unroller at a width limit: the length written.
@@ -67,9 +65,7 @@ pub extern "C" fn runfold_unroll_season(
     if answer.len() < ENTRIES {
         return SHORT;
     }
-    let unrolled = unroll_season(fold, limit, out);
-    store_written(answer, unrolled);
-    unrolled.refusal
+    Answer::of_text(unroll::<Season>(fold, limit, out)).store(answer)
 }
 
 // The season folder, over one lent work slice: the length written and the fold's cost.
@@ -97,7 +93,6 @@ pub extern "C" fn runfold_fold_season(
     if answer.len() < ENTRIES {
         return SHORT;
     }
-    let folded = fold_season(run, limit, steps, groups, marks, first, each, work, out);
-    store_folded(answer, folded);
-    folded.refusal
+    let costs = lent(steps, groups, marks, first, each);
+    Answer::from(fold_season(run, limit, &costs, work, out)).store(answer)
 }

@@ -9,7 +9,7 @@ ghost use Rattle.optimum.specs.Demands.{CheapestWithin, ShortOver, MinimumTree};
 ghost use Rattle.folder.specs.Folding.{folding, shortened, fold_answer, fold_output, fold_work};
 ghost use Rattle.embed.specs.Answers.{status, kept, entries, of_fold, of_folded, of_written};
 
-use crate::{ENTRIES, SHORT, store_folded, store_reading, store_written};
+use crate::answer::{Answer, ENTRIES, SHORT, lent};
 use convert::{to_long, to_short};
 use folder::fold_short;
 use reader::read_short;
@@ -33,9 +33,8 @@ pub extern "C" fn runfold_read_short(
     if answer.len() < ENTRIES {
         return SHORT;
     }
-    let read = read_short(fold, limit, steps, groups, marks, first, each);
-    store_reading(answer, read);
-    read.refusal
+    let costs = lent(steps, groups, marks, first, each);
+    Answer::from(read_short(fold, limit, &costs)).store(answer)
 }
 
 // The short folder: the folder's fold in its short form, which 14 measures, over two lent work slices: the length written and the
@@ -66,11 +65,8 @@ pub extern "C" fn runfold_fold_short(
     if answer.len() < ENTRIES {
         return SHORT;
     }
-    let folded = fold_short(
-        run, limit, steps, groups, marks, first, each, costs, choices, out,
-    );
-    store_folded(answer, folded);
-    folded.refusal
+    let tariff = lent(steps, groups, marks, first, each);
+    Answer::from(fold_short(run, limit, &tariff, costs, choices, out)).store(answer)
 }
 
 // A fold to its short form: the length written.
@@ -83,9 +79,7 @@ pub extern "C" fn runfold_to_short(fold: &[u8], out: &mut [u8], answer: &mut [u6
     if answer.len() < ENTRIES {
         return SHORT;
     }
-    let short = to_short(fold, out);
-    store_written(answer, short);
-    short.refusal
+    Answer::of_text(to_short(fold, out)).store(answer)
 }
 
 // A short fold to its long form: the length written.
@@ -98,7 +92,5 @@ pub extern "C" fn runfold_to_long(fold: &[u8], out: &mut [u8], answer: &mut [u64
     if answer.len() < ENTRIES {
         return SHORT;
     }
-    let long = to_long(fold, out);
-    store_written(answer, long);
-    long.refusal
+    Answer::of_text(to_long(fold, out)).store(answer)
 }

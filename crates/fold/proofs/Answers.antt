@@ -15,8 +15,8 @@ use Rattle.format.specs.Head.{marks_in_order}
 use Rattle.format.specs.Marks.{free_marks}
 use Rattle.format.specs.Machine.{Outcome, refused, accepted, read}
 use Rattle.format.specs.Readings.{run_rules, as_run_reading, run_reading_in, run_reading}
-use Rattle.format.specs.declared.RunReading.{RunReading}
-use Rattle.format.specs.declared.Folded.{Folded}
+use Rattle.format.specs.Numbers.{RunReading}
+use Rattle.format.specs.Numbers.{Folded}
 use Rattle.format.proofs.Refusals.{refused_some}
 use Rattle.optimum.proofs.Demands.{cheapest_room}
 use Rattle.optimum.specs.Verdict.{Verdict, refuses, folds, verdict, folding_by}

@@ -10,6 +10,7 @@ pub fn read_input(from: &mut impl Read, bytes: &mut [u8]) -> io::Result<usize>
     ensures { IfOk result (λ n. n ≤ length bytes.new) }
 {
     let mut length = 0;
+    // Stays: a read may bring fewer bytes than fit, so no range counts the turns.
     while length < bytes.len() {
         let more = from.read(&mut bytes[length..])?;
         if more == 0 {

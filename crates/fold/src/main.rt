@@ -5,12 +5,13 @@
 mod input;
 mod text;
 
-ghost use Rattle.std.specs.Prelude.{◌≤◌, length};
+ghost use Rattle.std.specs.Prelude.{◌≡◌, ◌≤◌, length};
+ghost use Rattle.format.specs.Readings.{run_reading};
 ghost use Rattle.fold.specs.PutText.{PutText};
 ghost use Rattle.fold.specs.Printed.{printed};
 
 use folder::fold;
-use format::Format;
+use format::{Costs, Format};
 use input::read_input;
 use reader::read_run;
 use std::io;
@@ -24,27 +25,38 @@ fn answer(run: &[u8], text: &mut [u8]) -> usize
 {
     let labels = [1u16; 256];
     let marks = [0u8; 256];
+    let unit = Costs {
+        steps: &labels,
+        groups: &labels,
+        marks: &marks,
+        first: 1,
+        each: 0,
+    };
     let mut costs = [0u32; 5050];
     let mut choices = [0u32; 5050];
     let mut out = [0u8; 4096];
-    let r = fold(
+    match fold(
         run,
         Format::WIDTH,
-        &labels,
-        &labels,
-        &marks,
-        1,
-        0,
+        &unit,
         &mut costs,
         &mut choices,
         &mut out,
-    );
-    if r.refusal != 0 {
-        return put_refusal(r.refusal as u64, r.place as u64, text);
+    ) {
+        Ok(fold) => put_report(nodes_of(run), fold.cost, &out[..fold.length], text),
+        Err(refusal) => put_refusal(refusal, text),
     }
-    let length = r.length;
-    let nodes = read_run(run).nodes;
-    put_report(nodes as u64, r.cost, &out[..length], text)
+}
+
+// The nodes of a run; 0 of one that is refused.
+// Stays: as in harness, on which this program does not stand, since that is for programs that try the library.
+fn nodes_of(run: &[u8]) -> u64
+    ensures { result ≡ (run_reading run.now).nodes }
+{
+    match read_run::<Format>(run) {
+        Ok(counts) => counts.nodes as u64,
+        Err(_) => 0,
+    }
 }
 
 // Says on standard error what failed, a colon and what the system says of it. Where that can't be written either, nothing is said.

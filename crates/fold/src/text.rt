@@ -1,18 +1,19 @@
 // The text that the fold program prints: decimal numbers, capital hexadecimal, and the lines made of them. Each function
 // writes at a place of the lent text and gives the place behind what it wrote.
+// Stays: bytes in a lent slice and no formatter, since `printed` says each byte, and nothing is known of what `fmt` writes.
 ghost use Rattle.std.specs.Prelude.{◌≡◌, ◌+◌, ◌*◌, ◌≤◌, ◌<◌, length};
 ghost use Rattle.fold.specs.Text.{digit, decimal, hexadecimal, fold_text, line, three_lines, refusal_line};
 ghost use Rattle.fold.specs.PutText.{PutText};
+ghost use Rattle.format.specs.Answers.{number};
+
+use format::Refusal;
 
 // The digit of a number below 16: `0` to `9`, then `A` to `F`.
 fn digit_of(d: u8) -> u8
     requires { d < 16 }
     ensures { result ≡ digit d }
 {
-    if d < 10 {
-        return 48 + d;
-    }
-    55 + d
+    if d < 10 { 48 + d } else { 55 + d }
 }
 
 // Some bytes as they stand.
@@ -20,12 +21,10 @@ fn put_bytes(bytes: &[u8], out: &mut [u8], at: usize) -> usize
     requires { at + length bytes.now ≤ length out.old }
     ensures { PutText out.old out.new at bytes.now result }
 {
-    let mut i = 0;
-    while i < bytes.len() {
-        out[at + i] = bytes[i];
-        i += 1;
+    for (i, b) in bytes.iter().enumerate() {
+        out[at + i] = *b;
     }
-    at + i
+    at + bytes.len()
 }
 
 // A number in decimal: the digits ahead of the last, then the last.
@@ -47,14 +46,11 @@ fn put_hexadecimal(bytes: &[u8], out: &mut [u8], at: usize) -> usize
     requires { at + 2 * length bytes.now ≤ length out.old }
     ensures { PutText out.old out.new at (hexadecimal bytes.now) result }
 {
-    let mut i = 0;
     let mut to = at;
-    while i < bytes.len() {
-        let b = bytes[i];
-        out[to] = digit_of(b / 16);
-        out[to + 1] = digit_of(b % 16);
+    for b in bytes {
+        out[to] = digit_of(*b / 16);
+        out[to + 1] = digit_of(*b % 16);
         to += 2;
-        i += 1;
     }
     to
 }
@@ -94,11 +90,11 @@ pub fn put_report(nodes: u64, cost: u64, fold: &[u8], out: &mut [u8]) -> usize
 }
 
 // The one line of a refusal: number and place.
-pub fn put_refusal(number: u64, place: u64, out: &mut [u8]) -> usize
+pub fn put_refusal(refusal: Refusal, out: &mut [u8]) -> usize
     requires { 60 ≤ length out.old }
-    ensures { PutText out.old out.new 0 (refusal_line number place) result }
+    ensures { PutText out.old out.new 0 (refusal_line (number refusal.reason) refusal.place) result }
 {
     let first = put_bytes(b"refused ", out, 0);
-    let behind = put_decimal(number, out, first);
-    put_number(b" at ", place, out, behind)
+    let behind = put_decimal(u64::from(refusal.reason.number()), out, first);
+    put_number(b" at ", refusal.place as u64, out, behind)
 }

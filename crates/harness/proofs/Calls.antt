@@ -5,7 +5,7 @@ use mathlib.Core.Logic.{◌↔◌}
 use mathlib.Core.List.{List}
 use Prim.Native.Nat.{ℕ}
 use lib.ListN.{length, length-replicate}
-use Rattle.format.specs.declared.Written.{Written}
+use Rattle.format.specs.Numbers.{Written}
 use Rattle.optimum.specs.Verdict.{Verdict}
 use Rattle.folder.specs.Folding.{fold_answer, fold_output, fold_work}
 use Rattle.harness.specs.Lent.{filled_words, filled_bytes, unroll_says, unroll_leaves, Unrolls}

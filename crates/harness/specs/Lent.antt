@@ -1,8 +1,8 @@
 -- What the lent slices hold before a call of the folder or the unroller, and what is looked at afterwards.
 use Rattle.std.specs.Prelude.{◌≡◌, cond, ◌||◌, List, ◌++◌, ℕ, ◌-◌, ◌≤◌, eqb, length, take, drop, replicate}
 use Rattle.format.specs.Readings.{run_reading, measured}
-use Rattle.format.specs.declared.Folded.{Folded}
-use Rattle.format.specs.declared.Written.{Written}
+use Rattle.format.specs.Numbers.{Folded}
+use Rattle.format.specs.Numbers.{Written}
 use Rattle.format.specs.Limits.{cells}
 use Rattle.format.specs.Output.{written_answer, written_output}
 

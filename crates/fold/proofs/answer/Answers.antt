@@ -1,15 +1,18 @@
 -- `answer` meets its contract.
+use Rattle.std.proofs.Common.{refl}
+use Rattle.format.specs.Answers.{folded_said}
 use Rattle.format.specs.Order.{Bytes}
+use Rattle.format.proofs.Numbered.{numbered}
 use Rattle.fold.proofs.Puts.{put_same}
 use Rattle.fold.proofs.Answers.{prints_refusal, prints_fold}
 use Rattle.fold.proofs.answer.Goals as goal
 
-pub returns-then-r-ne0 : goal.returns-then-r-ne0
-returns-then-r-ne0 c =
+pub returns-in-Err : goal.returns-in-Err
+returns-in-Err c =
     let small : Bytes c.args.run.now = λ i. (c.type_inv.run i).fits in
-    put_same (prints_refusal _ small c.fold-r.result c.fold-r.ensures.answered c.if-r-ne0.true) c.put_refusal.ensures
+    put_same (prints_refusal _ small _ c.in-Err.ensures.answered (numbered _)) c.put_refusal.ensures
 
-pub returns : goal.returns
-returns c =
+pub returns-in-Ok : goal.returns-in-Ok
+returns-in-Ok c =
     let small : Bytes c.args.run.now = λ i. (c.type_inv.run i).fits in
-    put_same (prints_fold _ small c.fold-r.result c.fold-r.ensures.answered _ c.read_run-nodes.result c.fold-r.ensures.written c.read_run-nodes.ensures c.if-r-ne0.false) c.put_report.ensures
+    put_same (prints_fold _ small _ c.in-Ok.ensures.answered _ _ c.in-Ok.ensures.written refl refl) (rw c.nodes_of.ensures at c.put_report.ensures)

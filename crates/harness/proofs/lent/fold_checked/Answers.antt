@@ -1,6 +1,6 @@
 -- `harness::lent::fold_checked` meets its contract: what the folder ensures, of slices that were filled, and what was looked at.
 use mathlib.Core.Path.{◌∙◌}
-use Rattle.format.specs.Limits.{tariff}
+use Rattle.format.specs.Answers.{tariff_of}
 use Rattle.folder.specs.Folding.{folding}
 use Rattle.harness.proofs.Calls.{answer_filled, output_filled, costs_filled, choices_filled}
 use Rattle.harness.proofs.lent.fold_checked.Goals as goal
@@ -8,7 +8,7 @@ use Rattle.harness.proofs.lent.fold_checked.Goals as goal
 pub returns : goal.returns
 returns c =
     let a = c.args in
-    let v = folding a.run.now a.limit (tariff a.steps.now a.groups.now a.marks.now a.first a.each) in
+    let v = folding a.run.now a.limit (tariff_of a.tariff.now) in
     let x = a.costs.now in
     let y = a.choices.now in
     let z = a.out.now in
