@@ -2,128 +2,96 @@
 // of known folds are made of these.
 #![tactic(auto)]
 
-use format::Folded;
-use harness::{Checked, alike, begins, fold_checked, unrolls};
-use print::{difference, number, setting, word};
+use format::{Costs, Format};
+use harness::{alike, begins, fold_checked, unrolls};
+use print::{Refused, Setting, UNIT, difference, judge};
 use reader::{read_fold, read_run};
 use std::io;
 
-// Whether a fold has this cost by the fold reader, and its run's nodes, bytes, steps and depth.
-fn reads(
-    fold: &[u8],
-    limit: usize,
-    steps: &[u16],
-    groups: &[u16],
-    marks: &[u8],
-    first: u16,
-    each: u16,
-    run: &[u8],
-    cost: u64,
-) -> bool {
-    let r = read_fold(fold, limit, steps, groups, marks, first, each);
-    if !alike(r, run) {
-        return false;
-    }
-    r.cost == cost
-}
-
-// Prints an answer of the folder, what it was asked, and the run's steps and depth.
-fn show(rt: &impl Print, name: &[u8], run: &[u8], a: Case, r: Folded) -> io::Result<()> {
-    word(rt, name)?;
-    setting(rt, a.limit, a.first, a.each)?;
-    if a.group != 1 {
-        number(rt, b", groups ", a.group as u64)?;
-    }
-    number(rt, b": cost ", r.cost)?;
-    number(rt, b", length ", r.length as u64)?;
-    let s = read_run(run);
-    number(rt, b", steps ", s.steps as u64)?;
-    number(rt, b", depth ", s.depth as u64)?;
-    word(rt, b"\n")
-}
-
-// Whether the folder's answer is these bytes at this cost.
-fn wrote(c: Checked, out: &[u8], fold: &[u8], cost: u64) -> bool {
-    if c.answer.refusal != 0 {
-        return false;
-    }
-    if c.answer.cost != cost {
-        return false;
-    }
-    if !begins(out, c.answer.length, fold) {
-        return false;
-    }
-    c.right
-}
-
-// What a run is folded at, and the cost that is known. Every step costs 1, every group as much as is said.
+// A run, what it is folded at, and the fold and the cost that are known.
 #[derive(Clone, Copy)]
-pub struct Case {
+pub struct Case<'a> {
+    pub name: &'a str,
+    pub run: &'a [u8],
     pub limit: usize,
-    pub group: u16,
-    pub first: u16,
-    pub each: u16,
+    pub costs: Costs<'a>,
+    pub fold: &'a [u8],
     pub cost: u64,
 }
 
-// A run that folds to these bytes at this cost under the marks, with what is lent.
-pub fn known_in(
-    rt: &impl Print,
-    name: &[u8],
-    run: &[u8],
-    a: Case,
-    marks: &[u8],
-    fold: &[u8],
-    costs: &mut [u32],
-    choices: &mut [u32],
-    out: &mut [u8],
-    text: &mut [u8],
-) -> io::Result<()> {
-    let group = a.group;
-    let steps = [1u16; 256];
-    let groups = [group; 256];
-    let c = fold_checked(
-        run, a.limit, &steps, &groups, marks, a.first, a.each, costs, choices, out,
-    );
-    show(rt, name, run, a, c.answer)?;
-    let mut right = wrote(c, out, fold, a.cost);
-    if !reads(
-        fold, a.limit, &steps, &groups, marks, a.first, a.each, run, a.cost,
-    ) {
-        right = false;
-    }
-    if !unrolls(fold, a.limit, run, text) {
-        right = false;
-    }
-    if !right {
-        difference(rt, name)?;
-    }
-    Ok(())
+// What is lent for a case: the folder's work and output, and the unroller's output.
+#[derive(Drop)]
+pub struct Lent<'a> {
+    pub costs: &'a mut [u32],
+    pub choices: &'a mut [u32],
+    pub out: &'a mut [u8],
+    pub text: &'a mut [u8],
 }
 
-// The same with room for 22 nodes.
-pub fn known_at(
-    rt: &impl Print,
-    name: &[u8],
-    run: &[u8],
-    a: Case,
-    marks: &[u8],
-    fold: &[u8],
-) -> io::Result<()> {
-    let mut costs = [0u32; 260];
-    let mut choices = [0u32; 260];
-    let mut out = [0u8; 80];
-    let mut text = [0u8; 80];
-    known_in(
-        rt,
-        name,
-        run,
-        a,
-        marks,
-        fold,
-        &mut costs,
-        &mut choices,
-        &mut out,
-        &mut text,
-    )
+impl<'a> Case<'a> {
+    // At unit prices and the largest limit.
+    pub fn unit(name: &'a str, run: &'a [u8], fold: &'a [u8], cost: u64) -> Case<'a> {
+        Case {
+            name,
+            run,
+            limit: Format::WIDTH,
+            costs: UNIT,
+            fold,
+            cost,
+        }
+    }
+
+    // Prints what the run is folded at; what a group costs only where that is not 1.
+    fn show_setting(&self, rt: &impl Print) -> io::Result<()> {
+        print!(rt; "{}{}", self.name, Setting(self.limit, &self.costs))?;
+        if let Some(group) = self.costs.groups.first()
+            && *group != 1
+        {
+            print!(rt; ", groups {group}")?;
+        }
+        Ok(())
+    }
+
+    // Whether the fold has this cost by the fold reader, and its run's nodes, bytes, steps and depth.
+    fn reads(&self) -> bool {
+        let read = read_fold::<Format>(self.fold, self.limit, &self.costs);
+        alike(read, self.run) && read.is_ok_and(|counts| counts.cost == self.cost)
+    }
+
+    // The case with what is lent: prints the folder's answer and the run's steps and depth, and says where that is not right.
+    pub fn known_in(&self, rt: &impl Print, lent: Lent) -> io::Result<()> {
+        let Lent {
+            costs,
+            choices,
+            out,
+            text,
+        } = lent;
+        let checked = fold_checked(self.run, self.limit, &self.costs, costs, choices, out);
+        self.show_setting(rt)?;
+        let (Ok(written), Ok(counts)) = (checked.answer, read_run::<Format>(self.run)) else {
+            println!(rt; ": refused {}", Refused(checked.answer.err()))?;
+            return difference(rt, self.name);
+        };
+        println!(rt;
+            ": cost {}, length {}, steps {}, depth {}",
+            written.cost, written.length, counts.steps, counts.depth
+        )?;
+        let right = checked.right
+            && written.cost == self.cost
+            && begins(out, written.length, self.fold)
+            && self.reads()
+            && unrolls(self.fold, self.limit, self.run, text);
+        judge(rt, self.name, right)
+    }
+
+    // The same with room for 22 nodes.
+    pub fn known(&self, rt: &impl Print) -> io::Result<()> {
+        let lent = Lent {
+            costs: &mut [0; 260],
+            choices: &mut [0; 260],
+            out: &mut [0; 80],
+            text: &mut [0; 80],
+        };
+        self.known_in(rt, lent)
+    }
 }

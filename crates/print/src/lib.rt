@@ -1,50 +1,74 @@
-// What the programs print: words, numbers, and the loud line of a difference.
+// What the programs of known answers share: unit prices, what they print again and again, and the loud line of a difference.
 #![tactic(auto)]
 
-use std::io;
+use format::{Costs, Refusal};
+use std::{fmt, io};
 
-// A word as it stands.
-pub fn word(rt: &impl Print, text: &[u8]) -> io::Result<()> {
-    rt.write_all(text)
-}
-
-// A word and a number.
-pub fn number(rt: &impl Print, text: &[u8], n: u64) -> io::Result<()> {
-    word(rt, text)?;
-    rt.print(n)
-}
+// Every step and every group costs 1, and so does a repeat, however many copies it has; no label is marked.
+pub const UNIT: Costs<'static> = Costs {
+    steps: &[1; 256],
+    groups: &[1; 256],
+    marks: &[0; 256],
+    first: 1,
+    each: 0,
+};
 
 // What a run or a fold is read or folded at: the width limit and the repeat prices.
-pub fn setting(rt: &impl Print, limit: usize, first: u16, each: u16) -> io::Result<()> {
-    number(rt, b", limit ", limit as u64)?;
-    number(rt, b", first ", first as u64)?;
-    number(rt, b", each ", each as u64)
+#[derive(Clone, Copy)]
+pub struct Setting<'a>(pub usize, pub &'a Costs<'a>);
+
+impl fmt::Display for Setting<'_> {
+    fn fmt<W: fmt::Write>(&self, f: &mut fmt::Formatter<W>) -> fmt::Result {
+        let Setting(limit, costs) = *self;
+        write!(
+            f,
+            ", limit {limit}, first {}, each {}",
+            costs.first, costs.each
+        )
+    }
 }
 
-// The first ten bytes of an input in hexadecimal, and how many there are where some are left out.
-pub fn bytes(rt: &impl Print, input: &[u8]) -> io::Result<()> {
-    let mut i = 0;
-    while i < input.len() {
-        byte(rt, i, input[i])?;
-        i += 1;
+// An input: its first ten bytes in hexadecimal, and how many there are where some are left out; `-` for the empty one.
+#[derive(Clone, Copy)]
+pub struct Bytes<'a>(pub &'a [u8]);
+
+impl fmt::Display for Bytes<'_> {
+    fn fmt<W: fmt::Write>(&self, f: &mut fmt::Formatter<W>) -> fmt::Result {
+        if self.0.is_empty() {
+            return f.write_str("-");
+        }
+        for byte in self.0.iter().take(10) {
+            write!(f, "{byte:02x}")?;
+        }
+        if 10 < self.0.len() {
+            write!(f, ".. of {} bytes", self.0.len())?;
+        }
+        Ok(())
     }
-    if 10 < i {
-        number(rt, b".. of ", i as u64)?;
-        word(rt, b" bytes")?;
-    }
-    Ok(())
 }
 
-fn byte(rt: &impl Print, i: usize, b: u8) -> io::Result<()> {
-    if i < 10 {
-        print!(rt; "{b:02x}")?;
+// The refusal of an answer by its number and its place; 0 at 0 where there is none.
+#[derive(Clone, Copy)]
+pub struct Refused(pub Option<Refusal>);
+
+impl fmt::Display for Refused {
+    fn fmt<W: fmt::Write>(&self, f: &mut fmt::Formatter<W>) -> fmt::Result {
+        match self.0 {
+            Some(refusal) => write!(f, "{} at {}", refusal.reason.number(), refusal.place),
+            None => f.write_str("0 at 0"),
+        }
     }
-    Ok(())
 }
 
-// A difference, in the case whose line stands before.
-pub fn difference(rt: &impl Print, text: &[u8]) -> io::Result<()> {
-    word(rt, b"difference in ")?;
-    word(rt, text)?;
-    word(rt, b"\n")
+// Says that something differs, in the case whose line stands before.
+pub fn difference(rt: &impl Print, name: &str) -> io::Result<()> {
+    println!(rt; "difference in {name}")
+}
+
+// The same where it is not right.
+pub fn judge(rt: &impl Print, name: &str, right: bool) -> io::Result<()> {
+    if right {
+        return Ok(());
+    }
+    difference(rt, name)
 }

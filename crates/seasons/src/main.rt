@@ -6,7 +6,7 @@ mod folded;
 mod read;
 mod refused;
 
-use format::Format;
+use format::{Format, Reason};
 use std::io;
 
 fn main(rt: HostRuntime) -> io::Result<()> {
@@ -29,5 +29,5 @@ fn most_steps(rt: &impl Print) -> io::Result<()> {
     let more = [Format::STEP; 131072];
     let mut out = [0u8; 131072];
     read::most_steps(rt, &most, &more, &mut out)?;
-    refused::refuse_run(rt, 10, &more, 131070)
+    refused::refuse_run(rt, &more, Reason::TooManyNodes.at(131070))
 }

@@ -4,8 +4,11 @@
 
 mod command;
 mod folds;
+mod pool;
 mod search;
+mod trace;
 
-pub use command::{Command, command_at, number_at, put_number, so_far};
-pub use folds::{fold_at, gather};
-pub use search::{Search, deeper, left, retry, spent, start};
+pub use command::Command;
+pub use folds::gather;
+pub use pool::Fold;
+pub use search::{Entry, Judgement, Next, Search, TURNS};

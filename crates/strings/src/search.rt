@@ -1,77 +1,125 @@
 // The search over all command strings: one command more, or the next in place of the last.
-ghost use Rattle.std.specs.Prelude.{◌<◌};
+use crate::command::Command;
+use format::{Reason, Refusal};
 
-use crate::command::{command_at, first_command, next_command, number_at, put_command, put_number};
-
-// The commands that a string may have.
+// The commands that a string may have, and the bytes.
 const DEPTH: usize = 60;
 
-// How far a search is: the commands written, whether the last one is spent, whether all were tried,
-// whether room was short, and how many strings were found.
+const ROOM: usize = 128;
+
+// More turns than any search takes here.
+pub const TURNS: usize = 100000000;
+
+// What a reader says of a string: it may be the beginning of what is looked for, it is that whole, or neither.
 #[derive(Clone, Copy)]
-pub struct Search {
-    pub depth: usize,
-    pub back: bool,
-    pub done: bool,
-    pub short: bool,
-    pub found: usize,
+pub enum Judgement {
+    Neither,
+    Beginning,
+    Whole,
 }
 
-pub fn start() -> Search {
-    Search {
-        depth: 0,
-        back: false,
-        done: false,
-        short: false,
-        found: 0,
+impl Judgement {
+    // A string that only ends too early may be a beginning.
+    pub fn of<T: Drop>(answer: Result<T, Refusal>) -> Judgement {
+        match answer {
+            Ok(_) => Judgement::Whole,
+            Err(refusal) if refusal.reason == Reason::Unfinished => Judgement::Beginning,
+            Err(_) => Judgement::Neither,
+        }
     }
 }
 
-// The turns that a search may still take: none where it is over.
-pub fn left(turns: usize, over: bool) -> usize
-    requires { 0 < turns }
-    ensures { result < turns }
-{
-    if over {
-        return 0;
-    }
-    turns - 1
+// What a search does next: it looks at its string, or goes back from it; or it is over, with all strings tried or short of room.
+#[derive(Clone, Copy, PartialEq, Eq)]
+pub enum Next {
+    Look,
+    Back,
+    Done,
+    Short,
 }
 
-// The string is spent: go back to its last command.
-pub fn spent(mut s: Search) -> Search {
-    s.back = true;
-    s
+// A command of a string, what was found of the commands before it, and where it begins.
+#[derive(Clone, Copy)]
+pub struct Entry<T> {
+    pub command: Command,
+    pub before: T,
+    start: usize,
 }
 
-// One command more, the first of all. Command k starts at starts[k], and the string ends at starts[depth].
-pub fn deeper(mut s: Search, string: &mut [u8], starts: &mut [usize]) -> Search {
-    let depth = s.depth;
-    if depth < DEPTH {
-        let end = put_command(first_command(), string, number_at(starts, depth));
-        put_number(starts, depth + 1, end);
-        s.depth = depth + 1;
-        return s;
-    }
-    s.short = true;
-    s.done = true;
-    s
+// A search: its string, in bytes and by its commands, and what it does next.
+#[derive(Drop)]
+pub struct Search<T> {
+    bytes: [u8; ROOM],
+    end: usize,
+    entries: [Entry<T>; DEPTH],
+    depth: usize,
+    pub next: Next,
 }
 
-// The next command in place of the last, or where there is none the one before is spent.
-pub fn retry(mut s: Search, most: u8, string: &mut [u8], starts: &mut [usize]) -> Search {
-    let depth = s.depth;
-    if depth == 0 {
-        s.done = true;
-        return s;
+impl<T: Copy> Search<T> {
+    // A search that begins with the empty string. What the entries hold before they are used is read nowhere.
+    pub fn new(before: T) -> Search<T> {
+        let blank = Entry {
+            command: Command::FIRST,
+            before,
+            start: 0,
+        };
+        Search {
+            bytes: [0; ROOM],
+            end: 0,
+            entries: [blank; DEPTH],
+            depth: 0,
+            next: Next::Look,
+        }
     }
-    let at = number_at(starts, depth - 1);
-    let c = next_command(command_at(string, at), most);
-    if c.kind == 0 {
-        s.depth = depth - 1;
-        return s;
+
+    // The string.
+    pub fn string(&self) -> &[u8] {
+        self.bytes.get(..self.end).unwrap_or(&[])
     }
-    put_number(starts, depth, put_command(c, string, at));
-    s.back = false;
-    s
+
+    // A command of the string, by its number.
+    pub fn entry(&self, k: usize) -> Option<Entry<T>> {
+        self.entries.get(k).copied()
+    }
+
+    // The last command and its number.
+    pub fn last(&self) -> Option<(usize, Entry<T>)> {
+        let k = self.depth.checked_sub(1)?;
+        Some((k, self.entry(k)?))
+    }
+
+    // Puts a command at the end of the string, as its command k, to be looked at; none where there is no room.
+    fn put(&mut self, k: usize, entry: Entry<T>) -> Option<Next> {
+        *self.entries.get_mut(k)? = entry;
+        self.end = entry.command.write(&mut self.bytes, entry.start)?;
+        self.depth = k.checked_add(1)?;
+        Some(Next::Look)
+    }
+
+    // One command more, the first of all, behind those of which `before` was found.
+    pub fn deeper(&mut self, before: T) {
+        let entry = Entry {
+            command: Command::FIRST,
+            before,
+            start: self.end,
+        };
+        self.next = self.put(self.depth, entry).unwrap_or(Next::Short);
+    }
+
+    // The next command in place of the last; where there is none, the one before is spent. Behind the first all were tried.
+    pub fn retry(&mut self, most: u8) {
+        let Some((k, entry)) = self.last() else {
+            self.next = Next::Done;
+            return;
+        };
+        let Some(command) = entry.command.next(most) else {
+            self.depth = k;
+            self.end = entry.start;
+            return;
+        };
+        self.next = self
+            .put(k, Entry { command, ..entry })
+            .unwrap_or(Next::Short);
+    }
 }
