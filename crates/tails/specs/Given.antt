@@ -2,7 +2,7 @@
 use Rattle.std.specs.Prelude.{List, ℕ}
 use Rattle.format.specs.Limits.{allowed}
 use Rattle.format.specs.Tree.{tree_of}
-use Rattle.tails.specs.declared.row.Row.{Row}
+use Rattle.tails.specs.declared.given.Row.{Row}
 use Rattle.tails.specs.declared.run.FlatSeason.{FlatSeason}
 use Rattle.blocks.specs.declared.keys.Key.{Key}
 use Rattle.tails.specs.Solving.{Stretched, Tailed, Matching, RowReady, StretchesPut, CountPut, CountsPut, RowSolved, FillReady, FilledFrom}

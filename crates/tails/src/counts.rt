@@ -6,8 +6,8 @@ ghost use Rattle.tails.specs.Tops.{top_rate};
 ghost use Rattle.tails.specs.Solving.{Counted, Twice, TailOffered};
 ghost use Rattle.tails.specs.Given.{Ready, CountDone, CountsDone, TailKey};
 
+use crate::given::Row;
 use crate::rates::repeat_cost;
-use crate::row::Row;
 use blocks::{Block, Key, key_at, pair_of, put_key, slot};
 
 // The key of the best count at width w, where `span` steps match.

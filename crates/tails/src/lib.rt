@@ -3,6 +3,7 @@
 #![tactic(auto)]
 
 mod counts;
+mod given;
 mod matches;
 mod rates;
 mod row;

@@ -3,21 +3,9 @@ ghost use Rattle.tails.specs.Solving.{OwnCost};
 ghost use Rattle.tails.specs.Given.{Ready, Done};
 
 use crate::counts::{put_counts, tail_key};
-use crate::rates::Rates;
+use crate::given::Row;
 use crate::stretches::put_stretches;
 use blocks::{Block, Key, put_key, slot};
-
-// What the block of step i is solved by: the prices, how many steps match at each width within the limit, the steps of the run,
-// and what the step costs by itself.
-#[derive(Clone, Copy)]
-pub struct Row<'a> {
-    pub rates: Rates,
-    pub matches: &'a [u16; Block::TAIL],
-    pub limit: usize,
-    pub n: usize,
-    pub i: usize,
-    pub own: u64,
-}
 
 // Solves the block of a step. The blocks behind it are solved.
 pub fn solve(work: &mut [u32], row: &Row)

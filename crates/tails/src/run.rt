@@ -6,9 +6,10 @@ ghost use Rattle.tails.specs.Tops.{top_rate};
 ghost use Rattle.tails.specs.Solving.{EndPut, KeptPast};
 ghost use Rattle.tails.specs.Given.{SeasonReady, SeasonFilled, SeasonMatching};
 
+use crate::given::Row;
 use crate::matches::grow;
 use crate::rates::Rates;
-use crate::row::{Row, solve};
+use crate::row::solve;
 use blocks::{Block, Key, put_key, slot};
 use walk::price;
 

@@ -6,8 +6,8 @@ ghost use Rattle.tails.specs.Tops.{top_rate};
 ghost use Rattle.tails.specs.Solving.{Offered, WidthOffered, OwnCost};
 ghost use Rattle.tails.specs.Given.{Ready, StretchKey, StretchesDone};
 
+use crate::given::Row;
 use crate::rates::repeat_cost;
-use crate::row::Row;
 use blocks::{Key, key_at, pair_of, put_key, slot};
 
 // The least of a key and of those of the repeats of width w that stand first in the stretch of d steps and cover no more than
