@@ -48,7 +48,7 @@ pub fn price(table: &[u16], label: u8) -> u64
 fn is_barred(marks: &[u8], label: u8, d: Depth) -> bool
     ensures { result ≡ barred marks.now label d }
 {
-    is_marked(marks, label) && 0 < d.repeats
+    0 < d.repeats && is_marked(marks, label)
 }
 
 // A step: refusals 3, 19 and 10.

@@ -1,6 +1,6 @@
 // The walk over a sequence: a sequence is made of items, and a group or a repeat holds a sequence. The functions here call
 // each other, remaining bytes falling; every test stands in command.rt.
-ghost use Rattle.std.specs.Prelude.{◌≤◌, ◌<◌, length};
+ghost use Rattle.std.specs.Prelude.{◌≡◌, ◌≤◌, ◌<◌, length, get_or};
 ghost use Rattle.walk.specs.Walk.{At, OpensAt, NoClose, Room, Sane, ItemRead, SequenceRead, rules_of, seen};
 
 use crate::command::{
@@ -23,23 +23,25 @@ pub fn sequence(s: &[u8], a: &Terms, at: usize, d: Depth, t: Tally) -> Result<Pa
         if closes(s[now.at]) {
             return Ok(now);
         }
-        now = item(s, a, now.at, d, now.tally)?;
+        now = if s[now.at] == Format::STEP {
+            step(s, a, now.at, d, now.tally)?
+        } else {
+            item(s, a, now.at, d, now.tally)?
+        };
     }
     Ok(now)
 }
 
-// The item at `at`, which is no close.
+// The item at `at`, which is no close and no step.
 #[cycle(walk)]
 fn item(s: &[u8], a: &Terms, at: usize, d: Depth, t: Tally) -> Result<Passed, Refusal>
     requires no_close { NoClose s.now at }
+    requires no_step { get_or s.now at 0 ≡ 0x10 → ⊥ }
     requires room { Room a.now.limits d t }
     requires sane { Sane a.now }
     ensures { ItemRead (rules_of a.now) s.now d at t (seen result) }
 {
     let c = s[at];
-    if c == Format::STEP {
-        return step(s, a, at, d, t);
-    }
     if c == Format::GROUP {
         return group(s, a, at, d, t);
     }
