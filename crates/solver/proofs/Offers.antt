@@ -2,25 +2,14 @@
 use mathlib.Core.Path.{◌≡◌, refl, ◌∙◌}
 use mathlib.Core.Logic.{◌⊎◌, inl, inr}
 use mathlib.Core.List.{List}
-use Prim.Native.Nat.{ℕ, suc, ◌+◌, ◌-◌, ◌*◌, ◌/◌, ◌≤◌, ◌<◌, min}
-use native.Mathlib.Nat.{mul_comm, mul-le-mul_right, le-mul_of_pos_right, div-mul-le_self, lt-mul-div-succ}
+use Prim.Native.Nat.{ℕ, suc, ◌+◌, ◌-◌, ◌*◌, ◌≤◌, ◌<◌, min}
+use native.Mathlib.Nat.{mul-le-mul_right, le-mul_of_pos_right}
 use native.Mathlib.Decide.{ℕ_discrete, dec_lt}
 use native.Mathlib.Omega.{arith}
 use lib.ListN.{length, get_or, set, length-set}
 use lib.Seq.{get_or-set_same, get_or-set_other}
 use Rattle.optimum.proofs.Matches.{copy_more}
 use Rattle.solver.specs.Rows.{Came, Offering, offer_key}
-
--- The counts up to one more than `span` holds widths have all copies but the first within it, and the next one has not.
-pub count_near : (d span h : ℕ) → 1 ≤ h → h ≤ span / d + 1 → (h - 1) * d ≤ span
-count_near d span h some l =
-    let i : h - 1 ≤ span / d = omega arith in
-    omega (arith, mul-le-mul_right d i, div-mul-le_self span d)
-
-pub count_far : (d span h : ℕ) → 0 < d → span / d + 1 < h → span < (h - 1) * d
-count_far d span h pos l =
-    let i : span / d + 1 ≤ h - 1 = omega arith in
-    omega (arith, mul-le-mul_right d i, rw (mul_comm d (span / d + 1)) at (lt-mul-div-succ span pos))
 
 -- What is in reach fits the lists.
 pub in_reach : (g h d span : ℕ) → suc g ≡ h → 0 < d → span + d ≤ 1024 → g * d ≤ span → (h * d ≤ 1024) × (h ≤ 1024)

@@ -8,7 +8,7 @@ ghost use Rattle.solver.specs.Ends.{Ending, EndOffered};
 use crate::keys::offer_key;
 use crate::row::{Row, count_past, matched_within};
 use crate::rows::Rows;
-use table::{combined_digits, covered, key_of};
+use table::{Lists, combined_digits, covered, key_of};
 
 // The lesser of a key and that of a solved stretch with the tail behind it, where the stretch is cheapest as one repeat.
 fn followed(key: u64, d: usize, tail: u64, last: u64) -> u64
@@ -38,7 +38,10 @@ fn offer_end(
     ensures { EndOffered row prices.now tails.now body d span last result }
 {
     let mut best = last;
-    for h in count_past(d, row.extent)..=span / d + 1 {
+    for h in count_past(d, row.extent)..Lists::LENGTH {
+        if span < (h - 1) * d {
+            break;
+        }
         let k = offer_key(prices, body, d, h);
         best = best.min(k + tails[row.at + h * d]);
     }
@@ -78,7 +81,7 @@ pub fn end_key(row: Row, prices: &[u64], rows: &Rows) -> u64
         return rows.keys[n];
     }
     let mut last = key_of(row.own, 0) + rows.tails[row.at + 1];
-    for d in 1..=n {
+    for d in 1..n + 1 {
         let key = rows.keys[d];
         last = followed(key, d, rows.tails[row.at + d], last);
         last = repeated(

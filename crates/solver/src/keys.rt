@@ -5,7 +5,7 @@ ghost use Rattle.table.specs.Table.{Held};
 ghost use Rattle.solver.specs.Rows.{RowFits, RowRead, KeysReady, PricesReady, TailsReady, Copied, Plainly, Offering, Pushing, offer_key, behind_key};
 
 use crate::row::Row;
-use table::{combined_of, key_at, key_of, pair_of, rest_key};
+use table::{Lists, combined_of, key_at, key_of, pair_of, rest_key};
 
 // What the rows of the siblings behind have left for a row: the entries of their stretches, and what each adds as a tail.
 #[derive(Clone, Copy)]
@@ -24,7 +24,7 @@ pub fn copy_row(solved: &Solved, row: Row, keys: &mut [u64])
 {
     let j = row.at + row.shift;
     let q = solved.numbers[j];
-    for d in 1..=row.span {
+    for d in 1..row.span + 1 {
         keys[d] = key_at(solved.costs, solved.choices, solved.numbers, q, j + d);
     }
 }
@@ -37,7 +37,7 @@ pub fn plain_row(solved: &Solved, row: Row, from: usize, keys: &mut [u64])
 {
     let q = solved.numbers[row.at + 1];
     let plain = key_of(row.own, 0);
-    for d in from..=row.extent {
+    for d in from..row.extent + 1 {
         keys[d] = plain + rest_key(solved.costs, solved.choices, solved.numbers, q, row.at + d);
     }
 }
@@ -64,7 +64,7 @@ pub fn push(solved: &Solved, row: Row, c: usize, k: u64, from: usize, keys: &mut
 {
     let i = row.at + c;
     let q = solved.numbers[i];
-    for d in from..=row.extent {
+    for d in from..row.extent + 1 {
         let rest = behind(solved, row.end, q, i, row.at + d);
         keys[d] = keys[d].min(k + rest);
     }
@@ -86,7 +86,10 @@ pub fn offer(prices: &[u64], body: u64, d: usize, span: usize, from: usize, keys
     requires body_bound { (body ≤ combined_digits top_key) × (0 < d) × (span + d ≤ 1024) × (2 ≤ from) × (from ≤ 1025) }
     ensures { Offering prices.now body d span from keys.old keys.new }
 {
-    for h in from..=span / d + 1 {
+    for h in from..Lists::LENGTH {
+        if span < (h - 1) * d {
+            break;
+        }
         let c = h * d;
         let k = offer_key(prices, body, d, h);
         keys[c] = keys[c].min(k);

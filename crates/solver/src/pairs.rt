@@ -17,7 +17,7 @@ pub fn mark(row: Row, keys: &[u64], seen: &mut [usize; Lists::LENGTH])
     if row.extent <= row.span + MANY_KEYS {
         return;
     }
-    for d in 1..=row.span {
+    for d in 1..row.span + 1 {
         let c = covered(keys[d]);
         if c < d {
             seen[c] = row.at;

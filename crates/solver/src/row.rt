@@ -47,7 +47,7 @@ pub fn count_past(d: usize, span: usize) -> usize
     requires { (0 < d) × (d ≤ 1024) × (span ≤ 1024) }
     ensures { (2 ≤ result) × (result ≤ 1025) × (span < result * d) × ((g : ℕ) → 2 ≤ g → g < result → g * d ≤ span) }
 {
-    (span / d + 1).max(2)
+    if span < d { 2 } else { span / d + 1 }
 }
 
 // How many siblings match for a repeat of width d: none where the limit forbids that width.
@@ -111,7 +111,7 @@ fn solve(
     ensures { Advanced solved.now.costs.now solved.now.choices.now solved.now.numbers.now row prices.now matches.now solved.now.tails.now stops.now row.extent keys.old keys.new result }
 {
     let mut longest: usize = 1;
-    for d in 1..=row.extent {
+    for d in 1..row.extent + 1 {
         longest = longest.max(covered(keys[d]));
         follow(solved, row, d, stops, seen, keys);
         widen(

@@ -47,7 +47,7 @@ pub fn store_row(
     ensures choices { Stored numbers.now i n (λ d. choice_digits (get_or keys.now d 0)) choices.old choices.new }
 {
     let q = numbers[i];
-    for d in 1..=n {
+    for d in 1..n + 1 {
         let at = entry(numbers[i + d], q);
         let key = keys[d];
         costs[at] = cost_digit(key) as u32;

@@ -19,12 +19,7 @@ loop-d-preserved c =
     let e : c.loop-d.d + 1 - 1 ≡ c.loop-d.d = omega arith in
     (omega arith, rw e (one_more (goal.at.loop-d-preserved c).After-repeated-last))
 
-pub returns-else-row-n-clause-ending : goal.returns-else-row-n-clause-ending
-returns-else-row-n-clause-ending c =
+pub returns-clause-ending : goal.returns-clause-ending
+returns-clause-ending c =
     let e : c.loop-d.d - 1 ≡ c.args.row.extent = omega arith in
     λ l. rw e at c.loop-d.invariant.1
-
-pub returns-else-row-n-2-clause-ending : goal.returns-else-row-n-2-clause-ending
-returns-else-row-n-2-clause-ending c =
-    let e : c.loop-d.d ≡ c.args.row.extent = omega arith in
-    λ l. rw e at (one_more (goal.at.returns-else-row-n-2-clause-ending c).After-repeated-last)

@@ -1,9 +1,8 @@
 -- `solver::ends::offer_end` meets its contract. The loop's invariant: the counts below h are offered.
-use Prim.Native.Nat.{◌+◌, ◌≤◌}
-use native.Mathlib.Nat.{mul-le-mul_right}
+use Prim.Native.Nat.{◌+◌, ◌-◌, ◌≤◌}
+use native.Mathlib.Nat.{mul-le-mul_right, le-mul_of_pos_right}
 use native.Mathlib.Omega.{arith}
 use Rattle.solver.specs.Ends.{Beyond}
-use Rattle.solver.proofs.Offers.{count_near, count_far}
 use Rattle.solver.proofs.Endings.{EndUpto, end_more, end_all}
 use Rattle.solver.proofs.ends.offer_end.Goals as goal
 use Rattle.solver.proofs.ends.offer_end.Goals.{After-min-best}
@@ -17,7 +16,7 @@ one_more c =
     let beyond : Beyond c.args.row c.args.d c.args.span h =
     record {
       twice = omega arith;
-      near = count_near c.args.d c.args.span h (omega arith) c.loop-h-test.true;
+      near = c.if-span-h.false;
       far = omega (arith, mul-le-mul_right c.args.d from);
     } in
     end_more _ _ _ _ _ _ _ h c.loop-h.best c.loop-h.invariant c.min-best.result beyond (omega arith) (omega arith) (grind arith)
@@ -25,11 +24,11 @@ one_more c =
 pub loop-h-preserved : goal.loop-h-preserved
 loop-h-preserved c = one_more (goal.at.loop-h-preserved c).After-min-best
 
-pub returns-2 : goal.returns-2
-returns-2 c =
-    end_all _ _ _ _ _ _ _ (c.loop-h.h + 1) c.min-best.result (one_more (goal.at.returns-2 c).After-min-best)
-    (count_far c.args.d c.args.span (c.loop-h.h + 1) (omega arith) (omega arith))
+pub returns-then-span-h : goal.returns-then-span-h
+returns-then-span-h c =
+    end_all _ _ _ _ _ _ _ c.loop-h.h c.loop-h.best c.loop-h.invariant c.if-span-h.true
 
-pub returns : goal.returns
-returns c =
-    end_all _ _ _ _ _ _ _ c.loop-h.h c.loop-h.best c.loop-h.invariant (count_far c.args.d c.args.span c.loop-h.h (omega arith) (omega arith))
+pub returns-after-loop-h : goal.returns-after-loop-h
+returns-after-loop-h c =
+    end_all _ _ _ _ _ _ _ c.loop-h.h c.loop-h.best c.loop-h.invariant
+    (omega (arith, le-mul_of_pos_right (c.loop-h.h - 1) c.requires.d_nonzero.0))

@@ -35,7 +35,7 @@ loop-d-preserved c =
     let e : c.loop-d.d + 1 - 1 ≡ c.loop-d.d = omega arith in
     rw e (one_more (goal.at.loop-d-preserved c).After-widen)
 
-pub returns-2 : goal.returns-2
-returns-2 c =
-    let e : c.loop-d.d ≡ c.args.row.extent = omega arith in
-    rw e at (one_more (goal.at.returns-2 c).After-widen)
+pub returns : goal.returns
+returns c =
+    let e : c.loop-d.d - 1 ≡ c.args.row.extent = omega arith in
+    rw e at c.loop-d.invariant

@@ -23,10 +23,3 @@ loop-d-preserved c =
       more cost_digit _ _ _ c.args.n L.d _ _ _ _ _ (omega arith) (omega arith) (omega arith) c.requires.falling.0 c.entry-at.ensures c.cost_digit.ensures L.invariant.1,
       more choice_digits _ _ _ c.args.n L.d _ _ _ _ _ (omega arith) (omega arith) (omega arith) c.requires.falling.1 c.entry-at.ensures c.choice_digits.ensures.0 L.invariant.2,
     )
-
-pub returns-2 : goal.returns-2
-returns-2 c =
-    let L = c.loop-d in record {
-      costs = more cost_digit _ _ _ c.args.n L.d _ _ _ _ _ (omega arith) (omega arith) (omega arith) c.requires.falling.0 c.entry-at.ensures c.cost_digit.ensures L.invariant.1;
-      choices = more choice_digits _ _ _ c.args.n L.d _ _ _ _ _ (omega arith) (omega arith) (omega arith) c.requires.falling.1 c.entry-at.ensures c.choice_digits.ensures.0 L.invariant.2;
-    }
