@@ -1,9 +1,9 @@
 // Keys: cost and repeats of a fold, combined, and the pair of its first item; how they are compared, read and put.
 ghost use Rattle.std.specs.Prelude.{◌≡◌, ◌+◌, ◌<◌, length};
-ghost use Rattle.blocks.specs.Keys.{packed, pair_base, slot, key_in, entry_base, both_base, read_base, Put};
+ghost use Rattle.blocks.specs.Keys.{packed, pair_base, Lesser, slot, key_in, entry_base, both_base, read_base, Put};
 
 // Cost and repeats, combined, and the pair of count and width, 0 for the plain step.
-#[derive(Clone, Copy, PartialEq, Eq, PartialOrd, Ord)]
+#[derive(Clone, Copy)]
 pub struct Key {
     pub both: u64,
     pub pair: u64,
@@ -39,6 +39,23 @@ pub fn pair_of(count: usize, width: usize) -> u64
     ensures { (result ≡ packed count width) × (result < pair_base) }
 {
     (count as u64) * Block::WIDTHS + (width as u64)
+}
+
+// The earlier of two keys.
+// Stays: by hand, since with `min` by a derived order the season folder takes 1.5 times as long on one label.
+pub fn lesser(a: Key, b: Key) -> Key
+    requires { (a.pair < pair_base) × (b.pair < pair_base) }
+    ensures { Lesser a b result }
+{
+    if b.both < a.both {
+        return b;
+    }
+    if b.both == a.both {
+        if b.pair < a.pair {
+            return b;
+        }
+    }
+    a
 }
 
 // The key that begins at an entry.

@@ -3,4 +3,4 @@
 
 mod keys;
 
-pub use keys::{Block, Key, key_at, pair_of, put_key, slot};
+pub use keys::{Block, Key, key_at, lesser, pair_of, put_key, slot};

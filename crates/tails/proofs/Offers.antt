@@ -2,11 +2,10 @@
 use mathlib.Core.Path.{◌≡◌, refl, ap, ◌∙◌}
 use mathlib.Core.Logic.{◌⊎◌, inl, inr}
 use mathlib.Core.List.{List}
-use Prim.Native.Nat.{ℕ, suc, ◌+◌, ◌*◌, ◌/◌, ◌≤◌, ◌<◌}
+use Prim.Native.Nat.{ℕ, ◌+◌, ◌*◌, ◌≤◌, ◌<◌}
 use native.Mathlib.Nat.{mul-le-mul_right}
 use native.Mathlib.Decide.{dec_le, dec_lt, ℕ_discrete}
 use native.Mathlib.Omega.{arith}
-use Rattle.std.proofs.Math.Nat.{div-mul-le_self, lt-div-mul-add}
 use lib.ListN.{get_or}
 use Rattle.blocks.specs.declared.keys.Key.{Key}
 use Rattle.blocks.specs.Keys.{pair_base, order, Lesser, slot, count_slot, both_in, pair_in, key_in}
@@ -48,10 +47,6 @@ pub record Offering (W : List ℕ) (R : Rates) (i d w reach : ℕ) (best least :
   pub each : (h : ℕ) → h < count → Within reach w h → order least ≤ order (repeat_key W R i d w h)
   pub small : least.pair < pair_base
 
--- What the counts that are offered cover.
-covers : (count w reach : ℕ) → count ≤ reach / w → count * w ≤ reach
-covers count w reach l = omega (arith, mul-le-mul_right w l, div-mul-le_self reach w)
-
 module _ (W : List ℕ) (R : Rates) (i d w reach : ℕ) (best : Key) where
   pub offering_none : best.pair < pair_base → Offering W R i d w reach best best 2
   offering_none s =
@@ -65,7 +60,7 @@ module _ (W : List ℕ) (R : Rates) (i d w reach : ℕ) (best : Key) where
 
   module _ (least : Key) (count : ℕ) (o : Offering W R i d w reach best least count) where
     -- One count more.
-    pub offering_more : count ≤ reach / w → (x r : Key) → x ≡ repeat_key W R i d w count → x.pair < pair_base
+    pub offering_more : count * w ≤ reach → (x r : Key) → x ≡ repeat_key W R i d w count → x.pair < pair_base
         → Lesser least x r → Offering W R i d w reach best r (count + 1)
     offering_more l x r here low z =
         record {
@@ -81,17 +76,18 @@ module _ (W : List ℕ) (R : Rates) (i d w reach : ℕ) (best : Key) where
       where
         by_one : (r ≡ least) ⊎ (r ≡ x) → OfferCame W R i d w reach best r
         by_one (inl a) = rw a o.came
-        by_one (inr a) = taken count (record { twice = o.twice; fits = covers count w reach l }) (a ∙ here)
+        by_one (inr a) = taken count (record { twice = o.twice; fits = l }) (a ∙ here)
 
-    pub offering_all : 0 < w → reach / w < count → Offered W R i d w reach best least
-    offering_all pos l =
+    pub offering_all : reach < count * w → Offered W R i d w reach best least
+    offering_all l =
         record {
           came = o.came;
           lower = o.lower;
           each = λ h q. elim (dec_lt h count) [
             | yes b ↦ o.each h b q
             | no b ↦
-                absurd (omega (arith, q.fits, lt-div-mul-add {a = reach} pos, mul-le-mul_right {m = suc (reach / w)} {n = h} w (omega arith)))
+                let m : count * w ≤ h * w = mul-le-mul_right w (omega arith) in
+                absurd (omega (arith, q.fits))
           ];
           small = o.small;
         }

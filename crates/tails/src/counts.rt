@@ -8,7 +8,7 @@ ghost use Rattle.tails.specs.Given.{Ready, CountDone, CountsDone, TailKey};
 
 use crate::given::Row;
 use crate::rates::repeat_cost;
-use blocks::{Block, Key, key_at, pair_of, put_key, slot};
+use blocks::{Block, Key, key_at, lesser, pair_of, put_key, slot};
 
 // The key of the best count at width w, where `span` steps match.
 fn count_key(work: &[u32], row: &Row, w: usize, span: usize) -> Key
@@ -29,7 +29,7 @@ fn count_key(work: &[u32], row: &Row, w: usize, span: usize) -> Key
         both: more.both + row.rates.each,
         pair: more.pair + Block::WIDTHS,
     };
-    two.min(longer)
+    lesser(two, longer)
 }
 
 // Puts the key of the best count at width w where there are two copies of it.
@@ -51,7 +51,7 @@ pub fn put_counts(work: &mut [u32], row: &Row)
     requires { Ready row.now work.old }
     ensures { CountsDone row.now (row.now.limit + 1) work.old work.new }
 {
-    for w in 1..=row.limit {
+    for w in 1..row.limit + 1 {
         put_count(work, row, w);
     }
 }
@@ -68,10 +68,13 @@ fn tail_width(work: &[u32], row: &Row, w: usize, best: Key) -> Key
     let count = key_at(work, slot(row.i, Block::TAIL + w));
     let body = key_at(work, slot(row.i, w));
     let both = repeat_cost(row.rates.first, body.both, count.both);
-    best.min(Key {
-        both,
-        pair: count.pair,
-    })
+    lesser(
+        best,
+        Key {
+            both,
+            pair: count.pair,
+        },
+    )
 }
 
 // The key of the tail.
@@ -86,7 +89,7 @@ pub fn tail_key(work: &[u32], row: &Row) -> Key
         both: row.own + next.both,
         pair: 0,
     };
-    for w in 1..=row.limit {
+    for w in 1..row.limit + 1 {
         best = tail_width(work, row, w, best);
     }
     best

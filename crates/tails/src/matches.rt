@@ -39,7 +39,7 @@ pub fn grow(
     requires matching { Matching (allowed limit marks.now) (tree_of run.now) matches.old (i + 1) }
     ensures { Matching (allowed limit marks.now) (tree_of run.now) matches.new i }
 {
-    for w in 1..=limit {
+    for w in 1..limit + 1 {
         matches[w] = match_at(run, marks, n, i, w, matches[w]);
     }
 }

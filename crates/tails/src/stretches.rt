@@ -8,7 +8,7 @@ ghost use Rattle.tails.specs.Given.{Ready, StretchKey, StretchesDone};
 
 use crate::given::Row;
 use crate::rates::repeat_cost;
-use blocks::{Key, key_at, pair_of, put_key, slot};
+use blocks::{Block, Key, key_at, lesser, pair_of, put_key, slot};
 
 // The least of a key and of those of the repeats of width w that stand first in the stretch of d steps and cover no more than
 // `reach` of them.
@@ -19,13 +19,17 @@ fn offer(work: &[u32], row: &Row, d: usize, w: usize, reach: usize, best: Key) -
 {
     let body = key_at(work, slot(row.i, w)).both;
     let mut least = best;
-    for count in 2..=reach / w {
+    let mut price = row.rates.first;
+    for count in 2..Block::TAIL {
         let cover = count * w;
-        let price = row.rates.first + row.rates.each * ((count - 2) as u64);
+        if reach < cover {
+            break;
+        }
         let rest = key_at(work, slot(row.i + cover, d - cover));
         let both = repeat_cost(price, body, rest.both);
         let pair = pair_of(count, w);
-        least = least.min(Key { both, pair });
+        least = lesser(least, Key { both, pair });
+        price += row.rates.each;
     }
     least
 }
@@ -54,7 +58,7 @@ fn stretch_key(work: &[u32], row: &Row, d: usize) -> Key
         both: row.own + next.both,
         pair: 0,
     };
-    for w in 1..=d / 2 {
+    for w in 1..d / 2 + 1 {
         best = offer_width(work, row, d, w, best);
     }
     best
@@ -67,7 +71,7 @@ pub fn put_stretches(work: &mut [u32], row: &Row)
     ensures { StretchesDone row.now 33 work.old work.new }
 {
     let m = row.limit.min(row.n - row.i);
-    for d in 1..=m {
+    for d in 1..m + 1 {
         let key = stretch_key(work, row, d);
         put_key(work, slot(row.i, d), key);
     }

@@ -5,6 +5,3 @@ use Rattle.tails.proofs.counts.put_counts.Goals as goal
 
 pub loop-w-preserved : goal.loop-w-preserved
 loop-w-preserved c = counts_more _ _ (omega arith) (omega arith) c.loop-w.invariant c.put_count.ensures
-
-pub returns-2 : goal.returns-2
-returns-2 c = counts_more _ _ (omega arith) (omega arith) c.loop-w.invariant c.put_count.ensures

@@ -23,9 +23,7 @@ pub loop-w-preserved : goal.loop-w-preserved
 loop-w-preserved c =
     λ f. grown_more _ _ _ _ f (c.loop-w.invariant f) c.requires.i_lt_n.0 (omega arith) (omega arith) (omega arith) c.requires.matching _ c.match_at.ensures
 
-pub returns-2 : goal.returns-2
-returns-2 c =
+pub returns : goal.returns
+returns c =
     let f = c.requires.flat_run in
-    grown_all _ _ _ _ f
-    (grown_more _ _ _ _ f (c.loop-w.invariant f) c.requires.i_lt_n.0 (omega arith) (omega arith) (omega arith) c.requires.matching _ c.match_at.ensures)
-    (omega arith)
+    grown_all _ _ _ _ f (c.loop-w.invariant f) (omega arith)

@@ -41,12 +41,7 @@ loop-d-preserved c =
     stretches_more v _ c.stretch_key-key.ensures (omega arith) (omega (arith, m.0)) (omega (arith, m.1, z.here)) _
     c.put_key.ensures c.slot.ensures (omega (arith, m.0, z.limited, z.modest.narrow))
 
-pub returns-2 : goal.returns-2
-returns-2 c =
-    let z = c.requires.own_cost.0 in
-    let v = c.loop-d.invariant in
+pub returns : goal.returns
+returns c =
     let m : (c.min-m.result ≤ c.args.row.now.limit) × (c.min-m.result ≤ c.args.row.now.n - c.args.row.now.i) = (omega arith, omega arith) in
-    stretches_all _ c.min-m.result
-    (stretches_more v _ c.stretch_key-key.ensures (omega arith) (omega (arith, m.0)) (omega (arith, m.1, z.here)) _
-    c.put_key.ensures c.slot.ensures (omega (arith, m.0, z.limited, z.modest.narrow)))
-    (omega arith) (λ n l q. omega arith)
+    stretches_all _ c.min-m.result c.loop-d.invariant (omega arith) (λ n l q. omega arith)
