@@ -5,11 +5,12 @@ use crate::search::{Judgement, Next, Search, TURNS};
 use crate::trace::{Trace, follow};
 use format::Format;
 use harness::{alike, unrolls};
-use reader::measure;
+use print::UNIT;
+use reader::read_fold;
 
 // What a string that follows the run up to a place is, of a fold of the run.
 fn judge(run: &[u8], string: &[u8], at: usize) -> Judgement {
-    match Judgement::of(measure::<Format>(string, Format::WIDTH)) {
+    match Judgement::of(read_fold::<Format>(string, Format::WIDTH, &UNIT)) {
         Judgement::Whole if at < run.len() => Judgement::Beginning,
         judgement => judgement,
     }
@@ -19,7 +20,7 @@ fn judge(run: &[u8], string: &[u8], at: usize) -> Judgement {
 // depth.
 fn confirmed(fold: &[u8], run: &[u8]) -> bool {
     let mut text = [0u8; 64];
-    alike(measure::<Format>(fold, Format::WIDTH), run)
+    alike(read_fold::<Format>(fold, Format::WIDTH, &UNIT), run)
         && unrolls(fold, Format::WIDTH, run, &mut text)
 }
 

@@ -1,6 +1,7 @@
 // The search over all command strings: one command more, or the next in place of the last.
 use crate::command::Command;
 use format::{Reason, Refusal};
+use std::alloc::AllocError;
 
 // The commands that a string may have, and the bytes.
 const DEPTH: usize = 60;
@@ -47,13 +48,26 @@ pub struct Entry<T> {
 }
 
 // A search: its string, in bytes and by its commands, and what it does next.
-#[derive(Drop)]
+#[derive(Copy)]
 pub struct Search<T> {
     bytes: [u8; ROOM],
     end: usize,
     entries: [Entry<T>; DEPTH],
     depth: usize,
     pub next: Next,
+}
+
+// By hand, since what is derived asks how each entry is cloned.
+impl<T: Copy> Clone for Search<T> {
+    ghost use Rattle.std.specs.Prelude.{◌≡◌, ⊤};
+
+    ghost is_clone = { λ s r. r ≡ s };
+
+    ghost is_infallible = { λ _. ⊤ };
+
+    fn clone(&self) -> Result<Search<T>, AllocError> {
+        Ok(*self)
+    }
 }
 
 impl<T: Copy> Search<T> {
