@@ -19,7 +19,7 @@ pub mod Tree
 pub mod Runs
 mod EachMark
 pub mod Numbered
-mod Expansion
+pub mod Expansion
 pub mod Letters
 pub mod Report
 pub mod Family

@@ -273,6 +273,9 @@ module _ {s : List ℕ} {p : Spot} {i : ℕ} {offsets before : List ℕ} (w : Co
   still_there e = omega (arith, outer_within w.outer z)
 
   module _ (there : p.at < length s) where
+    pub offsets_short : i ≡ length offsets → verdict ≡ false
+    offsets_short e = not_left offsets X before Y (ends_early byte_length bytes_adds offsets w.outer z there e)
+
     pub offset_differs : get_or offsets i 0 ≢ p.at → verdict ≡ false
     offset_differs e = not_left offsets X before Y (differs byte_length bytes_adds offsets w.outer z there (λ same. e (same ∙ sym (at_size w.outer z))))
 
@@ -304,7 +307,7 @@ module _ {s : List ℕ} {p : Spot} {i : ℕ} {offsets before : List ℕ} (w : Co
       go true e = sym (all (omega (arith, eqb-true _ _ e)))
       go false e =
           let there = still_there (eqb-false _ _ e) in
-          sym (not_left offsets X before Y (ends_early byte_length bytes_adds offsets w.outer z there f))
+          sym (offsets_short there f)
 
 -- Two slices of which one is longer are not the index.
 pub uneven : (s offsets before : List ℕ) → length offsets ≢ length before → is_index (index_of s) offsets before ≡ false

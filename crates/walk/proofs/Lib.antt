@@ -1,4 +1,5 @@
 -- What the walk's function proofs share.
+pub mod Said
 pub mod Walking
 pub mod Commands
 pub mod Wholes
