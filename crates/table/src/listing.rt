@@ -1,5 +1,5 @@
 // The siblings of a listed sequence: the part of each, and its class.
-ghost use Rattle.std.specs.Prelude.{◌≡◌, Bool, true, false, ℕ, ◌<◌, ◌≤◌};
+ghost use Rattle.std.specs.Prelude.{◌≡◌, ◌↔◌, IsTrue, Bool, true, false, ℕ, ◌<◌, ◌≤◌};
 ghost use Rattle.format.specs.Limits.{marked_in};
 ghost use Rattle.format.specs.Forest.{siblings, bytes};
 ghost use Rattle.format.specs.Tree.{tree_of};
@@ -34,7 +34,7 @@ impl Siblings {
         ensures { FirstEqual (tree_of s.now) i result }
     {
         for j in 0..i {
-            if usize::from(self.kinds[j]) == j && self.part(s, j) == self.part(s, i) {
+            if usize::from(self.kinds[j]) == j && equal(self.part(s, j), self.part(s, i)) {
                 return j;
             }
         }
@@ -65,6 +65,13 @@ impl Siblings {
             self.kinds[i] = self.class_of(s, marks, i) as u16;
         }
     }
+}
+
+// Whether two siblings with these parts are equal, label and children together.
+fn equal(a: &[u8], b: &[u8]) -> bool
+    ensures { IsTrue result ↔ (a.now ≡ b.now) }
+{
+    a == b
 }
 
 // Whether a marked label stands anywhere in a part of a run.

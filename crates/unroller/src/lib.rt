@@ -16,6 +16,7 @@ use write::{Place, put_sequence};
 
 // Refusals 12, 1, 21 and 3 to 10, then 14 where the output is shorter than the run; or the length written. What it writes is, in
 // the report's words, the run that the fold means.
+#[tactic(auto, using(crate::proofs::Answers::fold_refused))]
 pub fn unroll<K: Kind>(fold: &[u8], limit: usize, out: &mut [u8]) -> Result<usize, Refusal>
     ensures answered { written_said result ≡ written_answer (measured_by K.bounds fold.now limit) (length out.old) }
     ensures written { out.new ≡ written_output (measured_by K.bounds fold.now limit) out.old }

@@ -13,7 +13,7 @@ returns-in_err-read_alone c =
 pub put_form-length-requires : goal.put_form-length-requires
 put_form-length-requires c =
     let a = c.args in
-    form_fits a.from a.short a.fold.now (λ i. (c.type_inv.fold i).fits) _ c.in_ok-read_alone.ensures
+    form_fits a.from _ a.fold.now (λ i. (c.type_inv.fold i).fits) _ c.in_ok-read_alone.ensures
 
 pub returns-then-out-length : goal.returns-then-out-length
 returns-then-out-length c =

@@ -5,7 +5,7 @@ use Rattle.folder.proofs.Runs.{write_ready, written_short, written_whole}
 use Rattle.folder.proofs.run.put_run.Goals as goal
 
 pub fold_length-length-requires : goal.fold_length-length-requires
-fold_length-length-requires c = write_ready c.args.source.now c.requires.run_filled.1.1 c.requires.run_listed
+fold_length-length-requires c = write_ready _ c.requires.run_filled.1.1 c.requires.run_listed
 
 pub returns-then-out-length : goal.returns-then-out-length
 returns-then-out-length c =
