@@ -8,7 +8,7 @@ ghost use Rattle.tails.specs.Given.{Ready, StretchKey, StretchesDone};
 
 use crate::given::Row;
 use crate::rates::repeat_cost;
-use blocks::{Block, Key, key_at, lesser, pair_of, put_key, slot};
+use blocks::{Key, key_at, lesser, pair_of, put_key, slot};
 
 // The least of a key and of those of the repeats of width w that stand first in the stretch of d steps and cover no more than
 // `reach` of them.
@@ -20,16 +20,17 @@ fn offer(work: &[u32], row: &Row, d: usize, w: usize, reach: usize, best: Key) -
     let body = key_at(work, slot(row.i, w)).both;
     let mut least = best;
     let mut price = row.rates.first;
-    for count in 2..Block::TAIL {
-        let cover = count * w;
-        if reach < cover {
-            break;
-        }
+    let mut count = 2;
+    let mut cover = w + w;
+    // Stays: over a range, with a quotient for its end or left where a count covers too much, a run of one label takes 1.4 times as long.
+    while cover <= reach {
         let rest = key_at(work, slot(row.i + cover, d - cover));
         let both = repeat_cost(price, body, rest.both);
         let pair = pair_of(count, w);
         least = lesser(least, Key { both, pair });
         price += row.rates.each;
+        count += 1;
+        cover += w;
     }
     least
 }
