@@ -1,6 +1,13 @@
 -- `unroll` meets its contract: a refusal leaves the output as it was, and else the walk over the whole fold writes the run.
-use Rattle.unroller.proofs.Answers.{too_short, whole_fold, run_written}
+use Rattle.std.proofs.lemmas.Result.{err_from_is_err_and}
+use Rattle.unroller.proofs.Answers.{fold_refused, too_short, whole_fold, run_written}
 use Rattle.unroller.proofs.unroll.Goals as goal
+
+pub returns-in_err-read : goal.returns-in_err-read
+returns-in_err-read g c =
+    let p = err_from_is_err_and c.from_residual.result c.from_residual.ensures.1 in
+    let said = fold_refused g.K.Kind.bounds c.args.fold.now c.args.limit _ c.in_err-read.ensures c.args.out.now in
+    record { answered = rw (p.1, p.2) said.0; written = said.1; meant = rw p.1 tt }
 
 pub returns-then-out-read : goal.returns-then-out-read
 returns-then-out-read g c =
