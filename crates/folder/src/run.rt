@@ -5,6 +5,7 @@ ghost use Rattle.format.specs.Limits.{Prices, Allowed, allowed, priced, cells};
 ghost use Rattle.format.specs.Tree.{tree_of};
 ghost use Rattle.table.specs.Table.{Kept, cell};
 ghost use Rattle.table.specs.Nodes.{NodesListed};
+ghost use Rattle.writer.specs.Writing.{WriteReady, FoldWritten};
 ghost use Rattle.folder.specs.Folding.{short_work};
 ghost use Rattle.folder.specs.inner.Run.{RunReady, RunFilled, RunWritten, RunFolded};
 
@@ -93,6 +94,15 @@ fn whole_cost(costs: &[u32], n: usize) -> u64
     u64::from(costs[entry(0, n)])
 }
 
+// Writes the cheapest fold of the n nodes at the front of the output, and answers its length.
+// Stays: a function of its own, so that an edit can leave it before a byte of the fold is written.
+fn write_run(source: &Source, n: usize, out: &mut [u8]) -> usize
+    requires { WriteReady source.now n 0 }
+    ensures { FoldWritten source.now n 0 out.old out.new result }
+{
+    source.put_fold(n, 0, out)
+}
+
 // The fold of a run whose n nodes are listed and entered, written where it fits: its length is known before a byte is written.
 fn put_run(source: &Source, n: usize, costs: &[u32], out: &mut [u8]) -> Result<PricedFold, Refusal>
     requires run_listed { NodesListed source.now.nodes.now.places source.now.nodes.now.nexts 0 0 (tree_of source.now.run.now) }
@@ -103,7 +113,7 @@ fn put_run(source: &Source, n: usize, costs: &[u32], out: &mut [u8]) -> Result<P
     if out.len() < length {
         return Err(Reason::ShortOutput.at(0));
     }
-    source.put_fold(n, 0, out);
+    write_run(source, n, out);
     Ok(PricedFold {
         length,
         cost: whole_cost(costs, n),

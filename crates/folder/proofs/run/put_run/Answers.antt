@@ -13,12 +13,12 @@ returns-then-out-length c =
     rw c.at.ensures
     (written_short c.args.source.now c.requires.run_listed L.result L.ensures c.args.out.now (omega (arith, c.if-out-length.true)) _ refl)
 
-pub put_fold-requires : goal.put_fold-requires
-put_fold-requires c = write_ready c.args.source.now c.requires.run_filled.1.1 c.requires.run_listed
+pub write_run-requires : goal.write_run-requires
+write_run-requires c = write_ready c.args.source.now c.requires.run_filled.1.1 c.requires.run_listed
 
 pub returns : goal.returns
 returns c =
     let L = c.fold_length-length in
     let x = c.whole_cost.ensures in
     written_whole c.args.source.now c.requires.run_listed L.result L.ensures _ (omega (arith, c.if-out-length.false)) c.whole_cost.result x.0 x.1
-    _ c.put_fold.result c.put_fold.ensures
+    _ c.write_run.result c.write_run.ensures
