@@ -31,15 +31,18 @@ pub whole_free : (c : Costs) → tariff_of c ≡ no_costs → (L : Limits) (fold
 whole_free c e L folds short k s w h =
     subst (λ (T : Tariff). Whole (record { limits = L; folds = folds; short = short; allowed = allowed k T.marks; prices = priced T }) s w) e h
 
--- The run reader's answer, by what the walk came to.
-module _ (L : Limits) (s : List ℕ) where
-  pub run_refused : (e : Refusal) → Whole (run_rules_in L) s (ended (Err e)) → run_numbers (number e.reason) e.place none ≡ run_reading_in L s
-  unfolding run_reading_in
-  run_refused e walked = rw (walked.refuses (numbered e.reason))
+-- The run reader's answer, by what the walk came to. A refusal of a walk by these limits and without costs is the reading.
+pub run_refused : (L M : Limits) (s : List ℕ) (c : Costs) (e : Refusal)
+    → Whole (rules_of (record { limits = M; folds = false; short = false; widest = 0; costs = c })) s (ended (Err e))
+    → tariff_of c ≡ no_costs → M ≡ L → run_numbers (number e.reason) e.place none ≡ run_reading_in L s
+unfolding run_reading_in
+run_refused L M s c e walked unpriced same =
+    let w = whole_free c unpriced L false false 0 s (ended (Err e)) (rw same at walked) in
+    rw (w.refuses (numbered e.reason))
 
-  pub run_read : (t : Tally) → Whole (run_rules_in L) s (ended (Ok t)) → run_numbers 0 0 t ≡ run_reading_in L s
-  unfolding run_reading_in
-  run_read t walked = rw (walked.reads refl).1
+pub run_read : (L : Limits) (s : List ℕ) (t : Tally) → Whole (run_rules_in L) s (ended (Ok t)) → run_numbers 0 0 t ≡ run_reading_in L s
+unfolding run_reading_in
+run_read L s t walked = rw (walked.reads refl).1
 
 -- What a walk says of a fold is what the reading says.
 module _ (R : Rules) (s : List ℕ) where
@@ -82,12 +85,15 @@ module _ (L : Limits) (h : Head) (n : ℕ) (checked : n ≡ first_of (head_check
     entry_read none = rw (headed_passed L h (read R s) (sym none ∙ checked))
 
 module _ (s : List ℕ) (k : ℕ) (T : Tariff) (small : Bytes s) where
-  -- The fold reader's answer, of any kind of runs, is the reading, and on success means what the report says.
-  pub with_meaning : (L : Limits) (r : Result FoldCounts Refusal) → fold_said r ≡ as_fold_reading (outcome_by L false (full_head T k) T s)
-      → (fold_said r ≡ reading_by L false s k T) × IfOk r (λ f. MeansAtCostIn L k T s f.length f.cost)
+  -- The fold reader's answer, of any kind of runs, is the reading, and on success means what the report says: where the head and
+  -- the prices that it was read by are those lent.
+  pub with_meaning : (L : Limits) (r : Result FoldCounts Refusal) (h : Head) (U : Tariff) → fold_said r ≡ as_fold_reading (outcome_by L false h U s)
+      → h ≡ full_head T k → U ≡ T → (fold_said r ≡ reading_by L false s k T) × IfOk r (λ f. MeansAtCostIn L k T s f.length f.cost)
   unfolding reading_by
-  with_meaning L (Ok f) e = (e, reading_means L s k T small (fold_said (Ok f)) e refl)
-  with_meaning L (Err x) e = (e, tt)
+  with_meaning L (Ok f) h U e headed priced =
+      let said = rw (headed, priced) at e in
+      (said, reading_means L s k T small (fold_said (Ok f)) said refl)
+  with_meaning L (Err x) h U e headed priced = (rw (headed, priced) at e, tt)
 
   -- And the short reader's: its long form means that.
   long_meaning : (r : FoldReading) → r ≡ as_fold_reading (outcome_in true (full_head T k) T s) → r.refusal ≡ 0 → MeansAtCost k T (long_form s) r.length r.cost

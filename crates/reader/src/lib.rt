@@ -17,6 +17,7 @@ use node::{node_end, starts_at};
 use walk::{Terms, whole};
 
 // The run reader: refusals 1 to 5, 21, 8 and 10, or the nodes, the steps and the depth.
+#[tactic(auto, using(crate::proofs::Answers::run_refused))]
 pub fn read_run<K: Kind>(run: &[u8]) -> Result<RunCounts, Refusal>
     ensures { run_said result ≡ run_reading_in K.bounds run.now }
 {

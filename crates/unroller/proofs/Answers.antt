@@ -51,6 +51,10 @@ module _ (L : Limits) (s : List ℕ) (k : ℕ) where
   Promised before after r =
       (r ≡ written_answer (measured_by L s k) (length before)) × (after ≡ written_output (measured_by L s k) before)
 
+  -- What a fold reads at the limit n it reads at the limit k, where the two are equal.
+  pub read_at : (r : FoldReading) (n : ℕ) → r ≡ as_fold_reading (measured_by L s n) → n ≡ k → r ≡ as_fold_reading (measured_by L s k)
+  read_at r n reads e = rw e at reads
+
   pub fold_refused : (e : Refusal) → fold_said (Err e) ≡ as_fold_reading (measured_by L s k) → (out : List ℕ)
       → Promised out out (written_said (Err e))
   fold_refused e reads out =
