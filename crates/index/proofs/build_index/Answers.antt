@@ -14,12 +14,12 @@ returns-in_err-read_alone c =
 pub returns-then-offsets-entries : goal.returns-then-offsets-entries
 returns-then-offsets-entries c =
     let a = c.args in
-    let said = too_short_either a.fold.now a.offsets.now a.before.now _ c.in_ok-read_alone.ensures (rw c.count_entries-entries.ensures at c.then-offsets-entries.either) in
+    let said = too_short_either a.fold.now a.offsets.now a.before.now _ c.in_ok-read_alone.ensures (grind (arith, c.count_entries-entries.ensures, c.then-offsets-entries.either)) in
     record { answered = rw c.at.ensures said.0; offsets_written = said.1.0; before_written = said.1.1 }
 
 pub returns : goal.returns
 returns c =
     let a = c.args in
     let e = c.count_entries-entries.ensures in
-    let said = index_written a.fold.now a.offsets.now a.before.now _ c.in_ok-read_alone.ensures (omega (arith, c.if-offsets-entries.false, e)) (omega (arith, c.if-before-entries.false, e)) c.write_entries.ensures.offsets_after c.write_entries.ensures.before_after in
+    let said = index_written a.fold.now a.offsets.now a.before.now _ c.in_ok-read_alone.ensures (omega (arith, e)) (omega (arith, e)) c.write_entries.ensures.offsets_after c.write_entries.ensures.before_after in
     record { answered = rw e said.0; offsets_written = said.1.0; before_written = said.1.1 }

@@ -16,27 +16,27 @@ returns-then-not-is_index-clause-answered c =
 
 pub returns-then-read-position-clause-answered : goal.returns-then-read-position-clause-answered
 returns-then-read-position-clause-answered c =
-    rw c.at-then-read-position.ensures (past_the_total c.args.fold.now (λ i. (c.type_inv.fold i).fits) c.args.offsets.now c.args.before.now c.args.position _ c.in_ok-read_alone.ensures (sym c.is_index.ensures ∙ c.if-not-is_index.false) c.if-read-position.true)
+    rw c.at-then-read-position.ensures (past_the_total c.args.fold.now (λ i. (c.type_inv.fold i).fits) c.args.offsets.now c.args.before.now c.args.position _ c.in_ok-read_alone.ensures (sym c.is_index.ensures ∙ c.if-not-is_index.false) (omega arith))
 
 pub last_up_to-i-requires : goal.last_up_to-i-requires
-last_up_to-i-requires c = some_entry c.args.fold.now (λ i. (c.type_inv.fold i).fits) c.args.offsets.now c.args.before.now c.args.position _ c.in_ok-read_alone.ensures (sym c.is_index.ensures ∙ c.if-not-is_index.false) c.if-read-position.false
+last_up_to-i-requires c = some_entry c.args.fold.now (λ i. (c.type_inv.fold i).fits) c.args.offsets.now c.args.before.now c.args.position _ c.in_ok-read_alone.ensures (sym c.is_index.ensures ∙ c.if-not-is_index.false) (omega arith)
 
 pub bounds-offsets-i : goal.bounds-offsets-i
-bounds-offsets-i c = entry_offset c.args.fold.now (λ i. (c.type_inv.fold i).fits) c.args.offsets.now c.args.before.now c.args.position _ c.in_ok-read_alone.ensures (sym c.is_index.ensures ∙ c.if-not-is_index.false) c.if-read-position.false c.last_up_to-i.ensures
+bounds-offsets-i c = entry_offset c.args.fold.now (λ i. (c.type_inv.fold i).fits) c.args.offsets.now c.args.before.now c.args.position _ c.in_ok-read_alone.ensures (sym c.is_index.ensures ∙ c.if-not-is_index.false) (omega arith) c.last_up_to-i.ensures
 
 pub descend-offset-requires : goal.descend-offset-requires
-descend-offset-requires c = (_, node_in c.args.fold.now (λ i. (c.type_inv.fold i).fits) c.args.offsets.now c.args.before.now c.args.position _ c.in_ok-read_alone.ensures (sym c.is_index.ensures ∙ c.if-not-is_index.false) c.if-read-position.false c.last_up_to-i.ensures)
+descend-offset-requires c = (_, node_in c.args.fold.now (λ i. (c.type_inv.fold i).fits) c.args.offsets.now c.args.before.now c.args.position _ c.in_ok-read_alone.ensures (sym c.is_index.ensures ∙ c.if-not-is_index.false) (omega arith) c.last_up_to-i.ensures)
 
 pub overflow_add-result : goal.overflow_add-result
-overflow_add-result c = omega (arith, label_within c.args.fold.now (λ i. (c.type_inv.fold i).fits) c.args.offsets.now c.args.before.now c.args.position _ c.in_ok-read_alone.ensures (sym c.is_index.ensures ∙ c.if-not-is_index.false) c.if-read-position.false c.last_up_to-i.ensures c.descend-offset.ensures)
+overflow_add-result c = omega (arith, label_within c.args.fold.now (λ i. (c.type_inv.fold i).fits) c.args.offsets.now c.args.before.now c.args.position _ c.in_ok-read_alone.ensures (sym c.is_index.ensures ∙ c.if-not-is_index.false) (omega arith) c.last_up_to-i.ensures c.descend-offset.ensures)
 
 pub bounds-fold-offset : goal.bounds-fold-offset
-bounds-fold-offset c = omega (arith, label_within c.args.fold.now (λ i. (c.type_inv.fold i).fits) c.args.offsets.now c.args.before.now c.args.position _ c.in_ok-read_alone.ensures (sym c.is_index.ensures ∙ c.if-not-is_index.false) c.if-read-position.false c.last_up_to-i.ensures c.descend-offset.ensures)
+bounds-fold-offset c = omega (arith, label_within c.args.fold.now (λ i. (c.type_inv.fold i).fits) c.args.offsets.now c.args.before.now c.args.position _ c.in_ok-read_alone.ensures (sym c.is_index.ensures ∙ c.if-not-is_index.false) (omega arith) c.last_up_to-i.ensures c.descend-offset.ensures)
 
 pub bounds-fold-offset-2 : goal.bounds-fold-offset-2
-bounds-fold-offset-2 c = omega (arith, label_within c.args.fold.now (λ i. (c.type_inv.fold i).fits) c.args.offsets.now c.args.before.now c.args.position _ c.in_ok-read_alone.ensures (sym c.is_index.ensures ∙ c.if-not-is_index.false) c.if-read-position.false c.last_up_to-i.ensures c.descend-offset.ensures)
+bounds-fold-offset-2 c = omega (arith, label_within c.args.fold.now (λ i. (c.type_inv.fold i).fits) c.args.offsets.now c.args.before.now c.args.position _ c.in_ok-read_alone.ensures (sym c.is_index.ensures ∙ c.if-not-is_index.false) (omega arith) c.last_up_to-i.ensures c.descend-offset.ensures)
 
 pub returns : goal.returns
 returns c =
-    let said = node_found c.args.fold.now (λ i. (c.type_inv.fold i).fits) c.args.offsets.now c.args.before.now c.args.position _ c.in_ok-read_alone.ensures (sym c.is_index.ensures ∙ c.if-not-is_index.false) c.if-read-position.false c.last_up_to-i.ensures c.descend-offset.ensures in
+    let said = node_found c.args.fold.now (λ i. (c.type_inv.fold i).fits) c.args.offsets.now c.args.before.now c.args.position _ c.in_ok-read_alone.ensures (sym c.is_index.ensures ∙ c.if-not-is_index.false) (omega arith) c.last_up_to-i.ensures c.descend-offset.ensures in
     record { answered = said; right = answer_right c.args.fold.now (λ i. (c.type_inv.fold i).fits) c.args.offsets.now c.args.before.now c.args.position _ said refl }
