@@ -1,5 +1,5 @@
 -- `marks_in_order` meets its contract: both tests of the definition, in their order. What the second goes over are all the marks,
--- whether the code names the slice or a range of it.
+-- where the code names the slice or a range of it up to its length.
 use Rattle.std.proofs.Common.{rules, ◌≡◌, ◌<◌, ◌≤◌, length}
 use borrow.Author.Tests.{tests, eq-eqb, ne_eqb}
 use Rattle.std.proofs.lemmas.List.{take_all}
